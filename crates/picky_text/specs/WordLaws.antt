@@ -1,0 +1,280 @@
+-- The laws of a key line's words.
+use Rattle.std.proofs.Common.{◌≡◌, ◌≢◌, ℕ, ◌<◌, ◌+◌, ◌==◌, ◌&&◌, Bool, true, false, not, List, []}
+use Rattle.std.proofs.Common.{◌∷◌, ◌++◌, length, slice_index, refl, sym, ◌∙◌, ap, arith, inl, inr}
+use Rattle.std.proofs.Common.{subst}
+use Rattle.std.proofs.lemmas.Bool.{cases_Bool, cases_lt, and_parts, and_from, eqb-true, eq-eqb}
+use Rattle.std.proofs.lemmas.Bool.Decides.{nat_tests}
+use Rattle.std.proofs.lemmas.List.{append_assoc, get_or_past}
+use Rattle.std.proofs.lemmas.List.Sums.{prefix_len-le-length, passes_at_first}
+use Rattle.std.proofs.lemmas.Str.{encodes-append, encodes-chars, scalars-chars, chars-encodes}
+use Rattle.std.proofs.lemmas.Str.{IsUtf8-nil, IsUtf8-take, IsUtf8-drop, IsCharBoundary-before_ascii}
+use Rattle.std.proofs.lemmas.Str.{IsCharBoundary-after_ascii, IsCharBoundary-end}
+use Rattle.std.specs.Char.{is_whitespace}
+use Rattle.std.specs.List.{AllByRecursion, before_first, position_or_len}
+use Rattle.std.specs.Str.{IsUtf8, IsCharBoundary, chars, trim_end, drop_trailing_whitespace}
+use Rattle.std.specs.Str.{encode_utf8_all, all_scalars}
+use Rattle.picky_text.specs.Words.{ends_word, ends_line, first_word, after_word, body_word}
+use Rattle.picky_text.specs.Words.{rest_of_line, comment_of}
+use Rattle.base64.specs.GeneralPurpose.{IsBytes}
+use Rattle.picky_text.specs.Base64.{base64_of}
+use Rattle.picky_text.specs.Base64Laws.{base64_has_no}
+use Rattle.picky_text.specs.ListLaws.{all_front, all_weaker, none_before_first, cut_at_first}
+use Rattle.picky_text.specs.Lines.{HasNo, end_of}
+use Rattle.picky_text.specs.declared.lines.LineEnd.{LineEnd}
+use Rattle.picky_text.specs.declared.lines.LineEnd.TheVariants.{Lf, CrLf}
+
+-- the bytes may stand as a word: no space, CR and LF among them
+abbrev pub IsWord : List ℕ → Type 0
+IsWord bytes = (HasNo 32 bytes) × (HasNo 13 bytes) × (HasNo 10 bytes)
+
+-- ---- white space at the end
+
+-- the characters less the white space at their end are a front of them
+trimmed_front : (cs : List ℕ) → (white : List ℕ) × (drop_trailing_whitespace cs ++ white ≡ cs)
+trimmed_front [] = ([], refl)
+trimmed_front (c ∷ cs) =
+    let rest : List ℕ = drop_trailing_whitespace cs in
+    let front = trimmed_front cs in
+    elim (cases_Bool (is_whitespace c && length rest == 0)) [
+      | inl white ↦ (c ∷ cs, rw white refl)
+      | inr kept ↦ (front.0, rw kept (ap (λ l. c ∷ l) front.1))
+    ]
+
+-- nothing is left to trim
+trimmed_again : (cs : List ℕ)
+    → drop_trailing_whitespace (drop_trailing_whitespace cs) ≡ drop_trailing_whitespace cs
+trimmed_again [] = refl
+trimmed_again (c ∷ cs) =
+    let rest : List ℕ = drop_trailing_whitespace cs in
+    elim (cases_Bool (is_whitespace c && length rest == 0)) [
+      | inl white ↦ rw white refl
+      | inr kept ↦ rw (kept, trimmed_again cs, kept) refl
+    ]
+
+-- and they are characters
+trimmed_scalars : (cs : List ℕ) → all_scalars cs ≡ true
+    → all_scalars (drop_trailing_whitespace cs) ≡ true
+trimmed_scalars [] scalars = refl
+trimmed_scalars (c ∷ cs) scalars =
+    let parts = and_parts _ _ scalars in
+    elim (cases_Bool (is_whitespace c && length (drop_trailing_whitespace cs) == 0)) [
+      | inl white ↦ rw white refl
+      | inr kept ↦ rw kept (and_from _ _ parts.0 (trimmed_scalars cs parts.1))
+    ]
+
+-- a text less the white space at its end is a front of it
+pub trim_end_front : (text : List ℕ) → IsUtf8 text
+    → (white : List ℕ) × (trim_end text ++ white ≡ text)
+unfolding trim_end
+trim_end_front text utf8 =
+    let front = trimmed_front (chars text) in (
+      encode_utf8_all front.0,
+      sym (encodes-append (drop_trailing_whitespace (chars text)) front.0)
+          ∙ ap encode_utf8_all front.1 ∙ encodes-chars text utf8,
+    )
+
+-- and ends in no white space
+pub trim_end-trim_end : (text : List ℕ) → IsUtf8 text → trim_end (trim_end text) ≡ trim_end text
+unfolding trim_end
+trim_end-trim_end text utf8 =
+    let cs : List ℕ = drop_trailing_whitespace (chars text) in
+    let same : chars (encode_utf8_all cs) ≡ cs = chars-encodes cs
+    (trimmed_scalars (chars text) (scalars-chars text utf8)) in
+    ap (λ l. encode_utf8_all (drop_trailing_whitespace l)) same
+    ∙ ap encode_utf8_all (trimmed_again (chars text))
+
+-- and is a text
+pub IsUtf8-trim_end : (text : List ℕ) → IsUtf8 text → IsUtf8 (trim_end text)
+unfolding trim_end
+IsUtf8-trim_end text utf8 = (
+  drop_trailing_whitespace (chars text),
+  (trimmed_scalars (chars text) (scalars-chars text utf8), refl),
+)
+
+-- ---- words
+
+-- a byte that ends a word is ASCII
+pub ends_word_ascii : (b : ℕ) → ends_word b ≡ true → b < 128
+ends_word_ascii b ends = grind (arith, nat_tests)
+
+-- and so is one that ends a line
+pub ends_line_ascii : (b : ℕ) → ends_line b ≡ true → b < 128
+ends_line_ascii b ends = grind (arith, nat_tests)
+
+-- no other byte ends a word
+goes_on : (b : ℕ) → b ≢ 32 → b ≢ 13 → b ≢ 10 → ends_word b ≡ false
+goes_on b space cr lf = grind (arith, nat_tests)
+
+-- the same of a line
+line_goes_on : (b : ℕ) → b ≢ 13 → b ≢ 10 → ends_line b ≡ false
+line_goes_on b cr lf = grind (arith, nat_tests)
+
+-- so none of a word does
+stays_word : (bytes : List ℕ) → IsWord bytes → AllByRecursion (λ b. ends_word b ≡ false) bytes
+stays_word [] word = tt
+stays_word (b ∷ bytes) word =
+    (goes_on b word.0.0 word.1.0 word.2.0, stays_word bytes (word.0.1, word.1.1, word.2.1))
+
+stays_line : (bytes : List ℕ) → HasNo 13 bytes → HasNo 10 bytes
+    → AllByRecursion (λ b. ends_line b ≡ false) bytes
+stays_line [] cr lf = tt
+stays_line (b ∷ bytes) cr lf = (line_goes_on b cr.0 lf.0, stays_line bytes cr.1 lf.1)
+
+-- a byte that ends no line is neither CR nor LF
+no_cr : (b : ℕ) → ends_line b ≡ false → b ≢ 13
+no_cr b stays = grind (arith, nat_tests)
+
+no_lf : (b : ℕ) → ends_line b ≡ false → b ≢ 10
+no_lf b stays = grind (arith, nat_tests)
+
+-- a text may be cut before its first byte that passes, where that is ASCII
+pub boundary_of_first : (ends : ℕ → Bool) (text : List ℕ) → ((b : ℕ) → ends b ≡ true → b < 128)
+    → IsCharBoundary text (position_or_len ends text)
+boundary_of_first ends text ascii =
+    let n : ℕ = position_or_len ends text in
+    elim (cases_lt n (length text)) [
+      | inl lt ↦ IsCharBoundary-before_ascii text n lt (ascii _ (passes_at_first ends text 0 lt))
+      | inr past ↦
+          let end : length text ≡ n = omega (arith, prefix_len-le-length (λ b. not (ends b)) text)
+          in
+          rw (← end) (IsCharBoundary-end text)
+    ]
+
+-- the first word of a text is a text
+pub first_word_is_text : (text : List ℕ) → IsUtf8 text → IsUtf8 (first_word text)
+unfolding first_word
+first_word_is_text text utf8 = IsUtf8-take text _ utf8
+    (boundary_of_first ends_word text ends_word_ascii)
+
+-- so is what follows it
+pub after_word_is_text : (text : List ℕ) → IsUtf8 text → IsUtf8 (after_word text)
+unfolding after_word
+after_word_is_text text utf8 =
+    let n : ℕ = position_or_len ends_word text in
+    elim (cases_Bool (slice_index text n == 32)) [
+      | inl space ↦
+          let is : slice_index text n ≡ 32 = eqb-true _ _ space in
+          let within : n < length text = elim (cases_lt n (length text)) [
+            | inl lt ↦ lt
+            | inr past ↦
+                let zero : slice_index text n ≡ 0 = get_or_past text n 0 past in
+                absurd (omega arith)
+          ] in
+          rw space (IsUtf8-drop text (n + 1) utf8 (IsCharBoundary-after_ascii text n utf8 within
+          (omega arith)))
+      | inr other ↦ rw other IsUtf8-nil
+    ]
+
+IsUtf8-first_line : (text : List ℕ) → IsUtf8 text → IsUtf8 (before_first ends_line text)
+IsUtf8-first_line text utf8 = IsUtf8-take text _ utf8
+    (boundary_of_first ends_line text ends_line_ascii)
+
+-- and the rest of its line
+pub rest_of_line_is_text : (text : List ℕ) → IsUtf8 text → IsUtf8 (rest_of_line text)
+unfolding rest_of_line
+rest_of_line_is_text text utf8 = IsUtf8-trim_end _ (IsUtf8-first_line text utf8)
+
+-- ---- the rest of a line
+
+-- no byte of the rest of a line ends a line
+rest_stays : (text : List ℕ) → IsUtf8 text
+    → AllByRecursion (λ b. ends_line b ≡ false) (rest_of_line text)
+unfolding rest_of_line
+rest_stays text utf8 =
+    let front = trim_end_front (before_first ends_line text) (IsUtf8-first_line text utf8) in
+    let P : ℕ → Type 0 = λ b. ends_line b ≡ false in
+    let Q : List ℕ → Type 0 = AllByRecursion P in
+    all_front P _ front.0 (subst Q (sym front.1) (none_before_first ends_line text))
+
+-- the rest of a line has no LF
+pub rest_has_no_lf : (text : List ℕ) → IsUtf8 text → HasNo 10 (rest_of_line text)
+rest_has_no_lf text utf8 = all_weaker _ (λ b. b ≢ 10) no_lf _ (rest_stays text utf8)
+
+-- the rest of a line has no CR
+pub rest_has_no_cr : (text : List ℕ) → IsUtf8 text → HasNo 13 (rest_of_line text)
+rest_has_no_cr text utf8 = all_weaker _ (λ b. b ≢ 13) no_cr _ (rest_stays text utf8)
+
+-- the rest of a line ends in no white space
+pub rest_is_trimmed : (text : List ℕ) → IsUtf8 text
+    → trim_end (rest_of_line text) ≡ rest_of_line text
+unfolding rest_of_line
+rest_is_trimmed text utf8 = trim_end-trim_end _ (IsUtf8-first_line text utf8)
+
+-- ---- a line of three parts
+
+-- a word, and what follows the space that ends it
+pub words_at_space : (word rest : List ℕ) → IsWord word
+    → (first_word (word ++ 32 ∷ rest) ≡ word) × (after_word (word ++ 32 ∷ rest) ≡ rest)
+unfolding first_word after_word
+words_at_space word rest is =
+    let parts = cut_at_first ends_word word 32 rest (stays_word word is) refl in
+    (parts.before, rw (eq-eqb _ _ parts.at) parts.after)
+
+-- the rest of a line that ends in LF or CRLF
+pub rest_at_end : (comment more : List ℕ) (end : LineEnd) → HasNo 13 comment → HasNo 10 comment
+    → trim_end comment ≡ comment
+    → rest_of_line (comment ++ (end_of end ++ more)) ≡ comment
+unfolding rest_of_line
+rest_at_end comment more Lf cr lf trimmed =
+    ap trim_end (cut_at_first ends_line comment 10 more (stays_line comment cr lf) refl).before
+    ∙ trimmed
+rest_at_end comment more CrLf cr lf trimmed =
+    ap trim_end (cut_at_first ends_line comment 13 (10 ∷ more) (stays_line comment cr lf)
+    refl).before ∙ trimmed
+
+-- what a key line is made of: two words, and a comment with no CR, LF and white space at its end
+pub record AreParts (name body comment : List ℕ) : Type 0 where
+  pub name_word : IsWord name
+  pub body_word : IsWord body
+  pub no_cr : HasNo 13 comment
+  pub no_lf : HasNo 10 comment
+  pub trimmed : trim_end comment ≡ comment
+
+-- what a line is read as
+pub record HasParts (line name body comment : List ℕ) : Type 0 where
+  pub name_is : first_word line ≡ name
+  pub body_is : body_word line ≡ body
+  pub comment_is : comment_of line ≡ comment
+
+-- the line of these parts, a space between them, is read as them, whatever ends and follows it
+abbrev pub IsRead : List ℕ → List ℕ → List ℕ → Type 0
+IsRead name body comment =
+    (end : LineEnd) (more : List ℕ)
+    → HasParts (name ++ 32 ∷ body ++ 32 ∷ comment ++ (end_of end ++ more)) name body comment
+
+-- each line of such parts is read back
+pub key_line_is_read_back : (name body comment : List ℕ) → AreParts name body comment
+    → IsRead name body comment
+key_line_is_read_back name body comment parts end more =
+    let rest : List ℕ = comment ++ (end_of end ++ more) in
+    let first = words_at_space name (body ++ 32 ∷ rest) parts.name_word in
+    let second = words_at_space body rest parts.body_word in
+    let last = rest_at_end comment more end parts.no_cr parts.no_lf parts.trimmed in
+    let line :
+    name ++ 32 ∷ body ++ 32 ∷ comment ++ (end_of end ++ more) ≡ name ++ 32 ∷ (body ++ 32 ∷ rest) =
+    simp append_assoc in
+    rw line (record {
+      name_is = first.0;
+      body_is = ap first_word first.1 ∙ second.0;
+      comment_is = ap rest_of_line (ap after_word first.1 ∙ second.1) ∙ last;
+    })
+
+-- a base64 text may stand as a word
+pub base64_is_word : (bytes : List ℕ) → IsBytes bytes → IsWord (base64_of bytes)
+base64_is_word bytes small = (
+  base64_has_no 32 bytes small refl,
+  base64_has_no 13 bytes small refl,
+  base64_has_no 10 bytes
+      small refl,
+)
+
+-- what `laws` states of words
+pub ruleset word_laws = (
+  base64_is_word,
+  rest_has_no_lf,
+  rest_has_no_cr,
+  rest_is_trimmed,
+  first_word_is_text,
+  after_word_is_text,
+  rest_of_line_is_text,
+)

@@ -1,0 +1,17 @@
+//! The rules of text that SSH and PuTTY files share: base64, rows, lines, words, quoting.
+#![tactic(auto)]
+
+mod base64_text;
+pub mod laws;
+mod lines;
+mod quote;
+mod rows;
+#[cfg(test)]
+mod tests;
+mod words;
+
+pub use base64_text::{Base64Error, decode, encode};
+pub use lines::{LineEnd, LineReader};
+pub use quote::{push_quoted, unquoted};
+pub use rows::push_rows;
+pub use words::{after_word, first_word, rest_of_line};
