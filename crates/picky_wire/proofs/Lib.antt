@@ -1,0 +1,6 @@
+pub mod MemoryLemmas
+pub mod FieldLemmas
+pub mod ReadLemmas
+mod MpintLemmas
+pub mod WriteLemmas
+pub mod ListLemmas

@@ -1,0 +1,15 @@
+use Rattle.picky_layout.specs.Wire.{uint32, string, text}
+use Rattle.picky_layout.specs.Numbers.{byte, uint64}
+use Rattle.picky_layout.specs.Mpint.{mpint}
+use Rattle.picky_wire.specs.Laws.{layout_is_read}
+use Rattle.picky_wire.proofs.laws.fields_are_read_one_way.Goals as goal
+
+pub returns : goal.returns
+returns c = record {
+  byte = layout_is_read byte;
+  uint32 = layout_is_read uint32;
+  uint64 = layout_is_read uint64;
+  string = layout_is_read string;
+  text = layout_is_read text;
+  mpint = layout_is_read mpint;
+}

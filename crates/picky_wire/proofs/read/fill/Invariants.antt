@@ -1,0 +1,15 @@
+-- The buffer's front holds what was taken so far.
+use Rattle.std.proofs.Common.{◌≡◌, ◌≤◌, ◌-◌, ◌++◌, length, take}
+use Rattle.picky_wire.proofs.read.fill.Given as goal
+
+abbrev pub invariant-bytes : goal.invariant-bytes
+invariant-bytes g l = record {
+  within : l.at ≤ length l.buffer;
+  taken : g.S.Source.tells l.initial.source
+      → g.S.Source.left l.initial.source ≡ take l.at l.buffer ++ g.S.Source.left l.source;
+  told : g.S.Source.tells l.initial.source → g.S.Source.tells l.source;
+  never_falls : g.S.Source.faults l.initial.source ≤ g.S.Source.faults l.source;
+}
+
+abbrev pub decreases-bytes : goal.decreases-bytes
+decreases-bytes g l = length l.initial.buffer - l.at

@@ -1,0 +1,21 @@
+-- A number is four bytes, read as one.
+use Rattle.std.proofs.Common.{◌∙◌, sym, ap, Ok}
+use Rattle.std.specs.Int.{w8, from_be_bytes}
+use Rattle.picky_layout.specs.Wire.{cells}
+use Rattle.picky_layout.specs.Numbers.{byte}
+use Rattle.picky_wire.proofs.FieldLemmas.{each_read, each_refused, each_stopped, same_cause}
+use Rattle.picky_wire.proofs.read.read_byte.Goals as goal
+
+pub returns-in-Ok-clause-field : goal.returns-in-Ok-clause-field
+unfolding byte
+returns-in-Ok-clause-field g c = λ told.
+    each_read (cells 1) (from_be_bytes w8) _ _ _ (c.in-Ok.ensures.field told)
+    ∙ ap (λ n. Ok (n, g.S.Source.left c.fill.new.source)) (sym c.from_be_bytes.ensures)
+
+pub returns-in-Err-clause-field : goal.returns-in-Err-clause-field
+unfolding byte
+returns-in-Err-clause-field g c = λ told.
+    let field = c.in-Err.ensures.field told in (
+      same_cause c.in-Err.e _ _ _ _ (λ f refused. each_refused (cells 1) (from_be_bytes w8) _ f refused) (λ rose. rose) field.0,
+      each_stopped (cells 1) (from_be_bytes w8) _ _ field.1,
+    )

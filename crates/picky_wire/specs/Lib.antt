@@ -1,0 +1,11 @@
+pub mod Count
+pub mod Known
+pub mod Memory
+pub mod Gives
+pub mod Field
+pub mod Written
+pub mod Element
+pub mod Moment
+pub mod ListOf
+pub mod Principals
+pub mod Laws

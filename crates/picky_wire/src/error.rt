@@ -1,0 +1,61 @@
+//! What the calls of this crate can refuse.
+
+use thiserror::Error;
+
+/// Memory ran out.
+#[derive(Debug, Drop, PartialEq, Eq, Error)]
+#[error("NoMemory")]
+pub struct NoMemory;
+
+/// A source or a sink failed, and counted it.
+#[derive(Debug, Drop, PartialEq, Eq, Error)]
+#[error("Failed")]
+pub struct Failed;
+
+/// Why a value of the wire can't be made.
+#[derive(Debug, Drop, PartialEq, Eq, Error)]
+pub enum SizeError {
+    /// There are more bytes than a length of the wire can say.
+    #[error("TooLong")]
+    TooLong,
+    /// Memory ran out.
+    #[error("NoMemory")]
+    NoMemory,
+}
+
+/// What went wrong with the bytes of a stream.
+#[derive(Clone, Copy, Debug, PartialEq, Eq, Error)]
+pub enum IoKind {
+    /// The bytes end inside a field.
+    #[error("UnexpectedEnd")]
+    UnexpectedEnd,
+    /// The source failed.
+    #[error("ReadFault")]
+    ReadFault,
+    /// The sink failed.
+    #[error("WriteFault")]
+    WriteFault,
+}
+
+/// Why a field is not read or written.
+#[derive(Debug, Drop, PartialEq, Eq, Error)]
+pub enum WireError {
+    /// The bytes end inside the field.
+    #[error("UnexpectedEnd")]
+    UnexpectedEnd = 1,
+    /// The source failed.
+    #[error("ReadFault")]
+    ReadFault = 2,
+    /// The sink failed.
+    #[error("WriteFault")]
+    WriteFault = 3,
+    /// A string that must be UTF-8 isn't.
+    #[error("InvalidUtf8")]
+    InvalidUtf8 = 4,
+    /// There are more bytes than a length of the wire can say.
+    #[error("TooLong")]
+    TooLong = 5,
+    /// Memory ran out.
+    #[error("NoMemory")]
+    NoMemory = 6,
+}
