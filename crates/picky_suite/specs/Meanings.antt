@@ -1,0 +1,14 @@
+-- What the calls of a suite mean, as functions of their arguments; the MACs are RFC 2104's.
+use Rattle.std.specs.Prelude.{ℕ, List}
+use Rattle.sha1.specs.Sha1.{sha1}
+use Rattle.sha2.specs.Sha256.{sha256}
+use Rattle.picky_suite.specs.Hmac.{hmac}
+
+-- one function for each call, of the key and then the message
+pub record Meanings : Type 0 where
+  pub hmac_sha1 : List ℕ → List ℕ → List ℕ
+  pub hmac_sha256 : List ℕ → List ℕ → List ℕ
+
+-- the meanings of `PlainSuite`: HMAC over SHA-1 and over SHA-256
+abbrev pub plain : Meanings
+plain = record { hmac_sha1 = hmac sha1; hmac_sha256 = hmac sha256 }
