@@ -1,0 +1,4 @@
+pub mod CutLemmas
+pub mod BlockLemmas
+pub mod WriteLemmas
+pub mod ReadBackLemmas

@@ -1,0 +1,15 @@
+-- What std's parse reads is the number that the text writes, and it refuses the other texts.
+use Rattle.std.proofs.Common.{◌^◌, refl}
+use Rattle.picky_kv.specs.Numbers.{u32_field, number_below_numeral, number_below_none}
+use Rattle.picky_kv.proofs.numbers.read_u32.Goals as goal
+
+pub returns-in-Ok : goal.returns-in-Ok
+unfolding u32_field
+returns-in-Ok c =
+    let read = c.in-Ok.ensures.value.0 in
+    rw (number_below_numeral (2 ^ 32) c.args.text.now read.0.0 read.0.1, read.1) refl
+
+pub returns-in-Err : goal.returns-in-Err
+unfolding u32_field
+returns-in-Err c =
+    rw (number_below_none (2 ^ 32) c.args.text.now c.in-Err.ensures.value.0) c.refused.ensures

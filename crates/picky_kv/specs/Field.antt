@@ -1,0 +1,51 @@
+-- What a typed key or value of a line stands for, after PuTTY's manual, Appendix C.
+use Rattle.std.specs.Prelude.{◌≡◌, ◌^◌, ◌≤◌, ◌<◌, ℕ, Bool, false, List, length, nat_lt}
+use Rattle.std.specs.Prelude.{if◌then◌else◌}
+use Rattle.std.specs.Prelude.{Option, Some, None, Result, Ok, Err}
+use Rattle.picky_wire.specs.declared.error.SizeError.{SizeError}
+use Rattle.picky_wire.specs.declared.error.SizeError.TheVariants as size
+use Rattle.picky_kv.specs.declared.error.PpkValueError.{PpkValueError}
+use Rattle.picky_kv.specs.declared.error.PpkValueError.TheVariants.{Parsing, TooLong, NoMemory}
+
+-- a type of keys or values: what its texts mean, which values are too big to be given, what a
+-- refusal says was expected, how values are written, and what is known of each value
+pub record Field (A : Type 0) : Type 1 where
+  pub meaning : List ℕ → Option A
+  pub is_big : A → Bool
+  pub expected : List ℕ
+  pub spelling : A → List ℕ
+  pub fits : A → Type 0
+  pub short : (v : A) → fits v → is_big v ≡ false
+  pub read_back : (v : A) → fits v → meaning (spelling v) ≡ Some v
+
+-- a text that stands for no value is refused with itself, where it is short enough for a refusal
+abbrev pub refusal : List ℕ → List ℕ → PpkValueError
+refusal expected text =
+    if nat_lt (length text) (2 ^ 32) then Parsing (record { expected = expected; actual = text })
+    else TooLong
+
+-- the answer for a text with this meaning
+abbrev pub judged : {A : Type 0} → (A → Bool) → List ℕ → List ℕ → Option A → Result A PpkValueError
+judged is_big expected text (Some v) = if is_big v then Err TooLong else Ok v
+judged is_big expected text None = Err (refusal expected text)
+
+-- the answer for a text
+abbrev pub outcome : {A : Type 0} → Field A → List ℕ → Result A PpkValueError
+outcome field text = judged field.is_big field.expected text (field.meaning text)
+
+-- the refusal is this one, or memory ran out
+abbrev pub IsRefusal : {A : Type 0} → PpkValueError → Result A PpkValueError → Type 0
+IsRefusal (Parsing p) answer = answer ≡ Err (Parsing p)
+IsRefusal TooLong answer = answer ≡ Err TooLong
+IsRefusal NoMemory answer = Unit {0}
+
+-- the result is this answer, or memory ran out
+abbrev pub Answers : {A : Type 0} → Result A PpkValueError → Result A PpkValueError → Type 0
+Answers (Ok v) answer = answer ≡ Ok v
+Answers (Err e) answer = IsRefusal e answer
+
+-- the text is what was asked for, which is too long exactly where it has 2^32 bytes or more
+abbrev pub Writes : Result (List ℕ) SizeError → List ℕ → Type 0
+Writes (Ok text) spelling = (text ≡ spelling) × (length spelling < 2 ^ 32)
+Writes (Err size.TooLong) spelling = 2 ^ 32 ≤ length spelling
+Writes (Err size.NoMemory) spelling = Unit {0}

@@ -1,0 +1,11 @@
+pub mod Field
+pub mod Literal
+pub mod Choices
+pub mod Keys
+pub mod Argon2Keys
+pub mod Numbers
+pub mod Values
+pub mod Steps
+pub mod Lines
+pub mod Output
+pub mod ReadBack

@@ -1,0 +1,58 @@
+//! What the lines of a PuTTY private key file can be refused for.
+
+use picky_wire::Text;
+use thiserror::Error;
+
+/// Why a line is not read or written.
+#[derive(Debug, Drop, PartialEq, Eq, Error)]
+pub enum KvError {
+    /// No line is left, or an earlier read was refused.
+    #[error("EndOfInput")]
+    EndOfInput,
+    /// The line has no `: `.
+    #[error("InvalidKeyValueFormat")]
+    InvalidKeyValueFormat,
+    /// A key, a value, a count or a block's text is not of its type.
+    #[error("InvalidInput")]
+    InvalidInput {
+        /// The name of the key's type.
+        context: Text,
+        /// What was expected.
+        expected: Text,
+        /// What stood there.
+        actual: Text,
+    },
+    /// A block needs more than 65,535 lines.
+    #[error("TooManyLines")]
+    TooManyLines,
+    /// A text would have 2^32 bytes or more.
+    #[error("TooLong")]
+    TooLong,
+    /// Memory ran out.
+    #[error("NoMemory")]
+    NoMemory,
+}
+
+/// A text that stands for no value of its type.
+#[derive(Debug, Drop, PartialEq, Eq, Error)]
+#[error("PpkValueParsingError")]
+pub struct PpkValueParsingError {
+    /// What was expected.
+    pub expected: Text,
+    /// What stood there.
+    pub actual: Text,
+}
+
+/// Why a text gives no value.
+#[derive(Debug, Drop, PartialEq, Eq, Error)]
+pub enum PpkValueError {
+    /// It stands for none.
+    #[error("Parsing")]
+    Parsing(PpkValueParsingError),
+    /// The value, or the text of the refusal, would have 2^32 bytes or more.
+    #[error("TooLong")]
+    TooLong,
+    /// Memory ran out.
+    #[error("NoMemory")]
+    NoMemory,
+}

@@ -1,0 +1,106 @@
+//! What a type of keys or values promises, and what the pairs of a key and a value do.
+
+ghost use Rattle.std.specs.Prelude.{◌≡◌, ◌^◌, ◌<◌, ℕ, true, List, length, string_bytes};
+ghost use Rattle.std.specs.Str.{IsAscii};
+ghost use Rattle.picky_kv.specs.Literal.{is_plain};
+ghost use Rattle.picky_kv.specs.Field.{Field, outcome, refusal, Answers, IsRefusal, Writes};
+
+use crate::error::{PpkValueError, PpkValueParsingError};
+use picky_wire::{SizeError, Text};
+use std::alloc::Global;
+
+/// A key or a value of a line, read from its text and written as it.
+pub trait PpkField: Sized + Drop {
+    // what the texts mean and how the values are written
+    ghost field: { Field Self };
+
+    /// The value that the text stands for. Refuses, in order: `Parsing`, `TooLong`.
+    fn read(alloc: Global, text: &str) -> Result<Self, PpkValueError>
+        ensures { Answers result (outcome field text.now) };
+
+    /// The value's one written text. Refuses, in order: `TooLong`.
+    fn write(&self, alloc: Global) -> Result<Text, SizeError>
+        ensures text { Writes result (field.spelling self.now) }
+        ensures fits { field.fits self.now };
+}
+
+/// A type whose values have one literal each.
+pub trait PpkLiteral {
+    // the type's name, and the literal of each value
+    ghost name: { List ℕ };
+
+    ghost literal: { Self → List ℕ };
+
+    /// The name of the type, which refusals give.
+    fn context() -> &'static str
+        ensures name { result.now ≡ name }
+        ensures short { length result.now < 2 ^ 32 };
+
+    /// The literal of this value.
+    fn as_static_str(&self) -> &'static str
+        ensures { result.now ≡ literal self.now };
+}
+
+/// A type with one value.
+pub trait PpkSingle: PpkLiteral + Sized {
+    ghost one: { Self };
+
+    /// That value.
+    fn single() -> Self
+        ensures { result ≡ one };
+
+    ghost only: { (k : Self) → k ≡ one };
+}
+
+/// A line of a key and a value.
+pub trait PpkKeyValue {
+    type Key: PpkField + PpkLiteral;
+
+    type Value: PpkField;
+
+    // a key is written as its literal, in which no colon, CR and LF stand
+    ghost key_written: { (k : Self.Key) → Self.Key.field.spelling k ≡ Self.Key.literal k };
+
+    ghost key_plain: { (k : Self.Key) → is_plain (Self.Key.literal k) ≡ true };
+}
+
+/// A line of a key and a count, and then that many lines of a value's text.
+pub trait PpkMultilineKeyValue {
+    type Key: PpkField + PpkLiteral;
+
+    type Value: PpkField;
+
+    // a key is written as its literal, in which no colon, CR and LF stand
+    ghost key_written: { (k : Self.Key) → Self.Key.field.spelling k ≡ Self.Key.literal k };
+
+    ghost key_plain: { (k : Self.Key) → is_plain (Self.Key.literal k) ≡ true };
+
+    // the text of a value can be cut anywhere
+    ghost ascii: { (v : Self.Value) → IsAscii (Self.Value.field.spelling v) };
+}
+
+/// The refusal of a text that stands for no value.
+pub(crate) fn refused(alloc: Global, expected: &str, text: &str) -> PpkValueError
+    requires { length expected.now < 2 ^ 32 }
+    ensures { IsRefusal {A = ℕ} result (Err (refusal expected.now text.now)) }
+{
+    match Text::new(alloc, text) {
+        Ok(actual) => match Text::new(alloc, expected) {
+            Ok(expected) => PpkValueError::Parsing(PpkValueParsingError { expected, actual }),
+            Err(_) => PpkValueError::NoMemory,
+        },
+        Err(SizeError::TooLong) => PpkValueError::TooLong,
+        Err(SizeError::NoMemory) => PpkValueError::NoMemory,
+    }
+}
+
+/// The string as a text.
+pub(crate) fn text_within(string: String) -> Result<Text, SizeError>
+    ensures { Writes result (string_bytes string) }
+{
+    if string.len() < 1 << 32 {
+        Ok(Text::from_string(string))
+    } else {
+        Err(SizeError::TooLong)
+    }
+}

@@ -1,0 +1,182 @@
+//! The lines and blocks of a PuTTY private key file: which key stands before which value.
+
+ghost use Rattle.std.specs.Prelude.{refl};
+ghost use Rattle.picky_kv.specs.Choices.{version_field_is_plain};
+ghost use Rattle.picky_kv.specs.Keys.{encryption_key_is_plain, comment_key_is_plain};
+ghost use Rattle.picky_kv.specs.Keys.{public_lines_key_is_plain, private_lines_key_is_plain};
+ghost use Rattle.picky_kv.specs.Keys.{private_mac_key_is_plain};
+ghost use Rattle.picky_kv.specs.Argon2Keys.{key_derivation_key_is_plain};
+ghost use Rattle.picky_kv.specs.Argon2Keys.{argon2_memory_key_is_plain, argon2_passes_key_is_plain};
+ghost use Rattle.picky_kv.specs.Argon2Keys.{argon2_parallelism_key_is_plain};
+ghost use Rattle.picky_kv.specs.Argon2Keys.{argon2_salt_key_is_plain};
+ghost use Rattle.picky_kv.specs.Values.{base64_field_is_ascii};
+
+use crate::argon2_keys::{
+    PpkArgon2MemoryKey, PpkArgon2ParallelismKey, PpkArgon2PassesKey, PpkArgon2SaltKey,
+    PpkKeyDerivationKey,
+};
+use crate::choices::{Argon2FlavourValue, PpkEncryptionValue, PpkKeyAlgorithmValue, PpkVersionKey};
+use crate::field::{PpkKeyValue, PpkMultilineKeyValue};
+use crate::keys::{
+    PpkCommentKey, PpkEncryptionKey, PpkPrivateLinesKey, PpkPrivateMacKey, PpkPublicLinesKey,
+};
+use crate::numbers::{PpkArgon2MemoryValue, PpkArgon2ParallelismValue, PpkArgon2PassesValue};
+use crate::values::{Base64PpkValue, HexPpkValue, PpkCommentValue};
+
+/// The first line: the version and the key's algorithm.
+#[derive(Drop)]
+pub struct PpkHeader;
+
+impl PpkKeyValue for PpkHeader {
+    type Key = PpkVersionKey;
+
+    type Value = PpkKeyAlgorithmValue;
+
+    ghost key_written = { λ _. refl };
+
+    ghost key_plain = { version_field_is_plain };
+}
+
+/// The line of the encryption.
+#[derive(Drop)]
+pub struct PpkEncryption;
+
+impl PpkKeyValue for PpkEncryption {
+    type Key = PpkEncryptionKey;
+
+    type Value = PpkEncryptionValue;
+
+    ghost key_written = { λ _. refl };
+
+    ghost key_plain = { encryption_key_is_plain };
+}
+
+/// The line of the comment.
+#[derive(Drop)]
+pub struct PpkComment;
+
+impl PpkKeyValue for PpkComment {
+    type Key = PpkCommentKey;
+
+    type Value = PpkCommentValue;
+
+    ghost key_written = { λ _. refl };
+
+    ghost key_plain = { comment_key_is_plain };
+}
+
+/// The line of the flavour of Argon2.
+#[derive(Drop)]
+pub struct PpkKeyDerivation;
+
+impl PpkKeyValue for PpkKeyDerivation {
+    type Key = PpkKeyDerivationKey;
+
+    type Value = Argon2FlavourValue;
+
+    ghost key_written = { λ _. refl };
+
+    ghost key_plain = { key_derivation_key_is_plain };
+}
+
+/// The line of Argon2's memory.
+#[derive(Drop)]
+pub struct PpkArgon2Memory;
+
+impl PpkKeyValue for PpkArgon2Memory {
+    type Key = PpkArgon2MemoryKey;
+
+    type Value = PpkArgon2MemoryValue;
+
+    ghost key_written = { λ _. refl };
+
+    ghost key_plain = { argon2_memory_key_is_plain };
+}
+
+/// The line of Argon2's passes.
+#[derive(Drop)]
+pub struct PpkArgon2Passes;
+
+impl PpkKeyValue for PpkArgon2Passes {
+    type Key = PpkArgon2PassesKey;
+
+    type Value = PpkArgon2PassesValue;
+
+    ghost key_written = { λ _. refl };
+
+    ghost key_plain = { argon2_passes_key_is_plain };
+}
+
+/// The line of Argon2's parallelism.
+#[derive(Drop)]
+pub struct PpkArgon2Parallelism;
+
+impl PpkKeyValue for PpkArgon2Parallelism {
+    type Key = PpkArgon2ParallelismKey;
+
+    type Value = PpkArgon2ParallelismValue;
+
+    ghost key_written = { λ _. refl };
+
+    ghost key_plain = { argon2_parallelism_key_is_plain };
+}
+
+/// The line of Argon2's salt.
+#[derive(Drop)]
+pub struct PpkArgon2Salt;
+
+impl PpkKeyValue for PpkArgon2Salt {
+    type Key = PpkArgon2SaltKey;
+
+    type Value = HexPpkValue;
+
+    ghost key_written = { λ _. refl };
+
+    ghost key_plain = { argon2_salt_key_is_plain };
+}
+
+/// The line of the MAC.
+#[derive(Drop)]
+pub struct PpkPrivateMac;
+
+impl PpkKeyValue for PpkPrivateMac {
+    type Key = PpkPrivateMacKey;
+
+    type Value = HexPpkValue;
+
+    ghost key_written = { λ _. refl };
+
+    ghost key_plain = { private_mac_key_is_plain };
+}
+
+/// The block of the public key.
+#[derive(Drop)]
+pub struct PpkPublicLines;
+
+impl PpkMultilineKeyValue for PpkPublicLines {
+    type Key = PpkPublicLinesKey;
+
+    type Value = Base64PpkValue;
+
+    ghost key_written = { λ _. refl };
+
+    ghost key_plain = { public_lines_key_is_plain };
+
+    ghost ascii = { base64_field_is_ascii };
+}
+
+/// The block of the private key.
+#[derive(Drop)]
+pub struct PpkPrivateLines;
+
+impl PpkMultilineKeyValue for PpkPrivateLines {
+    type Key = PpkPrivateLinesKey;
+
+    type Value = Base64PpkValue;
+
+    ghost key_written = { λ _. refl };
+
+    ghost key_plain = { private_lines_key_is_plain };
+
+    ghost ascii = { base64_field_is_ascii };
+}

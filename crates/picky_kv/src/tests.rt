@@ -1,0 +1,377 @@
+//! What no clause says: the literals of PuTTY's manual, a file of puttygen, and printed names.
+
+use crate::*;
+use picky_wire::{Bytes, Text, TryClone};
+use std::alloc::{AllocError, AllocGlobal, Global};
+use std::fmt::Display;
+use std::process::Abort;
+use std::test::Fail;
+
+// puttygen 0.78: puttygen -t ed25519 -o sealed.ppk --new-passphrase pw -C 'of a test: ed25519'
+//   --ppk-param version=3,memory=256,passes=3
+static SEALED: &str = "PuTTY-User-Key-File-3: ssh-ed25519
+Encryption: aes256-cbc
+Comment: of a test: ed25519
+Public-Lines: 2
+AAAAC3NzaC1lZDI1NTE5AAAAIJ8pE+/qc89bAZqCarkMCuM+0wEWT+XWYW1ygNMj
+M3Nc
+Key-Derivation: Argon2id
+Argon2-Memory: 256
+Argon2-Passes: 3
+Argon2-Parallelism: 1
+Argon2-Salt: bd3c02a7e5010fbf46934849a3e9c354
+Private-Lines: 1
+iu04zOMX4E6mVpu+5A6ukfFKe74WK0vrPjGkcTJgRoij+b1uU2pffubwGtdXRPC+
+Private-MAC: 5291f405c57360fe7b039ee0511983ce9b6c69e65155328dbb4969ff5ad16d2d
+";
+
+fn copy_head(
+    alloc: Global,
+    from: &mut PuttyKvReader<'_>,
+    to: &mut PuttyKvWriter,
+) -> Result<(), KvError> {
+    let (key, value) = from.next_key_value::<PpkHeader>(alloc)?;
+    to.write_key_value::<PpkHeader>(&key, &value)?;
+    let value = from.next_value::<PpkEncryption>(alloc)?;
+    to.write_value::<PpkEncryption>(&value)?;
+    let value = from.next_value::<PpkComment>(alloc)?;
+    to.write_value::<PpkComment>(&value)?;
+    let (key, value) = from.next_multiline_key_value::<PpkPublicLines>(alloc)?;
+    to.write_multiline_key_value::<PpkPublicLines>(&key, &value)?;
+    Ok(())
+}
+
+fn copy_derivation(
+    alloc: Global,
+    from: &mut PuttyKvReader<'_>,
+    to: &mut PuttyKvWriter,
+) -> Result<(), KvError> {
+    let value = from.next_value::<PpkKeyDerivation>(alloc)?;
+    to.write_value::<PpkKeyDerivation>(&value)?;
+    let value = from.next_value::<PpkArgon2Memory>(alloc)?;
+    to.write_value::<PpkArgon2Memory>(&value)?;
+    let value = from.next_value::<PpkArgon2Passes>(alloc)?;
+    to.write_value::<PpkArgon2Passes>(&value)?;
+    let value = from.next_value::<PpkArgon2Parallelism>(alloc)?;
+    to.write_value::<PpkArgon2Parallelism>(&value)?;
+    let value = from.next_value::<PpkArgon2Salt>(alloc)?;
+    to.write_value::<PpkArgon2Salt>(&value)?;
+    Ok(())
+}
+
+fn copy_tail(
+    alloc: Global,
+    from: &mut PuttyKvReader<'_>,
+    to: &mut PuttyKvWriter,
+) -> Result<(), KvError> {
+    let value = from.next_multiline_value::<PpkPrivateLines>(alloc)?;
+    to.write_multiline_value::<PpkPrivateLines>(&value)?;
+    let value = from.next_value::<PpkPrivateMac>(alloc)?;
+    to.write_value::<PpkPrivateMac>(&value)?;
+    Ok(())
+}
+
+fn copied(alloc: Global, text: &str, crlf: bool) -> Result<Text, KvError> {
+    let mut from = PuttyKvReader::from_str(text);
+    let mut to = PuttyKvWriter::new(alloc, crlf);
+    copy_head(alloc, &mut from, &mut to)?;
+    copy_derivation(alloc, &mut from, &mut to)?;
+    copy_tail(alloc, &mut from, &mut to)?;
+    Ok(to.finish())
+}
+
+#[test]
+fn copies_a_file_of_puttygen(rt: HostRuntime) -> Result<(), Fail> {
+    let alloc = rt.alloc();
+    let with_crlf = SEALED.replace(alloc, "\n", "\r\n")?;
+    for (crlf, text) in [(false, SEALED), (true, with_crlf.as_str())] {
+        assert_eq!(rt;
+            copied(alloc, SEALED, crlf)?.as_str(),
+            text,
+            "from LF, CRLF {crlf}"
+        );
+        assert_eq!(rt;
+            copied(alloc, with_crlf.as_str(), crlf)?.as_str(),
+            text,
+            "CRLF {crlf}"
+        );
+    }
+    Ok(())
+}
+
+fn with_letter_changed(alloc: Global, text: &str, at: usize) -> Result<String, AllocError> {
+    let mut changed = String::new(alloc);
+    for (i, c) in text.chars().enumerate() {
+        let other = if c.is_ascii_lowercase() {
+            c.to_ascii_uppercase()
+        } else {
+            c.to_ascii_lowercase()
+        };
+        changed.push(if i != at {
+            c
+        } else if other == c {
+            '_'
+        } else {
+            other
+        })?;
+    }
+    Ok(changed)
+}
+
+fn reads_literals<T: PpkField + PpkLiteral>(
+    rt: &(impl Abort + AllocGlobal),
+    name: &str,
+    expected: &str,
+    literals: &[&str],
+) -> Result<(), Fail> {
+    let alloc = rt.alloc();
+    assert_eq!(rt; T::context(), name);
+    for literal in literals {
+        let value = T::read(alloc, literal)?;
+        assert_eq!(rt; value.as_static_str(), *literal);
+        assert_eq!(rt; value.write(alloc)?.as_str(), *literal);
+        for at in 0..literal.len() {
+            let changed = with_letter_changed(alloc, literal, at)?;
+            let wanted = PpkValueError::Parsing(PpkValueParsingError {
+                expected: Text::new(alloc, expected)?,
+                actual: Text::new(alloc, changed.as_str())?,
+            });
+            assert_eq!(rt;
+                T::read(alloc, changed.as_str()).err(),
+                Some(wanted),
+                "{changed}"
+            );
+        }
+    }
+    Ok(())
+}
+
+// PuTTY's manual, Appendix C, has the literals.
+#[test]
+fn reads_each_choice_in_its_case_alone(rt: HostRuntime) -> Result<(), Fail> {
+    let versions = ["PuTTY-User-Key-File-2", "PuTTY-User-Key-File-3"];
+    let any_version = "[PuTTY-User-Key-File-2, PuTTY-User-Key-File-3]";
+    reads_literals::<PpkVersionKey>(&rt, "PpkVersionKey", any_version, &versions)?;
+    let algorithms = [
+        "ssh-rsa",
+        "ssh-dss",
+        "ecdsa-sha2-nistp256",
+        "ecdsa-sha2-nistp384",
+        "ecdsa-sha2-nistp521",
+        "ssh-ed25519",
+        "ssh-ed448",
+    ];
+    let any =
+        "[ssh-rsa, ssh-dss, ecdsa-sha2-nistp256, ecdsa-sha2-nistp384, ecdsa-sha2-nistp521, ssh-ed25519, ssh-ed448]";
+    reads_literals::<PpkKeyAlgorithmValue>(&rt, "PpkKeyAlgorithmValue", any, &algorithms)?;
+    let encryptions = ["none", "aes256-cbc"];
+    let any = "[none, aes256-cbc]";
+    reads_literals::<PpkEncryptionValue>(&rt, "PpkEncryptionValue", any, &encryptions)?;
+    let flavours = ["Argon2d", "Argon2i", "Argon2id"];
+    let any = "[Argon2d, Argon2i, Argon2id]";
+    reads_literals::<Argon2FlavourValue>(&rt, "Argon2FlavourValue", any, &flavours)
+}
+
+fn reads_key<T: PpkField + PpkSingle + Default + PartialEq>(
+    rt: &(impl Abort + AllocGlobal),
+    name: &str,
+    literal: &str,
+) -> Result<(), Fail> {
+    let (default, single) = (T::default(), T::single());
+    assert!(rt; default == single, "{name}");
+    reads_literals::<T>(rt, name, literal, &[literal])
+}
+
+#[test]
+fn reads_each_key_in_its_case_alone(rt: HostRuntime) -> Result<(), Fail> {
+    reads_key::<PpkEncryptionKey>(&rt, "PpkEncryptionKey", "Encryption")?;
+    reads_key::<PpkCommentKey>(&rt, "PpkCommentKey", "Comment")?;
+    reads_key::<PpkPublicLinesKey>(&rt, "PpkPublicLinesKey", "Public-Lines")?;
+    reads_key::<PpkKeyDerivationKey>(&rt, "PpkKeyDerivationKey", "Key-Derivation")?;
+    reads_key::<PpkArgon2MemoryKey>(&rt, "PpkArgon2MemoryKey", "Argon2-Memory")?;
+    reads_key::<PpkArgon2PassesKey>(&rt, "PpkArgon2PassesKey", "Argon2-Passes")?;
+    reads_key::<PpkArgon2ParallelismKey>(&rt, "PpkArgon2ParallelismKey", "Argon2-Parallelism")?;
+    reads_key::<PpkArgon2SaltKey>(&rt, "PpkArgon2SaltKey", "Argon2-Salt")?;
+    reads_key::<PpkPrivateLinesKey>(&rt, "PpkPrivateLinesKey", "Private-Lines")?;
+    reads_key::<PpkPrivateMacKey>(&rt, "PpkPrivateMacKey", "Private-MAC")
+}
+
+// A block's text and what it is refused for: the name of the refusal, and its three texts.
+struct Refused {
+    text: &'static str,
+    name: &'static str,
+    texts: [&'static str; 3],
+}
+
+static REFUSED: [Refused; 11] = [
+    Refused {
+        text: "",
+        name: "EndOfInput",
+        texts: ["", "", ""],
+    },
+    Refused {
+        text: "Public-Lines:1\nAAAA",
+        name: "InvalidKeyValueFormat",
+        texts: ["", "", ""],
+    },
+    Refused {
+        text: "\nPublic-Lines: 0",
+        name: "InvalidKeyValueFormat",
+        texts: ["", "", ""],
+    },
+    Refused {
+        text: "Private-Lines: 1\nAAAA",
+        name: "InvalidInput",
+        texts: ["PpkPublicLinesKey", "Public-Lines", "Private-Lines"],
+    },
+    Refused {
+        text: "Public-Lines: 65536\nAAAA",
+        name: "InvalidInput",
+        texts: ["PpkPublicLinesKey", "<valid lines count>", "65536"],
+    },
+    Refused {
+        text: "Public-Lines: -1\nAAAA",
+        name: "InvalidInput",
+        texts: ["PpkPublicLinesKey", "<valid lines count>", "-1"],
+    },
+    Refused {
+        text: "Public-Lines: 1 \nAAAA",
+        name: "InvalidInput",
+        texts: ["PpkPublicLinesKey", "<valid lines count>", "1 "],
+    },
+    Refused {
+        text: "Public-Lines: 1",
+        name: "EndOfInput",
+        texts: ["", "", ""],
+    },
+    Refused {
+        text: "Public-Lines: 2\n!",
+        name: "EndOfInput",
+        texts: ["", "", ""],
+    },
+    Refused {
+        text: "Public-Lines: 1\nAAB=\nComment: k",
+        name: "InvalidInput",
+        texts: ["PpkPublicLinesKey", "<valid base64 data>", "AAB="],
+    },
+    Refused {
+        text: "Public-Lines: 2\nAA\nA\nComment: k",
+        name: "InvalidInput",
+        texts: ["PpkPublicLinesKey", "<valid base64 data>", "AAA"],
+    },
+];
+
+fn texts_of(e: &KvError) -> [&str; 3] {
+    match e {
+        KvError::InvalidInput {
+            context,
+            expected,
+            actual,
+        } => [context.as_str(), expected.as_str(), actual.as_str()],
+        KvError::EndOfInput
+        | KvError::InvalidKeyValueFormat
+        | KvError::TooManyLines
+        | KvError::TooLong
+        | KvError::NoMemory => ["", "", ""],
+    }
+}
+
+#[test]
+fn stays_at_its_end_once_refused(rt: HostRuntime) -> Result<(), Fail> {
+    let alloc = rt.alloc();
+    for row in &REFUSED {
+        let text = row.text;
+        let mut reader = PuttyKvReader::from_str(text);
+        match reader.next_multiline_value::<PpkPublicLines>(alloc) {
+            Ok(_) => assert!(rt; false, "read: {text}"),
+            Err(e) => {
+                let name = format!(in alloc; "{e}")?;
+                assert_eq!(rt; name.as_str(), row.name, "{text}");
+                assert_eq!(rt; texts_of(&e), row.texts, "{text}");
+            }
+        }
+        let next = reader.next_value::<PpkComment>(alloc).err();
+        assert_eq!(rt; next, Some(KvError::EndOfInput), "after: {text}");
+    }
+    Ok(())
+}
+
+#[test]
+fn keeps_all_behind_the_first_separator(rt: HostRuntime) -> Result<(), Fail> {
+    let mut reader = PuttyKvReader::from_str("Comment: a: b");
+    let comment = Text::from(reader.next_value::<PpkComment>(rt.alloc())?);
+    assert_eq!(rt; comment.as_str(), "a: b");
+    Ok(())
+}
+
+#[test]
+fn reads_a_count_with_a_plus_and_zeros(rt: HostRuntime) -> Result<(), Fail> {
+    let mut reader = PuttyKvReader::from_str("Public-Lines: +002\nAAAA\nAAAA");
+    let bytes = Bytes::from(reader.next_multiline_value::<PpkPublicLines>(rt.alloc())?);
+    assert_eq!(rt; bytes.as_slice(), [0; 6].as_slice());
+    let next = reader
+        .next_multiline_value::<PpkPublicLines>(rt.alloc())
+        .err();
+    assert_eq!(rt; next, Some(KvError::EndOfInput));
+    Ok(())
+}
+
+#[test]
+fn reads_hex_of_both_cases(rt: HostRuntime) -> Result<(), Fail> {
+    let mut reader = PuttyKvReader::from_str("Argon2-Salt: 00aBFf");
+    let salt = Bytes::from(reader.next_value::<PpkArgon2Salt>(rt.alloc())?);
+    assert_eq!(rt; salt.as_slice(), [0x00, 0xab, 0xff].as_slice());
+    Ok(())
+}
+
+fn copies<T: TryClone + Drop + PartialEq>(
+    rt: &(impl Abort + AllocGlobal),
+    value: T,
+) -> Result<(), Fail> {
+    let copy = value.try_clone(rt.alloc())?;
+    assert!(rt; copy == value);
+    Ok(())
+}
+
+#[test]
+fn copies_each_value(rt: HostRuntime) -> Result<(), Fail> {
+    copies(
+        &rt,
+        PpkCommentValue::from(Text::new(rt.alloc(), "of a test")?),
+    )?;
+    copies(&rt, Base64PpkValue::from(Bytes::new(rt.alloc(), b"bytes")?))?;
+    copies(&rt, HexPpkValue::from(Bytes::new(rt.alloc(), b"bytes")?))?;
+    copies(&rt, PpkArgon2MemoryValue::from(7))?;
+    copies(&rt, PpkArgon2PassesValue::from(8))?;
+    copies(&rt, PpkArgon2ParallelismValue::from(9))
+}
+
+fn prints<E: Display>(rt: &(impl Abort + AllocGlobal), error: &E, name: &str) -> Result<(), Fail> {
+    let text = format!(in rt.alloc(); "{error}")?;
+    assert_eq!(rt; text.as_str(), name);
+    Ok(())
+}
+
+#[test]
+fn prints_the_name_of_a_refusal(rt: HostRuntime) -> Result<(), Fail> {
+    prints(&rt, &KvError::TooManyLines, "TooManyLines")?;
+    prints(&rt, &KvError::TooLong, "TooLong")?;
+    prints(&rt, &KvError::NoMemory, "NoMemory")?;
+    prints(&rt, &PpkValueError::TooLong, "TooLong")?;
+    prints(&rt, &PpkValueError::NoMemory, "NoMemory")
+}
+
+#[test]
+fn prints_the_name_of_a_bad_text(rt: HostRuntime) -> Result<(), Fail> {
+    match PpkArgon2PassesValue::read(rt.alloc(), "x") {
+        Ok(_) => assert!(rt; false),
+        Err(e) => {
+            prints(&rt, &e, "Parsing")?;
+            if let PpkValueError::Parsing(e) = e {
+                prints(&rt, &e, "PpkValueParsingError")?;
+                assert_eq!(rt; e.expected.as_str(), "<valid u32 value>");
+            }
+        }
+    }
+    Ok(())
+}

@@ -1,0 +1,190 @@
+//! Writes the lines of a PuTTY private key file.
+
+ghost use Rattle.std.specs.Prelude.{◌≡◌, ◌^◌, ◌<◌, ◌++◌, [], ◌∷◌, length, nat_lt, IfOk};
+ghost use Rattle.std.specs.Prelude.{string_bytes, string_len};
+ghost use Rattle.std.specs.Str.{IsAscii};
+ghost use Rattle.picky_text.specs.Lines.{text_of};
+ghost use Rattle.picky_text.specs.Rows.{rows_of};
+ghost use Rattle.picky_kv.specs.Output.{line_end, pair_line as line_of, block_lines, extended};
+ghost use Rattle.picky_kv.specs.Output.{with_lines, with_block, Leaves};
+
+use crate::error::KvError;
+use crate::field::{PpkField, PpkKeyValue, PpkLiteral, PpkMultilineKeyValue, PpkSingle};
+use crate::literals::SEPARATOR;
+use picky_text::{LineEnd, push_rows};
+use picky_wire::{SizeError, Text};
+use std::alloc::{AllocError, Global};
+use std::marker::Model;
+
+/// How many characters a line of a block has.
+const LINE_LEN: usize = 64;
+
+/// The most lines that a block can have.
+const MAX_LINE_COUNT: usize = 65535;
+
+/// The lines so far, as a text of fewer than 2^32 bytes.
+#[derive(Drop)]
+pub struct PuttyKvWriter {
+    alloc: Global,
+    text: String,
+    end: LineEnd,
+}
+
+impl Model for PuttyKvWriter {
+    ghost use Rattle.std.specs.Prelude.{◌^◌, ◌<◌, string_bytes, string_len};
+    ghost use Rattle.picky_kv.specs.Output.{Output};
+
+    ghost Value = { Output };
+
+    ghost view = { λ w. record { end = w.end; text = string_bytes w.text } };
+
+    ghost invariant = { λ w. string_len w.text < 2 ^ 32 };
+}
+
+impl PuttyKvWriter {
+    /// An empty writer, whose lines end in CRLF or in LF.
+    pub fn new(alloc: Global, crlf: bool) -> PuttyKvWriter
+        ensures { result ≡ record { end = line_end crlf; text = [] } }
+    {
+        PuttyKvWriter {
+            alloc,
+            text: String::new(alloc),
+            end: if crlf { LineEnd::CrLf } else { LineEnd::Lf },
+        }
+    }
+
+    /// Appends the line of the key and the value.
+    ///
+    /// Refuses, in order: `TooLong`, where the text would have 2^32 bytes or more.
+    pub fn write_key_value<T: PpkKeyValue>(
+        &mut self,
+        key: &T::Key,
+        value: &T::Value,
+    ) -> Result<(), KvError>
+        ensures answer { Leaves result self.old self.new
+            (with_lines self.old
+            (line_of (T.Key.literal key.now) (T.Value.field.spelling value.now) ∷ [])) }
+        ensures fits { T.Value.field.fits value.now }
+    {
+        match value.write(self.alloc) {
+            Ok(value) => match line(self.alloc, key.as_static_str(), value.as_str(), self.end) {
+                Ok(line) => self.append(line.as_str()),
+                Err(_) => Err(KvError::NoMemory),
+            },
+            Err(SizeError::TooLong) => Err(KvError::TooLong),
+            Err(SizeError::NoMemory) => Err(KvError::NoMemory),
+        }
+    }
+
+    /// The same with the key's one value.
+    pub fn write_value<T: PpkKeyValue>(&mut self, value: &T::Value) -> Result<(), KvError>
+    where
+        T::Key: PpkSingle,
+        ensures answer { Leaves result self.old self.new
+            (with_lines self.old
+            (line_of (T.Key.literal T.Key.one) (T.Value.field.spelling value.now) ∷ [])) }
+        ensures fits { T.Value.field.fits value.now }
+    {
+        self.write_key_value::<T>(&T::Key::single(), value)
+    }
+
+    /// Appends a block: the line of the key and the count, and the value's text in lines of 64.
+    ///
+    /// Refuses, in order: `TooLong` as `write_key_value`, `TooManyLines`.
+    pub fn write_multiline_key_value<T: PpkMultilineKeyValue>(
+        &mut self,
+        key: &T::Key,
+        value: &T::Value,
+    ) -> Result<(), KvError>
+        ensures answer { Leaves result self.old self.new
+            (with_block self.old (T.Key.literal key.now) (T.Value.field.spelling value.now)) }
+        ensures fits { T.Value.field.fits value.now }
+    {
+        match value.write(self.alloc) {
+            Ok(text) => self.append_block(key.as_static_str(), text.as_str()),
+            Err(SizeError::TooLong) => Err(KvError::TooLong),
+            Err(SizeError::NoMemory) => Err(KvError::NoMemory),
+        }
+    }
+
+    /// The same with the key's one value.
+    pub fn write_multiline_value<T: PpkMultilineKeyValue>(
+        &mut self,
+        value: &T::Value,
+    ) -> Result<(), KvError>
+    where
+        T::Key: PpkSingle,
+        ensures answer { Leaves result self.old self.new
+            (with_block self.old (T.Key.literal T.Key.one) (T.Value.field.spelling value.now)) }
+        ensures fits { T.Value.field.fits value.now }
+    {
+        self.write_multiline_key_value::<T>(&T::Key::single(), value)
+    }
+
+    /// The text of all lines.
+    pub fn finish(self) -> Text
+        ensures { result ≡ self.text }
+    {
+        Text::from_string(self.text)
+    }
+
+    fn append_block(&mut self, key: &str, text: &str) -> Result<(), KvError>
+        requires { IsAscii text.now }
+        ensures { Leaves result self.old self.new (with_block self.old key.now text.now) }
+    {
+        match block(self.alloc, key, text, self.end) {
+            Ok(block) => {
+                if self.has_room(block.as_str()) && line_count(text) > MAX_LINE_COUNT {
+                    return Err(KvError::TooManyLines);
+                }
+                self.append(block.as_str())
+            }
+            Err(_) => Err(KvError::NoMemory),
+        }
+    }
+
+    fn append(&mut self, piece: &str) -> Result<(), KvError>
+        ensures { Leaves result self.old self.new (extended self.old piece.now) }
+    {
+        if !self.has_room(piece) {
+            return Err(KvError::TooLong);
+        }
+        match self.text.push_str(piece) {
+            Ok(()) => Ok(()),
+            Err(_) => Err(KvError::NoMemory),
+        }
+    }
+
+    fn has_room(&self, piece: &str) -> bool
+        ensures { result ≡ nat_lt (length (self.now.text ++ piece.now)) (2 ^ 32) }
+    {
+        piece.len() < (1 << 32) - self.text.len()
+    }
+}
+
+fn line(alloc: Global, key: &str, value: &str, end: LineEnd) -> Result<String, AllocError>
+    ensures { IfOk result (λ l. string_bytes l ≡ text_of end (line_of key.now value.now ∷ [])) }
+{
+    let mut line = String::new(alloc);
+    line.push_str(key)?;
+    line.push_str(SEPARATOR)?;
+    line.push_str(value)?;
+    line.push_str(end.as_str())?;
+    Ok(line)
+}
+
+fn block(alloc: Global, key: &str, text: &str, end: LineEnd) -> Result<String, AllocError>
+    requires { IsAscii text.now }
+    ensures { IfOk result (λ b. string_bytes b ≡ text_of end (block_lines key.now text.now)) }
+{
+    let count = format!(in alloc; "{}", line_count(text))?;
+    let mut block = line(alloc, key, count.as_str(), end)?;
+    push_rows(&mut block, text, end)?;
+    Ok(block)
+}
+
+fn line_count(text: &str) -> usize
+    ensures { result ≡ length (rows_of text.now) }
+{
+    text.len().div_ceil(LINE_LEN)
+}
