@@ -1,0 +1,13 @@
+pub mod FromWire
+pub mod Key
+pub mod Blob
+pub mod BlobRefusal
+pub mod BlobLaws
+pub mod BlobExact
+pub mod Element
+pub mod Line
+pub mod LineRefusal
+pub mod SourceLine
+pub mod ByteLaws
+pub mod LineLaws
+pub mod SourceLaws

@@ -1,0 +1,36 @@
+-- A public key line (sshd(8), "AUTHORIZED_KEYS FILE FORMAT"): a key type, the key's blob in base64, a comment.
+use Rattle.std.specs.Prelude.{◌≡◌, List, [], ◌∷◌, ◌++◌, ℕ, ◌<◌, ◌^◌, length}
+use Rattle.picky_layout.specs.Numbers.{IsBytes}
+use Rattle.picky_layout.specs.Grammar.{Fits}
+use Rattle.picky_text.specs.Base64.{base64_of}
+use Rattle.picky_text.specs.Words.{first_word, body_word, comment_of}
+use Rattle.picky_keys.specs.declared.kind.KeyKind.{KeyKind}
+use Rattle.picky_keys.specs.Names.{kind_name}
+use Rattle.picky_sshpub.specs.declared.key.SshPublicKey.{SshPublicKey}
+use Rattle.picky_sshpub.specs.Key.{kind_of}
+use Rattle.picky_sshpub.specs.Blob.{blob, blob_of}
+
+-- line = name SP base64 [SP comment], where the name is one of the seven and says nothing more,
+-- and bytes after the blob's last field say nothing
+pub record IsPublicLine (text : List ℕ) (key : SshPublicKey) : Type 0 where
+  pub kind : KeyKind
+  pub name : first_word text ≡ kind_name kind
+  pub blob_bytes : List ℕ
+  pub are_bytes : IsBytes blob_bytes
+  pub body : body_word text ≡ base64_of blob_bytes
+  pub body_short : length (body_word text) < 2 ^ 32
+  pub rest : List ℕ
+  pub fits : Fits blob.piece key.inner_key blob_bytes rest
+  pub comment : key.comment ≡ comment_of text
+  pub comment_short : length (comment_of text) < 2 ^ 32
+
+-- the parts of the line that is written, where the name is the blob's own
+abbrev pub line_name : SshPublicKey → List ℕ
+line_name key = kind_name (kind_of key.inner_key)
+
+abbrev pub line_body : SshPublicKey → List ℕ
+line_body key = base64_of (blob_of key.inner_key)
+
+-- line = name SP base64 SP comment CR LF
+unfoldable pub line_of : SshPublicKey → List ℕ
+line_of key = line_name key ++ 32 ∷ line_body key ++ 32 ∷ key.comment ++ 13 ∷ 10 ∷ []

@@ -1,0 +1,79 @@
+//! The laws of this crate, each as the contract of a function that does no more than it says.
+
+ghost use Rattle.std.specs.Prelude.{◌≡◌, ◌++◌, ◌∷◌, ◌<◌, ◌^◌, ◌↔◌, List, ℕ, Ok, Err, IsTrue, IsUtf8, length, true};
+ghost use Rattle.picky_layout.specs.Numbers.{IsBytes};
+ghost use Rattle.picky_layout.specs.Outcome.{and_then};
+ghost use Rattle.picky_layout.specs.Grammar.{Fits};
+ghost use Rattle.picky_sshpub.specs.declared.key.SshBasePublicKey.{SshBasePublicKey as BaseKey};
+ghost use Rattle.picky_sshpub.specs.declared.key.SshPublicKey.{SshPublicKey as Key};
+ghost use Rattle.picky_sshpub.specs.Key.{IsKey};
+ghost use Rattle.picky_sshpub.specs.Blob.{blob, blob_of};
+ghost use Rattle.picky_sshpub.specs.BlobExact.{BlobSpelled};
+ghost use Rattle.picky_sshpub.specs.BlobRefusal.{read_blob};
+ghost use Rattle.picky_sshpub.specs.Line.{IsPublicLine, line_of};
+ghost use Rattle.picky_sshpub.specs.LineRefusal.{line_meaning};
+ghost use Rattle.picky_sshpub.specs.LineLaws.{IsKept};
+ghost use Rattle.picky_sshpub.specs.SourceLine.{line_in_front, after_line, source_meaning};
+
+use crate::key::{SshBasePublicKey, SshPublicKey};
+
+/// A blob that is written is read back, and exactly what follows it is left.
+#[tactic(auto, using(crate::proofs::LawLemmas::blob_laws))]
+pub fn blob_is_read_back()
+    ensures { (key : BaseKey) (rest : List ℕ) → IsKey key → read_blob (blob_of key ++ rest) ≡ Ok (key, rest) }
+{}
+
+/// A key is read exactly where its spelling stands in front, and only these bytes are its spellings.
+#[tactic(auto, using(crate::proofs::LawLemmas::blob_laws))]
+pub fn blob_is_read_where_it_is_spelled()
+    ensures read { (bytes : List ℕ) (key : BaseKey) (rest : List ℕ) → read_blob bytes ≡ Ok (key, rest) → Fits blob.piece key bytes rest }
+    ensures fits { (key : BaseKey) (front rest : List ℕ) → blob.piece key front → read_blob (front ++ rest) ≡ Ok (key, rest) }
+    ensures exact { (key : BaseKey) (bytes : List ℕ) → IsBytes bytes → blob.piece key bytes → BlobSpelled key bytes }
+    ensures canonical { (key : BaseKey) → IsKey key → blob.piece key (blob_of key) }
+{}
+
+/// A line means a key exactly where it says it, and it says one.
+#[tactic(auto, using(crate::proofs::LawLemmas::line_laws))]
+pub fn line_means_what_it_says()
+    ensures says { (text : List ℕ) (key : Key) → IsBytes text → line_meaning text ≡ Ok key → IsPublicLine text key }
+    ensures means { (text : List ℕ) (key : Key) → IsPublicLine text key → line_meaning text ≡ Ok key }
+    ensures one { (text : List ℕ) (k l : Key) → IsPublicLine text k → IsPublicLine text l → k ≡ l }
+{}
+
+/// A line that is written is read back: as a text, and from a source, where LF and what follows are left.
+#[tactic(auto, using(crate::proofs::LawLemmas::line_laws))]
+pub fn line_is_read_back()
+    ensures text { (key : Key) (more : List ℕ) → IsKept key → line_meaning (line_of key ++ more) ≡ Ok key }
+    ensures source { (key : Key) (more : List ℕ) → IsKept key → source_meaning (line_of key ++ more) ≡ Ok (key, 10 ∷ more) }
+{}
+
+/// A line of UTF-8 in front of a source is answered as its text is.
+#[tactic(auto, using(crate::proofs::LawLemmas::line_laws))]
+pub fn source_is_answered_as_its_line()
+    ensures { (bytes : List ℕ) → IsUtf8 (line_in_front bytes) → length (line_in_front bytes) < 2 ^ 32
+        → source_meaning bytes ≡ and_then (line_meaning (line_in_front bytes)) (λ key. Ok (key, after_line bytes)) }
+{}
+
+/// The fingerprints don't depend on the comment.
+pub fn fingerprints_are_of_the_key(a: &SshPublicKey, b: &SshPublicKey) -> bool
+    requires { a.now.inner_key ≡ b.now.inner_key }
+    ensures { result ≡ true }
+{
+    a.fingerprint_md5() == b.fingerprint_md5()
+        && a.fingerprint_sha1() == b.fingerprint_sha1()
+        && a.fingerprint_sha256() == b.fingerprint_sha256()
+}
+
+/// Keys are equal where their contents are.
+pub fn equal_keys_have_equal_contents(a: &SshBasePublicKey, b: &SshBasePublicKey) -> bool
+    ensures { IsTrue result ↔ (a.now ≡ b.now) }
+{
+    a == b
+}
+
+/// So are keys with comments.
+pub fn equal_lines_have_equal_contents(a: &SshPublicKey, b: &SshPublicKey) -> bool
+    ensures { IsTrue result ↔ (a.now ≡ b.now) }
+{
+    a == b
+}

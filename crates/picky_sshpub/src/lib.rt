@@ -1,0 +1,20 @@
+//! SSH public keys: their blobs, their lines and their fingerprints (RFC 4253, section 6.6; sshd(8)).
+#![tactic(auto)]
+
+mod blob;
+mod error;
+mod fingerprint;
+mod growing;
+mod key;
+pub mod laws;
+mod line;
+mod read;
+mod size;
+mod source_line;
+#[cfg(test)]
+mod tests;
+mod words;
+mod write;
+
+pub use error::SshPublicKeyError;
+pub use key::{SshBasePublicKey, SshPublicKey};
