@@ -1,0 +1,11 @@
+pub mod LineLemmas
+pub mod OutputLemmas
+pub mod PuttyLemmas
+pub mod MemoryLemmas
+pub mod OutcomeLemmas
+pub mod Utf8Lemmas
+pub mod MeaningLemmas
+pub mod SpellLemmas
+pub mod RunLemmas
+pub mod CauseLemmas
+pub mod CommandLemmas

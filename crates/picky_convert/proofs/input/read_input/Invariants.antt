@@ -1,0 +1,14 @@
+-- What was taken so far, and what is left, is what there was.
+use Rattle.std.proofs.Common.{◌≡◌, ◌≤◌, ◌-◌, ◌++◌, vec_len}
+use Rattle.picky_convert.proofs.input.read_input.Given as goal
+
+abbrev pub invariant-chunks : goal.invariant-chunks
+invariant-chunks g l = record {
+  taken : g.S.Source.tells l.initial.source
+      → g.S.Source.left l.initial.source ≡ l.input.items ++ g.S.Source.left l.source;
+  told : g.S.Source.tells l.initial.source → g.S.Source.tells l.source;
+  never_falls : g.S.Source.faults l.initial.source ≤ g.S.Source.faults l.source;
+}
+
+abbrev pub decreases-chunks : goal.decreases-chunks
+decreases-chunks g l = 16777217 - vec_len l.input

@@ -1,0 +1,18 @@
+-- The text is the outcome of all bytes that the source had.
+use Rattle.std.proofs.Common.{◌∙◌, ap, subst, Err}
+use Rattle.std.specs.Prelude.{IfErr}
+use Rattle.picky_convert.specs.Run.{outcome, Explains}
+use Rattle.picky_convert.proofs.CauseLemmas.{can_come, explained, outcome_long}
+use Rattle.picky_convert.proofs.program.take_text.Goals as goal
+
+pub returns-in-Ok-clause-known : goal.returns-in-Ok-clause-known
+returns-in-Ok-clause-known g c = can_come _ c.convert_bytes.result c.as_slice.result.now _ c.convert_bytes.ensures
+
+pub returns-in-Ok-clause-refused : goal.returns-in-Ok-clause-refused
+returns-in-Ok-clause-refused g c = λ told.
+    let whole = c.as_slice.ensures.value ∙ c.in-Ok.ensures.whole told in
+    subst (λ input. IfErr c.convert_bytes.result (λ status. Explains status (outcome input))) whole
+    (explained _ c.convert_bytes.result c.as_slice.result.now c.convert_bytes.ensures)
+
+pub returns-in-Err-TooLong-clause-refused : goal.returns-in-Err-TooLong-clause-refused
+returns-in-Err-TooLong-clause-refused g c = λ told. outcome_long _ (c.in-Err-TooLong.ensures.too_long told (ap Err c.in-Err-TooLong.field-0-is))

@@ -1,0 +1,9 @@
+pub mod FromWire
+pub mod PublicLine
+pub mod LineRefusal
+pub mod PuttyPublic
+pub mod Command
+pub mod Convert
+pub mod Report
+pub mod Memory
+pub mod Run

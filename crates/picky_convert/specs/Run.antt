@@ -1,0 +1,77 @@
+-- A run: what it writes for the bytes of its source, and how it ends.
+use Rattle.std.specs.Prelude.{◌≡◌, ◌++◌, ◌≤◌, ◌<◌, List, ℕ, length, take, nat_lt, Result, Err, if◌then◌else◌, false}
+use Rattle.std.specs.Str.{IsUtf8, is_utf8}
+use Rattle.picky_layout.specs.Outcome.{map_err}
+use Rattle.picky_convert.specs.declared.error.Status.{Status}
+use Rattle.picky_convert.specs.declared.error.Status.TheVariants as statuses
+use Rattle.picky_convert.specs.PublicLine.{Meaning}
+use Rattle.picky_convert.specs.Memory.{wants_memory}
+use Rattle.picky_convert.specs.Convert.{Reads, Carries, Spells, ReadsBack, conversion}
+
+-- how many bytes a source may have
+abbrev pub input_limit : ℕ
+input_limit = 16777216
+
+-- the text that is written for these bytes, or the status that says why none is
+unfoldable pub outcome : List ℕ → Result (List ℕ) Status
+outcome input =
+    if nat_lt input_limit (length input) then Err statuses.InputTooLong
+    else if is_utf8 input then map_err statuses.Refused (conversion input)
+    else Err statuses.InputNotUtf8
+
+-- the bytes are a key text that the conversion carries
+pub record IsValid (input : List ℕ) : Type 0 where
+  pub short : length input ≤ input_limit
+  pub utf8 : IsUtf8 input
+  pub meaning : Meaning
+  pub reads : Reads input meaning
+  pub carries : Carries meaning
+
+-- the text is the one that spells what the input means, and it is read back
+pub record IsTextOf (input text : List ℕ) : Type 0 where
+  pub meaning : Meaning
+  pub reads : Reads input meaning
+  pub spells : Spells meaning text
+  pub only : (other : List ℕ) → Spells meaning other → other ≡ text
+  pub read_back : ReadsBack text meaning
+
+-- that text was written after these bytes
+pub record Converts (input before after : List ℕ) : Type 0 where
+  pub text : List ℕ
+  pub is_of : IsTextOf input text
+  pub written : after ≡ before ++ text
+
+-- a front of that text was written after these bytes
+pub record WritesPrefix (input before after : List ℕ) : Type 0 where
+  pub text : List ℕ
+  pub is_of : IsTextOf input text
+  pub len : ℕ
+  pub written : after ≡ before ++ take len text
+
+-- a front of the text was written, and all of it unless a fault was counted
+pub record WritesFront (text before after : List ℕ) (fault : Type 0) : Type 0 where
+  pub len : ℕ
+  pub written : after ≡ before ++ take len text
+  pub fault_if_cut : len < length text → fault
+
+-- the status says why no text is taken from a source: for these bytes, where they are told, by their outcome
+abbrev pub Explains : Status → Result (List ℕ) Status → Type 0
+Explains statuses.Done for_input = ⊥
+Explains statuses.Usage for_input = ⊥
+Explains statuses.WriteFault for_input = ⊥
+Explains statuses.ReadFault for_input = Unit {0}
+Explains statuses.NoMemory for_input = Unit {0}
+Explains (statuses.Refused e) for_input = for_input ≡ Err (statuses.Refused e)
+Explains statuses.InputTooLong for_input = for_input ≡ Err statuses.InputTooLong
+Explains statuses.InputNotUtf8 for_input = for_input ≡ Err statuses.InputNotUtf8
+
+-- the same, whether or not the bytes are told
+abbrev pub CanCome : Status → Type 0 → Type 0
+CanCome statuses.Done fault = ⊥
+CanCome statuses.Usage fault = ⊥
+CanCome statuses.WriteFault fault = ⊥
+CanCome statuses.ReadFault fault = fault
+CanCome statuses.NoMemory fault = Unit {0}
+CanCome (statuses.Refused e) fault = wants_memory e ≡ false
+CanCome statuses.InputTooLong fault = Unit {0}
+CanCome statuses.InputNotUtf8 fault = Unit {0}
