@@ -9,7 +9,7 @@ use Rattle.std.specs.Prelude.{IfErr}
 use Rattle.picky_wire.specs.Gives.{Gives}
 use Rattle.picky_layout.specs.Flaw.{Why, Reason, Short, NotUtf8, Big, Flawed, Length, Magic, Name, Number}
 use Rattle.picky_layout.specs.Outcome.{and_then, map_err}
-use Rattle.picky_layout.specs.Ed25519.{ssh_ed25519, ed25519_blob}
+use Rattle.picky_convert.specs.Ed25519.{ssh_ed25519, ed25519_blob}
 use Rattle.picky_text.specs.Base64.{decoded}
 use Rattle.picky_text.specs.Words.{first_word, body_word, comment_of}
 use Rattle.picky_convert.specs.declared.error.SshPublicKeyError.{SshPublicKeyError}

@@ -2,7 +2,7 @@
 use Rattle.std.proofs.Common.{◌≡◌, ℕ, List, length, true, false, ◌==◌, Some, None, Ok, Err, refl, arith}
 use Rattle.std.specs.Str.{bytes_eq}
 use Rattle.picky_layout.specs.Wire.{string}
-use Rattle.picky_layout.specs.Ed25519.{ssh_ed25519, ed25519_blob}
+use Rattle.picky_convert.specs.Ed25519.{ssh_ed25519, ed25519_blob}
 use Rattle.picky_text.specs.Base64.{decoded}
 use Rattle.picky_text.specs.Words.{first_word, body_word, comment_of}
 use Rattle.picky_wire.specs.Count.{Rose}

@@ -5,7 +5,7 @@ use Rattle.std.specs.Str.{IsUtf8, bytes_eq}
 use Rattle.std.specs.Option.{ok_or}
 use Rattle.picky_layout.specs.Outcome.{and_then_ok, map_err, map_err_ok}
 use Rattle.picky_layout.specs.Grammar.{Fits}
-use Rattle.picky_layout.specs.Ed25519.{ssh_ed25519, ed25519_blob}
+use Rattle.picky_convert.specs.Ed25519.{ssh_ed25519, ed25519_blob}
 use Rattle.picky_text.specs.Base64.{decoded}
 use Rattle.picky_text.specs.Base64Laws.{base64_is_read_back, base64_is_of_what_it_gives, decoded_is_bytes}
 use Rattle.picky_text.specs.Words.{first_word, after_word, body_word, comment_of}

@@ -5,7 +5,7 @@ use Rattle.std.proofs.lemmas.Str.{IsUtf8-from_is_utf8}
 use Rattle.std.specs.List.{list_any}
 use Rattle.std.specs.Str.{IsUtf8, is_utf8}
 use Rattle.picky_layout.specs.Outcome.{and_then, and_then_ok, map_err, map_err_ok, guard_ok}
-use Rattle.picky_layout.specs.Ed25519.{ed25519_blob_of}
+use Rattle.picky_convert.specs.Ed25519.{ed25519_blob_of}
 use Rattle.picky_convert.specs.declared.error.ConvertError.TheVariants as convert
 use Rattle.picky_convert.specs.declared.error.Status.TheVariants as statuses
 use Rattle.picky_convert.specs.PublicLine.{Meaning}

@@ -5,7 +5,7 @@ use Rattle.std.proofs.lemmas.List.{append-nil}
 use Rattle.std.proofs.lemmas.Bool.{cases_Bool, eq-eqb, ne_eqb}
 use Rattle.picky_layout.specs.Numbers.{IsBytes, bytes_in_front}
 use Rattle.picky_layout.specs.Grammar.{Fits}
-use Rattle.picky_layout.specs.Ed25519.{ed25519_blob, ed25519_blob_of, ed25519_blob_spells, ed25519_blob_exact}
+use Rattle.picky_convert.specs.Ed25519.{ed25519_blob, ed25519_blob_of, ed25519_blob_spells, ed25519_blob_exact}
 use Rattle.picky_text.specs.Base64.{base64_of}
 use Rattle.picky_text.specs.Base64Laws.{base64_has_no}
 use Rattle.picky_text.specs.Rows.{rows_of}

@@ -2,7 +2,7 @@
 use Rattle.std.specs.Prelude.{List, ℕ, ◌==◌, Result, Ok, Err, if◌then◌else◌}
 use Rattle.std.specs.List.{list_any}
 use Rattle.picky_layout.specs.Outcome.{and_then, map_err}
-use Rattle.picky_layout.specs.Ed25519.{ed25519_blob_of}
+use Rattle.picky_convert.specs.Ed25519.{ed25519_blob_of}
 use Rattle.picky_text.specs.Lines.{HasNo}
 use Rattle.picky_convert.specs.declared.error.SshPublicKeyError.{SshPublicKeyError}
 use Rattle.picky_convert.specs.declared.error.ConvertError.{ConvertError}

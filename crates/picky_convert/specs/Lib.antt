@@ -1,3 +1,4 @@
+pub mod Ed25519
 pub mod FromWire
 pub mod PublicLine
 pub mod LineRefusal

@@ -2,7 +2,7 @@
 use Rattle.std.specs.Prelude.{◌≡◌, List, ℕ}
 use Rattle.picky_layout.specs.Numbers.{IsBytes}
 use Rattle.picky_layout.specs.Grammar.{Fits}
-use Rattle.picky_layout.specs.Ed25519.{ssh_ed25519, ed25519_blob}
+use Rattle.picky_convert.specs.Ed25519.{ssh_ed25519, ed25519_blob}
 use Rattle.picky_text.specs.Base64.{base64_of}
 use Rattle.picky_text.specs.Words.{first_word, body_word, comment_of}
 

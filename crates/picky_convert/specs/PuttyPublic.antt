@@ -3,7 +3,7 @@ use Rattle.std.specs.Prelude.{◌≡◌, ◌≢◌, List, [], ◌∷◌, ◌++�
 use Rattle.std.specs.List.{concat, AllByRecursion}
 use Rattle.picky_layout.specs.Numbers.{IsBytes}
 use Rattle.picky_layout.specs.Grammar.{Fits}
-use Rattle.picky_layout.specs.Ed25519.{ed25519_blob}
+use Rattle.picky_convert.specs.Ed25519.{ed25519_blob}
 use Rattle.picky_text.specs.Base64.{base64_of}
 use Rattle.picky_text.specs.Rows.{IsRowsOf, rows_of}
 use Rattle.picky_text.specs.Lines.{lines, text_of, HasNo}

@@ -2,7 +2,7 @@
 
 ghost use Rattle.std.specs.Prelude.{◌≡◌, ◌==◌, ℕ, List, length, Some, None, if◌then◌else◌};
 ghost use Rattle.std.specs.Str.{bytes_eq};
-ghost use Rattle.picky_layout.specs.Ed25519.{ssh_ed25519};
+ghost use Rattle.picky_convert.specs.Ed25519.{ssh_ed25519};
 ghost use Rattle.picky_wire.specs.Gives.{Gives};
 ghost use Rattle.picky_convert.specs.LineRefusal.{blob_key, line_meaning};
 ghost use Rattle.picky_convert.specs.Memory.{line_no_memory};
@@ -67,7 +67,7 @@ fn read_blob(alloc: Global, blob: &[u8]) -> Result<[u8; 32], SshPublicKeyError>
 }
 
 /// Whether the name is the one that is read here.
-#[tactic(auto, unfolding(picky_layout::specs::Ed25519::ssh_ed25519))]
+#[tactic(auto, unfolding(crate::specs::Ed25519::ssh_ed25519))]
 fn is_ed25519(name: &[u8]) -> bool
     ensures { result ≡ bytes_eq name.now ssh_ed25519 }
 {

@@ -2,7 +2,7 @@
 
 ghost use Rattle.std.specs.Prelude.{◌≡◌, ◌++◌, ◌^◌, ◌<◌, length, IfOk, OnOk, string_bytes};
 ghost use Rattle.picky_layout.specs.Wire.{string_of};
-ghost use Rattle.picky_layout.specs.Ed25519.{ed25519_blob_of};
+ghost use Rattle.picky_convert.specs.Ed25519.{ed25519_blob_of};
 ghost use Rattle.picky_convert.specs.PuttyPublic.{putty_public};
 
 use crate::line::ED25519;
@@ -32,7 +32,7 @@ pub fn putty_text(alloc: Global, key: &[u8; 32], comment: &str) -> Result<String
 }
 
 /// The one blob of a key that is written.
-#[tactic(auto, unfolding(picky_layout::specs::Ed25519::ed25519_blob_of, picky_layout::specs::Ed25519::ssh_ed25519))]
+#[tactic(auto, unfolding(crate::specs::Ed25519::ed25519_blob_of, crate::specs::Ed25519::ssh_ed25519))]
 fn ed25519_blob(alloc: Global, key: &[u8; 32]) -> Result<Vec<u8>, AllocError>
     ensures { IfOk result (λ blob. blob.items ≡ ed25519_blob_of key.now) }
 {

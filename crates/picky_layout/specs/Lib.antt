@@ -18,4 +18,3 @@ pub mod Row
 pub mod Solid
 pub mod Steps
 pub mod Many
-pub mod Ed25519

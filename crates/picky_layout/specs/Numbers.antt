@@ -1,9 +1,9 @@
 -- The numbers of SSH's wire, and their one spelling (RFC 4251, section 5).
-use Rattle.std.specs.Prelude.{◌≡◌, List, [], ◌∷◌, ℕ, ◌+◌, ◌++◌, ◌<◌, ◌^◌, ◌%◌, length, slice_index, Ok}
+use Rattle.std.specs.Prelude.{◌≡◌, List, [], ◌∷◌, ℕ, ◌+◌, ◌++◌, ◌<◌, ◌^◌, ◌%◌, length, take, drop, slice_index, Ok}
 use Rattle.std.specs.Int.{Width, w8, w32, w64, byte_len, from_be_bytes, to_be_bytes}
 use Rattle.std.proofs.Common.{sym, ◌∙◌, ap, subst, refl, arith, inl, inr}
 use Rattle.std.proofs.lemmas.Bool.{cases_lt}
-use Rattle.std.proofs.lemmas.List.{get_or_append_left, get_or-append-add, get_or_past}
+use Rattle.std.proofs.lemmas.List.{get_or_append_left, get_or-append-add, get_or_past, take-append-drop}
 use Rattle.std.proofs.lemmas.Nat.{be_bytes_4, be_bytes_8, from_be_bytes-to_be_bytes_4, from_be_bytes-to_be_bytes_8}
 use Rattle.picky_layout.specs.Flaw.{Flaw}
 use Rattle.picky_layout.specs.Grammar.{Grammar}
@@ -31,6 +31,14 @@ bytes_in_front x y each i = elim (cases_lt i (length x)) [
 pub bytes_behind : (x y : List ℕ) → IsBytes (x ++ y) → IsBytes y
 bytes_behind x y each i =
     subst (λ b. b < 256) (get_or-append-add x y i 0) (each (length x + i))
+
+pub front_bytes : (n : ℕ) (bytes : List ℕ) → IsBytes bytes → IsBytes (take n bytes)
+front_bytes n bytes each =
+    bytes_in_front (take n bytes) (drop n bytes) (subst IsBytes (sym (take-append-drop n bytes)) each)
+
+pub back_bytes : (n : ℕ) (bytes : List ℕ) → IsBytes bytes → IsBytes (drop n bytes)
+back_bytes n bytes each =
+    bytes_behind (take n bytes) (drop n bytes) (subst IsBytes (sym (take-append-drop n bytes)) each)
 
 -- ---- the spelling is a piece, and is read back whatever follows
 

@@ -1,13 +1,14 @@
 -- What the laws of the wire say: which bytes are read as which value, and which are refused.
 use Rattle.std.specs.Prelude.{◌≡◌, List, [], ◌∷◌, ℕ, zero, suc, ◌++◌, ◌<◌, ◌^◌, length, Result, Ok, Err}
 use Rattle.std.specs.List.{flat_map}
-use Rattle.std.proofs.Common.{refl, sym, ◌∙◌, ap, append_assoc}
+use Rattle.std.proofs.Common.{refl, sym, ◌∙◌, ap, subst, append_assoc}
 use Rattle.picky_layout.specs.Outcome.{and_then, map_err}
 use Rattle.picky_layout.specs.Grammar.{Grammar, Fits, OneFront, one_front, refused_has_none}
 use Rattle.picky_layout.specs.Combine.{narrow, tag, meant}
 use Rattle.picky_layout.specs.Refused.{one_reason, Answer, Found, Refused, fits_or_refused}
 use Rattle.picky_layout.specs.Row.{Solid, Row, after, read_all}
 use Rattle.picky_layout.specs.Many.{row}
+use Rattle.picky_layout.specs.Numbers.{IsBytes, bytes_in_front}
 use Rattle.picky_layout.specs.Inside.{begins}
 use Rattle.picky_layout.specs.Wire.{string, string_of}
 use Rattle.picky_layout.specs.Strings.{string_spells}
@@ -50,6 +51,27 @@ layout_is_read G = record {
   reason = λ bytes none. has_reason G bytes (fits_or_refused G bytes) none;
   one_reason = one_reason G;
 }
+
+-- ---- what is taken where the bytes are bytes
+
+-- What is read in front is spelled there by bytes.
+pub fits_of_bytes : {E A : Type 0} (G : Grammar E A) (exact : A → List ℕ → Type 0)
+    → ((v : A) (piece : List ℕ) → IsBytes piece → G.piece v piece → exact v piece)
+    → (bytes : List ℕ) (v : A) (rest : List ℕ) → IsBytes bytes → G.read bytes ≡ Ok (v, rest)
+    → Fits exact v bytes rest
+fits_of_bytes G exact each_is bytes v rest each is =
+    let fits = G.sound bytes v rest is in
+    let front = bytes_in_front fits.0 rest (subst IsBytes fits.2 each) in
+    (fits.0, each_is v fits.0 front fits.1, fits.2)
+
+-- Where bytes have one spelling of a value, that spelling is what was read.
+pub spelling_of_bytes : {E A : Type 0} (G : Grammar E A) (spelling : A → List ℕ) (keeps : A → Type 0)
+    → ((v : A) (piece : List ℕ) → IsBytes piece → G.piece v piece → (piece ≡ spelling v) × keeps v)
+    → (bytes : List ℕ) (v : A) (rest : List ℕ) → IsBytes bytes → G.read bytes ≡ Ok (v, rest)
+    → (bytes ≡ spelling v ++ rest) × keeps v
+spelling_of_bytes G spelling keeps one bytes v rest each is =
+    let fits = fits_of_bytes G (λ w piece. (piece ≡ spelling w) × keeps w) one bytes v rest each is in
+    (fits.2 ∙ ap (λ f. f ++ rest) fits.1.0, fits.1.1)
 
 -- ---- lists
 

@@ -1,7 +1,7 @@
 //! The laws of the wire's layouts, each as the contract of a function that does nothing.
 
 ghost use Rattle.std.specs.Prelude.{◌≡◌, ◌^◌, ◌<◌, ◌≤◌, ◌++◌, ◌∷◌, ◌↔◌, ℕ, List, All, Ok, Err, length, slice_index, IsUtf8};
-ghost use Rattle.std.specs.Int.{w32, w64, to_be_bytes};
+ghost use Rattle.std.specs.Int.{w8, w32, w64, to_be_bytes};
 ghost use Rattle.std.specs.List.{flat_map};
 ghost use Rattle.picky_layout.specs.Wire.{uint32, string, string_of, text};
 ghost use Rattle.picky_layout.specs.Numbers.{IsBytes, byte, uint64};
@@ -10,6 +10,7 @@ ghost use Rattle.picky_wire.specs.Laws.{IsReading, IsStuck};
 ghost use Rattle.picky_wire.specs.ListOf.{ListPiece, InsidePiece, items_of, list_of, inside_of};
 
 use crate::element::SshElement;
+use crate::source::Source;
 
 /// Each field is read one way or refused for one reason, and no piece is a proper front of another.
 pub fn fields_are_read_one_way()
@@ -74,4 +75,29 @@ pub fn mpint_pieces_are_the_standards()
     ensures canonical { (v : List ℕ) → IsMpint v → mpint.piece v (mpint_of v) }
     ensures high { (v : List ℕ) → 128 ≤ slice_index v 0 → mpint_of v ≡ string_of (0 ∷ v) }
     ensures low { (v : List ℕ) → slice_index v 0 < 128 → mpint_of v ≡ string_of v }
+{}
+
+/// A field that is read from a source that tells its bytes is the standard's piece, and no byte more was
+/// taken (RFC 4251, section 5). The second premise is what a field read says of its Ok, in `field`.
+pub fn fields_take_the_standards_pieces<S: Source>()
+    ensures byte { (before after : S) (n : ℕ) → S.tells before
+        → byte.read (S.left before) ≡ Ok (n, S.left after)
+        → (S.left before ≡ to_be_bytes w8 n ++ S.left after) × (n < 2 ^ 8) }
+    ensures uint32 { (before after : S) (n : ℕ) → S.tells before
+        → uint32.read (S.left before) ≡ Ok (n, S.left after)
+        → (S.left before ≡ to_be_bytes w32 n ++ S.left after) × (n < 2 ^ 32) }
+    ensures uint64 { (before after : S) (n : ℕ) → S.tells before
+        → uint64.read (S.left before) ≡ Ok (n, S.left after)
+        → (S.left before ≡ to_be_bytes w64 n ++ S.left after) × (n < 2 ^ 64) }
+    ensures string { (before after : S) (v : List ℕ) → S.tells before
+        → string.read (S.left before) ≡ Ok (v, S.left after)
+        → (S.left before ≡ string_of v ++ S.left after) × (length v < 2 ^ 32) }
+    ensures text { (before after : S) (v : List ℕ) → S.tells before
+        → text.read (S.left before) ≡ Ok (v, S.left after)
+        → (S.left before ≡ string_of v ++ S.left after) × (length v < 2 ^ 32) × IsUtf8 v }
+
+    // An mpint's piece is the string of its bytes after any zeros.
+    ensures mpint { (before after : S) (v : List ℕ) → S.tells before
+        → mpint.read (S.left before) ≡ Ok (v, S.left after)
+        → (piece : List ℕ) × IsMpintPiece v piece × (S.left before ≡ piece ++ S.left after) }
 {}

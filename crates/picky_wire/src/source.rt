@@ -1,7 +1,8 @@
 //! Where bytes come from.
 
-ghost use Rattle.std.specs.Prelude.{◌≡◌, ◌^◌, ◌<◌, ◌≤◌, ◌-◌, ◌++◌, ◌↔◌, [], ℕ, List, Option, Some, None, true, take, drop, length, min, IfOk, OnOk, OnErr, IsErr, vec_len};
+ghost use Rattle.std.specs.Prelude.{◌≡◌, ◌^◌, ◌<◌, ◌≤◌, ◌-◌, ◌++◌, ◌↔◌, [], ℕ, List, Option, Some, None, true, take, drop, length, min, IfOk, OnOk, OnErr, IsOk, IsErr, vec_len};
 ghost use Rattle.std.proofs.Common.{arith, lit<};
+ghost use Rattle.picky_layout.specs.Numbers.{IsBytes};
 ghost use Rattle.picky_wire.specs.Count.{Rose, next_fails, failed};
 ghost use Rattle.picky_wire.specs.Memory.{Given, given, after_given};
 
@@ -41,6 +42,9 @@ pub trait Source {
 
     ghost knows: { (s : Self) (n : ℕ) → tells s → known s ≡ Some n → length (left s) ≡ n };
 
+    // what a source tells is bytes
+    ghost bytes: { (s : Self) → tells s → IsBytes (left s) };
+
     ghost in_range: { (s : Self) → faults s < 2 ^ 64 };
 }
 
@@ -54,19 +58,23 @@ impl<'a> Model for SliceSource<'a> {
     ghost Value = { List ℕ };
 
     ghost view = { λ s. s.rest.now };
+
+    ghost invariant = { λ s. IsBytes s.rest.now };
 }
 
 impl<'a> SliceSource<'a> {
     /// A source that gives these bytes.
     pub fn new(bytes: &'a [u8]) -> SliceSource<'a>
-        ensures { result ≡ bytes.now }
+        ensures left { result ≡ bytes.now }
+        ensures bytes { IsBytes result }
     {
         SliceSource { rest: bytes }
     }
 
     /// The bytes that are still to come.
     pub fn rest(&self) -> &'a [u8]
-        ensures { result.now ≡ self.now }
+        ensures left { result.now ≡ self.now }
+        ensures bytes { IsBytes self.now }
     {
         self.rest
     }
@@ -75,7 +83,8 @@ impl<'a> SliceSource<'a> {
 impl Source for SliceSource<'_> {
     ghost left = { λ s. s };
 
-    ghost tells = { λ _. Unit {0} };
+    // the view forgets that these numbers are bytes
+    ghost tells = { IsBytes };
 
     ghost known = { λ s. Some (length s) };
 
@@ -83,9 +92,22 @@ impl Source for SliceSource<'_> {
 
     ghost knows = { λ s n _ same. Prim.cc same };
 
+    ghost bytes = { λ s told. told };
+
     ghost in_range = { λ _. lit< tt };
 
-    fn read(&mut self, buffer: &mut [u8]) -> Result<usize, Failed> {
+    fn read(&mut self, buffer: &mut [u8]) -> Result<usize, Failed>
+        ensures passes { IsOk result }
+
+        // What every source promises; here it tells its bytes always.
+        ensures bound { IfOk result (λ n. n ≤ length buffer.old) }
+        ensures taken { IfOk result (λ n. self.old ≡ take n buffer.new ++ self.new) }
+        ensures end { result ≡ Ok 0 → 0 < length buffer.old → self.old ≡ [] }
+        ensures kept { OnErr result (self.new ≡ self.old) }
+        ensures told { IsBytes self.new }
+        ensures failed_only_if_counted { OnErr result (Rose 0 0) }
+        ensures never_falls { 0 ≤ 0 }
+    {
         let n = buffer.len().min(self.rest.len());
         let (front, rest) = self.rest.split_at(n);
         buffer[..n].copy_from_slice(front);
@@ -112,7 +134,7 @@ impl Model for MemorySource {
 
     ghost view = { λ s. record { left = drop s.at s.content.items; step = s.step; calls = s.calls } };
 
-    ghost invariant = { λ s. (s.at ≤ vec_len s.content) × (1 ≤ s.step) };
+    ghost invariant = { λ s. (s.at ≤ vec_len s.content) × (1 ≤ s.step) × IsBytes s.content.items };
 }
 
 impl MemorySource {
@@ -124,11 +146,12 @@ impl MemorySource {
         failing: &[u64],
     ) -> Result<MemorySource, NoMemory>
         requires { 1 ≤ step }
-        ensures { IfOk result (λ s. s ≡ record {
+        ensures given { IfOk result (λ s. s ≡ record {
           left = content.now;
           step = step;
           calls = record { failing = failing.now; made = 0; faults = 0 };
         }) }
+        ensures bytes { IfOk result (λ s. IsBytes s.left) }
     {
         let calls = FailingCalls::new(alloc, failing)?;
         match Vec::from_slice(alloc, content) {
@@ -146,13 +169,16 @@ impl MemorySource {
 impl Source for MemorySource {
     ghost left = { λ s. s.left };
 
-    ghost tells = { λ _. Unit {0} };
+    // the view forgets that these numbers are bytes
+    ghost tells = { λ s. IsBytes s.left };
 
     ghost known = { λ _. None };
 
     ghost faults = { λ s. min s.calls.faults (2 ^ 64 - 1) };
 
     ghost knows = { λ s n _ same. Prim.cc same };
+
+    ghost bytes = { λ s told. told };
 
     ghost in_range = { λ s. Prim.omega arith };
 
@@ -163,13 +189,12 @@ impl Source for MemorySource {
         ensures counts { OnErr result
             (self.new ≡ record self.old { calls = failed self.old.calls }) }
 
-        // What every source promises.
+        // What every source promises; here it tells its bytes always.
         ensures bound { IfOk result (λ n. n ≤ length buffer.old) }
-        ensures taken { Unit {0}
-            → IfOk result (λ n. self.old.left ≡ take n buffer.new ++ self.new.left) }
-        ensures end { Unit {0} → result ≡ Ok 0 → 0 < length buffer.old → self.old.left ≡ [] }
-        ensures kept { Unit {0} → OnErr result (self.new.left ≡ self.old.left) }
-        ensures told { Unit {0} → Unit {0} }
+        ensures taken { IfOk result (λ n. self.old.left ≡ take n buffer.new ++ self.new.left) }
+        ensures end { result ≡ Ok 0 → 0 < length buffer.old → self.old.left ≡ [] }
+        ensures kept { OnErr result (self.new.left ≡ self.old.left) }
+        ensures told { IsBytes self.new.left }
         ensures failed_only_if_counted { OnErr result
             (Rose (min self.old.calls.faults (2 ^ 64 - 1))
             (min self.new.calls.faults (2 ^ 64 - 1))) }

@@ -3,7 +3,7 @@
 ghost use Rattle.std.specs.Prelude.{◌≡◌, ◌^◌, ◌<◌, ◌≤◌, ◌-◌, ◌++◌, ◌↔◌, [], ℕ, Ok, Some, None, IsSome, IfOk, OnOk, OnErr, take, length, min};
 ghost use Rattle.std.proofs.Common.{arith};
 ghost use Rattle.picky_wire.specs.Count.{Rose, count_one};
-ghost use Rattle.picky_wire.specs.Known.{known_or_nil};
+ghost use Rattle.picky_wire.specs.Known.{known_or_nil, TellsBytes};
 
 use crate::error::Failed;
 use crate::sink::Sink;
@@ -18,10 +18,10 @@ pub struct StdSource<R: Read> {
 }
 
 impl<R: Read> StdSource<R> {
-    /// A source that tells what the reader tells. No fault was counted yet.
+    /// A source that tells what the reader tells, where that is bytes. No fault was counted yet.
     pub fn new(inner: R) -> StdSource<R>
         ensures left { ⟦<StdSource<R> as Source>⟧.left result ≡ known_or_nil (R.remaining inner) }
-        ensures tells { ⟦<StdSource<R> as Source>⟧.tells result ↔ IsSome (R.remaining inner) }
+        ensures tells { ⟦<StdSource<R> as Source>⟧.tells result ↔ TellsBytes (R.remaining inner) }
         ensures faults { ⟦<StdSource<R> as Source>⟧.faults result ≡ 0 }
     {
         StdSource { inner, faults: 0 }
@@ -31,7 +31,7 @@ impl<R: Read> StdSource<R> {
 impl<R: Read> Source for StdSource<R> {
     ghost left = { λ s. known_or_nil (R.remaining s.inner) };
 
-    ghost tells = { λ s. IsSome (R.remaining s.inner) };
+    ghost tells = { λ s. TellsBytes (R.remaining s.inner) };
 
     ghost known = { λ _. None };
 
@@ -39,11 +39,14 @@ impl<R: Read> Source for StdSource<R> {
 
     ghost knows = { λ s n _ same. Prim.cc same };
 
+    ghost bytes = { λ s told. told.1 };
+
     ghost in_range = { λ s. Prim.omega arith };
 
     fn read(&mut self, buffer: &mut [u8]) -> Result<usize, Failed>
         ensures counts { OnErr result (min self.new.faults (2 ^ 64 - 1) ≡ count_one (min self.old.faults (2 ^ 64 - 1))) }
         ensures counts_no_more { OnOk result (self.new.faults ≡ self.old.faults) }
+        ensures still_known { IsSome (R.remaining self.old.inner) → IsSome (R.remaining self.new.inner) }
 
         // What every source promises.
         ensures bound { IfOk result (λ n. n ≤ length buffer.old) }
@@ -53,7 +56,7 @@ impl<R: Read> Source for StdSource<R> {
             → known_or_nil (R.remaining self.old.inner) ≡ [] }
         ensures kept { IsSome (R.remaining self.old.inner)
             → OnErr result (known_or_nil (R.remaining self.new.inner) ≡ known_or_nil (R.remaining self.old.inner)) }
-        ensures told { IsSome (R.remaining self.old.inner) → IsSome (R.remaining self.new.inner) }
+        ensures told { TellsBytes (R.remaining self.old.inner) → TellsBytes (R.remaining self.new.inner) }
         ensures failed_only_if_counted { OnErr result (Rose (min self.old.faults (2 ^ 64 - 1)) (min self.new.faults (2 ^ 64 - 1))) }
         ensures never_falls { min self.old.faults (2 ^ 64 - 1) ≤ min self.new.faults (2 ^ 64 - 1) }
     {

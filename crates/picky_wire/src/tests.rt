@@ -2,6 +2,7 @@
 
 ghost use Rattle.std.specs.Prelude.{None};
 ghost use Rattle.std.proofs.Common.{lit<};
+ghost use Rattle.picky_layout.specs.Numbers.{IsBytes};
 
 use crate::{
     Bytes, Failed, FailingCalls, List, MemorySink, MemorySource, Mpint, Sink, SliceSource, Source,
@@ -410,13 +411,15 @@ struct Asked<'a> {
 impl Source for Asked<'_> {
     ghost left = { λ s. s.bytes };
 
-    ghost tells = { λ _. Unit {0} };
+    ghost tells = { λ s. IsBytes s.bytes };
 
     ghost known = { λ _. None };
 
     ghost faults = { λ _. 0 };
 
     ghost knows = { λ s n _ same. Prim.cc same };
+
+    ghost bytes = { λ s told. told };
 
     ghost in_range = { λ _. lit< tt };
 
@@ -518,6 +521,7 @@ fn elements_are_read_back(rt: HostRuntime) -> Result<(), Fail> {
         Timestamp::write_refusal(WireError::WriteFault),
         WireError::WriteFault
     );
+    laws::fields_take_the_standards_pieces::<MemorySource>();
     laws::elements_are_read_one_way::<Timestamp>();
     laws::elements_are_read_back::<Text>();
     laws::blocks_are_refused_at_one_place::<Text>();

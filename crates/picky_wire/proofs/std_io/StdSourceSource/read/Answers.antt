@@ -1,0 +1,16 @@
+-- What is left of bytes is bytes.
+use Rattle.std.proofs.Common.{List, ℕ, Option, Some, None, refl, subst}
+use Rattle.std.specs.Io.KnownBytes.{Consumes}
+use Rattle.picky_layout.specs.Numbers.{IsBytes, bytes_behind}
+use Rattle.picky_wire.specs.Known.{TellsBytes}
+use Rattle.picky_wire.proofs.std_io.StdSourceSource.read.Goals as goal
+
+still_tells : (old new : Option (List ℕ)) (front : List ℕ) → Consumes old new front
+    → TellsBytes old → TellsBytes new
+still_tells None new front consumes tells = cc tells.0
+still_tells (Some xs) None front consumes tells = absurd consumes
+still_tells (Some xs) (Some ys) front consumes tells =
+    (refl, bytes_behind front ys (subst IsBytes consumes tells.1))
+
+pub returns-in-Ok-clause-told : goal.returns-in-Ok-clause-told
+returns-in-Ok-clause-told g c = λ told. still_tells _ _ _ c.in-Ok.ensures.bytes.0 told
