@@ -42,9 +42,17 @@ pub record LeavesRest (before after : List ℕ) : Type 0 where
   pub taken : List ℕ
   pub are : before ≡ taken ++ after
 
--- a fault of the source is answered only where one was counted
-abbrev pub OnlyIfCounted : {A : Type 0} → Result A SshPublicKeyError → Type 0 → Type 0
-OnlyIfCounted result fault = IfErr result (λ e. e ≡ errors.IoError kinds.ReadFault → fault)
+-- why no blob is read: a fault was counted, the bytes are refused for a field, or memory ran out
+abbrev pub StopsReading : SshPublicKeyError → Type 0 → Type 0
+StopsReading (errors.IoError kinds.ReadFault) fault = fault
+StopsReading (errors.IoError kinds.WriteFault) fault = ⊥
+StopsReading (errors.IoError kinds.UnexpectedEnd) fault = Unit {0}
+StopsReading errors.InvalidUtf8 fault = Unit {0}
+StopsReading errors.Base64DecodeError fault = ⊥
+StopsReading errors.UnknownKeyType fault = Unit {0}
+StopsReading errors.KeyError fault = Unit {0}
+StopsReading errors.TooLong fault = Unit {0}
+StopsReading errors.NoMemory fault = Unit {0}
 
 -- writing stops only where the sink counted a fault
 abbrev pub StopsOnlyAt : {A : Type 0} → Result A SshPublicKeyError → Type 0 → Type 0

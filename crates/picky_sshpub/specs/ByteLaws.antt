@@ -1,14 +1,14 @@
 -- Which lists are bytes, words and text: fronts, joins, strings, numbers and names.
-use Rattle.std.specs.Prelude.{◌≡◌, Bool, true, false, if◌then◌else◌, List, [], ◌∷◌, ℕ, zero, suc, ◌+◌, ◌-◌, ◌++◌, ◌<◌, nat_lt, length, take, drop, slice_index, ◌==◌}
+use Rattle.std.specs.Prelude.{◌≡◌, Bool, true, false, if◌then◌else◌, List, [], ◌∷◌, ℕ, zero, suc, ◌+◌, ◌-◌, ◌++◌, ◌<◌, nat_lt, length, slice_index, ◌==◌}
 use Rattle.std.specs.Int.{w32, to_be_bytes}
 use Rattle.std.specs.List.{list_all, list_any, position_or_len}
 use Rattle.std.proofs.Common.{sym, subst, refl, arith, inl, inr}
 use Rattle.std.proofs.lemmas.Bool.{cases_lt, cases_Bool, ltb-true, eq-eqb}
-use Rattle.std.proofs.lemmas.List.{get_or_append_left, get_or-append-add, get_or_past, take-append-drop}
+use Rattle.std.proofs.lemmas.List.{get_or_append_left, get_or-append-add, get_or_past}
 use Rattle.std.proofs.lemmas.List.Sums.{AllPass-from_list_all}
 use Rattle.picky_layout.specs.Wire.{string_of}
 use Rattle.picky_layout.specs.Mpint.{mpint_of, mpint_of_high, mpint_of_low}
-use Rattle.picky_layout.specs.Numbers.{IsBytes, bytes_in_front, bytes_behind}
+use Rattle.picky_layout.specs.Numbers.{IsBytes, front_bytes, back_bytes}
 use Rattle.picky_keys.specs.declared.curve.EcCurve.{EcCurve}
 use Rattle.picky_keys.specs.declared.curve.EcCurve.TheVariants.{NistP256, NistP384, NistP521}
 use Rattle.picky_keys.specs.declared.curve.EdAlgorithm.TheVariants.{Ed25519}
@@ -64,14 +64,6 @@ bytes_by_test bytes all i = elim (cases_lt i (length bytes)) [
 
 -- ---- the words of bytes
 
-pub front_bytes : (n : ℕ) (bytes : List ℕ) → IsBytes bytes → IsBytes (take n bytes)
-front_bytes n bytes each =
-    bytes_in_front (take n bytes) (drop n bytes) (subst IsBytes (sym (take-append-drop n bytes)) each)
-
-pub back_bytes : (n : ℕ) (bytes : List ℕ) → IsBytes bytes → IsBytes (drop n bytes)
-back_bytes n bytes each =
-    bytes_behind (take n bytes) (drop n bytes) (subst IsBytes (sym (take-append-drop n bytes)) each)
-
 pub word_bytes : (text : List ℕ) → IsBytes text → IsBytes (first_word text)
 unfolding first_word
 word_bytes text each = front_bytes (position_or_len ends_word text) text each
@@ -88,7 +80,8 @@ after_bytes text each =
 
 -- ---- names
 
-no_by_test : (b : ℕ) (bytes : List ℕ) → list_any (λ c. c == b) bytes ≡ false → HasNo b bytes
+-- A byte stands nowhere, by a test.
+pub no_by_test : (b : ℕ) (bytes : List ℕ) → list_any (λ c. c == b) bytes ≡ false → HasNo b bytes
 no_by_test b [] none = tt
 no_by_test b (c ∷ bytes) none = elim (cases_Bool (c == b)) [
   | inl same ↦ let found : true ≡ false = rw same at none in cc found

@@ -1,6 +1,7 @@
 pub mod FromWire
 pub mod Key
 pub mod Blob
+pub mod SizeLaws
 pub mod BlobRefusal
 pub mod BlobLaws
 pub mod BlobExact
@@ -11,3 +12,5 @@ pub mod SourceLine
 pub mod ByteLaws
 pub mod LineLaws
 pub mod SourceLaws
+pub mod KeyLaws
+pub mod CanonicalLaws

@@ -82,7 +82,7 @@ found : {A : Type 0} (o : Option A) → is_some o ≡ true → (x : A) × (o ≡
 found (Some x) is = (x, refl)
 found None is = cc is
 
-chosen : {A E : Type 0} (b : Bool) (x : Result A E) (e : E) (y : A)
+pub chosen : {A E : Type 0} (b : Bool) (x : Result A E) (e : E) (y : A)
     → (if b then x else Err e) ≡ Ok y → (b ≡ true) × (x ≡ Ok y)
 chosen true x e y same = (refl, same)
 chosen false x e y same = cc same

@@ -11,6 +11,7 @@ use Rattle.picky_sshpub.specs.declared.error.SshPublicKeyError.{SshPublicKeyErro
 use Rattle.picky_sshpub.specs.declared.error.SshPublicKeyError.TheVariants as errors
 use Rattle.picky_sshpub.specs.declared.key.SshBasePublicKey.{SshBasePublicKey}
 use Rattle.picky_sshpub.specs.declared.key.SshPublicKey.{SshPublicKey}
+use Rattle.picky_sshpub.specs.Blob.{blob_of}
 use Rattle.picky_sshpub.specs.BlobRefusal.{read_blob}
 use Rattle.picky_sshpub.specs.Line.{line_of}
 
@@ -40,9 +41,25 @@ line_meaning text =
     else Err errors.TooLong
     else Err errors.UnknownKeyType
 
+-- the blob of a key, where a length of the wire can say its length
+unfoldable pub blob_bytes : SshBasePublicKey → Result (List ℕ) SshPublicKeyError
+blob_bytes key = if is_short (blob_of key) then Ok (blob_of key) else Err errors.TooLong
+
 -- the text of the line, where a length of the wire can say its length
 unfoldable pub line_text : SshPublicKey → Result (List ℕ) SshPublicKeyError
 line_text key = if is_short (line_of key) then Ok (line_of key) else Err errors.TooLong
+
+-- why no line is read: a fault was counted, the bytes are refused, or memory ran out
+abbrev pub StopsReadingLine : SshPublicKeyError → Type 0 → Type 0
+StopsReadingLine (errors.IoError kinds.ReadFault) fault = fault
+StopsReadingLine (errors.IoError kinds.WriteFault) fault = ⊥
+StopsReadingLine (errors.IoError kinds.UnexpectedEnd) fault = Unit {0}
+StopsReadingLine errors.InvalidUtf8 fault = Unit {0}
+StopsReadingLine errors.Base64DecodeError fault = Unit {0}
+StopsReadingLine errors.UnknownKeyType fault = Unit {0}
+StopsReadingLine errors.KeyError fault = Unit {0}
+StopsReadingLine errors.TooLong fault = Unit {0}
+StopsReadingLine errors.NoMemory fault = Unit {0}
 
 -- why a line of so many bytes is not written whole: a fault was counted, or it is too long
 abbrev pub StopsLine : SshPublicKeyError → ℕ → Type 0 → Type 0

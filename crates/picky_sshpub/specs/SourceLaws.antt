@@ -24,7 +24,7 @@ use Rattle.picky_sshpub.specs.LineLaws.{IsKept, blob_bytes, body_key_of, named_o
 
 -- ---- parts are no longer than the whole
 
-word_len : (text : List ℕ) → length (first_word text) ≤ length text
+pub word_len : (text : List ℕ) → length (first_word text) ≤ length text
 unfolding first_word
 word_len text = omega (arith, length-take (position_or_len ends_word text) text)
 
@@ -32,7 +32,7 @@ either_len : (b : Bool) (x y : List ℕ) (n : ℕ) → length x ≤ n → length
 either_len true x y n left right = left
 either_len false x y n left right = right
 
-after_len : (text : List ℕ) → length (after_word text) ≤ length text
+pub after_len : (text : List ℕ) → length (after_word text) ≤ length text
 unfolding after_word
 after_len text =
     either_len (slice_index text (position_or_len ends_word text) == 32) _ [] (length text)
@@ -44,7 +44,7 @@ comment_text text utf8 =
     let rest = after_word_is_text (after_word text) (after_word_is_text text utf8) in
     IsUtf8-take (after_word (after_word text)) _ rest (boundary_of_first ends_line (after_word (after_word text)) ends_line_ascii)
 
-comment_len : (text : List ℕ) → IsUtf8 text → length (comment_of text) ≤ length text
+pub comment_len : (text : List ℕ) → IsUtf8 text → length (comment_of text) ≤ length text
 unfolding rest_of_line
 comment_len text utf8 =
     let line = before_first ends_line (after_word (after_word text)) in

@@ -1,15 +1,17 @@
 //! A public key's blob, read and written.
 
-ghost use Rattle.std.specs.Prelude.{◌≡◌, ◌^◌, ◌<◌, ◌≤◌, [], ◌∷◌, length};
+ghost use Rattle.std.specs.Prelude.{◌≡◌, ◌≢◌, ◌^◌, ◌<◌, ◌≤◌, ◌++◌, [], ◌∷◌, ℕ, List, false, Ok, Err, length, IfOk, IfErr};
 ghost use Rattle.std.specs.List.{concat};
 ghost use Rattle.picky_layout.specs.Wire.{string_of};
 ghost use Rattle.picky_layout.specs.Mpint.{mpint_of};
 ghost use Rattle.picky_keys.specs.Names.{curve_identifier};
 ghost use Rattle.picky_wire.specs.Written.{Writes};
 ghost use Rattle.picky_wire.specs.Count.{Rose};
+ghost use Rattle.picky_wire.specs.declared.error.IoKind.TheVariants as io_kinds;
+ghost use Rattle.picky_sshpub.specs.FromWire.{public_key_error, no_memory};
 ghost use Rattle.picky_sshpub.specs.Blob.{rsa_fields, ec_fields, ed_fields, sk_ecdsa_fields, sk_ed_fields, fields_of, blob, fields_spelled, blob_of};
 ghost use Rattle.picky_sshpub.specs.Key.{IsKey};
-ghost use Rattle.picky_sshpub.specs.BlobRefusal.{Takes, LeavesRest, OnlyIfCounted, StopsOnlyAt};
+ghost use Rattle.picky_sshpub.specs.BlobRefusal.{read_blob, Takes, LeavesRest, StopsReading, StopsOnlyAt};
 
 use crate::error::SshPublicKeyError;
 use crate::key::SshBasePublicKey;
@@ -31,7 +33,7 @@ pub fn take_blob<S: Source>(
 ) -> Result<SshBasePublicKey, SshPublicKeyError>
     ensures fields { S.tells stream.old → Takes blob result (S.left stream.old) (S.left stream.new) }
     ensures front { S.tells stream.old → LeavesRest (S.left stream.old) (S.left stream.new) }
-    ensures read_fault_only_if_counted { OnlyIfCounted result (Rose (S.faults stream.old) (S.faults stream.new)) }
+    ensures cause { IfErr result (λ e. StopsReading e (Rose (S.faults stream.old) (S.faults stream.new))) }
     ensures told { S.tells stream.old → S.tells stream.new }
     ensures never_falls { S.faults stream.old ≤ S.faults stream.new }
 {
@@ -48,7 +50,7 @@ fn take_fields<S: Source>(
 ) -> Result<SshBasePublicKey, SshPublicKeyError>
     ensures fields { S.tells stream.old → Takes (fields_of kind) result (S.left stream.old) (S.left stream.new) }
     ensures front { S.tells stream.old → LeavesRest (S.left stream.old) (S.left stream.new) }
-    ensures read_fault_only_if_counted { OnlyIfCounted result (Rose (S.faults stream.old) (S.faults stream.new)) }
+    ensures cause { IfErr result (λ e. StopsReading e (Rose (S.faults stream.old) (S.faults stream.new))) }
     ensures told { S.tells stream.old → S.tells stream.new }
     ensures never_falls { S.faults stream.old ≤ S.faults stream.new }
 {
@@ -65,7 +67,7 @@ fn take_fields<S: Source>(
 fn take_rsa<S: Source>(alloc: Global, stream: &mut S) -> Result<SshBasePublicKey, SshPublicKeyError>
     ensures fields { S.tells stream.old → Takes rsa_fields result (S.left stream.old) (S.left stream.new) }
     ensures front { S.tells stream.old → LeavesRest (S.left stream.old) (S.left stream.new) }
-    ensures read_fault_only_if_counted { OnlyIfCounted result (Rose (S.faults stream.old) (S.faults stream.new)) }
+    ensures cause { IfErr result (λ e. StopsReading e (Rose (S.faults stream.old) (S.faults stream.new))) }
     ensures told { S.tells stream.old → S.tells stream.new }
     ensures never_falls { S.faults stream.old ≤ S.faults stream.new }
 {
@@ -86,7 +88,7 @@ fn take_ec<S: Source>(
 ) -> Result<SshBasePublicKey, SshPublicKeyError>
     ensures fields { S.tells stream.old → Takes (ec_fields curve) result (S.left stream.old) (S.left stream.new) }
     ensures front { S.tells stream.old → LeavesRest (S.left stream.old) (S.left stream.new) }
-    ensures read_fault_only_if_counted { OnlyIfCounted result (Rose (S.faults stream.old) (S.faults stream.new)) }
+    ensures cause { IfErr result (λ e. StopsReading e (Rose (S.faults stream.old) (S.faults stream.new))) }
     ensures told { S.tells stream.old → S.tells stream.new }
     ensures never_falls { S.faults stream.old ≤ S.faults stream.new }
 {
@@ -103,7 +105,7 @@ fn take_ec<S: Source>(
 fn take_ed<S: Source>(alloc: Global, stream: &mut S) -> Result<SshBasePublicKey, SshPublicKeyError>
     ensures fields { S.tells stream.old → Takes ed_fields result (S.left stream.old) (S.left stream.new) }
     ensures front { S.tells stream.old → LeavesRest (S.left stream.old) (S.left stream.new) }
-    ensures read_fault_only_if_counted { OnlyIfCounted result (Rose (S.faults stream.old) (S.faults stream.new)) }
+    ensures cause { IfErr result (λ e. StopsReading e (Rose (S.faults stream.old) (S.faults stream.new))) }
     ensures told { S.tells stream.old → S.tells stream.new }
     ensures never_falls { S.faults stream.old ≤ S.faults stream.new }
 {
@@ -120,7 +122,7 @@ fn take_sk_ecdsa<S: Source>(
 ) -> Result<SshBasePublicKey, SshPublicKeyError>
     ensures fields { S.tells stream.old → Takes sk_ecdsa_fields result (S.left stream.old) (S.left stream.new) }
     ensures front { S.tells stream.old → LeavesRest (S.left stream.old) (S.left stream.new) }
-    ensures read_fault_only_if_counted { OnlyIfCounted result (Rose (S.faults stream.old) (S.faults stream.new)) }
+    ensures cause { IfErr result (λ e. StopsReading e (Rose (S.faults stream.old) (S.faults stream.new))) }
     ensures told { S.tells stream.old → S.tells stream.new }
     ensures never_falls { S.faults stream.old ≤ S.faults stream.new }
 {
@@ -143,7 +145,7 @@ fn take_sk_ed<S: Source>(
 ) -> Result<SshBasePublicKey, SshPublicKeyError>
     ensures fields { S.tells stream.old → Takes sk_ed_fields result (S.left stream.old) (S.left stream.new) }
     ensures front { S.tells stream.old → LeavesRest (S.left stream.old) (S.left stream.new) }
-    ensures read_fault_only_if_counted { OnlyIfCounted result (Rose (S.faults stream.old) (S.faults stream.new)) }
+    ensures cause { IfErr result (λ e. StopsReading e (Rose (S.faults stream.old) (S.faults stream.new))) }
     ensures told { S.tells stream.old → S.tells stream.new }
     ensures never_falls { S.faults stream.old ≤ S.faults stream.new }
 {
@@ -260,8 +262,6 @@ fn put_one<S: Sink>(stream: &mut S, bytes: &[u8]) -> Result<(), SshPublicKeyErro
 impl SshComplexTypeEncode for SshBasePublicKey {
     type Error = SshPublicKeyError;
 
-    ghost use Rattle.picky_sshpub.specs.FromWire.{public_key_error};
-
     ghost spelling = { blob_of };
 
     ghost takes = { λ _. Unit {0} };
@@ -276,7 +276,7 @@ impl SshComplexTypeEncode for SshBasePublicKey {
         put_blob(stream, self)
     }
 
-    #[tactic(auto, using(crate::proofs::SizeLemmas::blob_sizes))]
+    #[tactic(auto, using(crate::specs::SizeLaws::blob_sizes))]
     fn spelling_len(&self) -> u64 {
         let name = self.kind().name();
         string_len(name.as_bytes()) + fields_len(self)
@@ -285,9 +285,6 @@ impl SshComplexTypeEncode for SshBasePublicKey {
 
 impl SshComplexTypeDecode for SshBasePublicKey {
     type Error = SshPublicKeyError;
-
-    ghost use Rattle.picky_sshpub.specs.FromWire.{public_key_error, no_memory};
-    ghost use Rattle.picky_sshpub.specs.BlobRefusal.{read_blob};
 
     ghost reads = { read_blob };
 
@@ -301,7 +298,22 @@ impl SshComplexTypeDecode for SshBasePublicKey {
     fn decode<S: Source>(
         alloc: Global,
         stream: &mut S,
-    ) -> Result<SshBasePublicKey, SshPublicKeyError> {
+    ) -> Result<SshBasePublicKey, SshPublicKeyError>
+        ensures ok { S.tells stream.old
+            → IfOk result (λ key. read_blob (S.left stream.old) ≡ Ok (key, S.left stream.new)) }
+        ensures err { S.tells stream.old → IfErr result (λ e. e ≢ SshPublicKeyError.IoError io_kinds.ReadFault
+            → no_memory e ≡ false → read_blob (S.left stream.old) ≡ Err e) }
+        ensures read_fault_only_if_counted { IfErr result (λ e. e ≡ SshPublicKeyError.IoError io_kinds.ReadFault
+            → Rose (S.faults stream.old) (S.faults stream.new)) }
+
+        // Over a source that doesn't tell its bytes too.
+        ensures cause { IfErr result (λ e. StopsReading e (Rose (S.faults stream.old) (S.faults stream.new))) }
+
+        ensures front { S.tells stream.old
+            → ((taken : List ℕ) × (S.left stream.old ≡ taken ++ S.left stream.new)) }
+        ensures told { S.tells stream.old → S.tells stream.new }
+        ensures never_falls { S.faults stream.old ≤ S.faults stream.new }
+    {
         take_blob(alloc, stream)
     }
 }
@@ -339,7 +351,7 @@ impl SshElement for SshBasePublicKey {
 }
 
 /// The length of the fields after the name.
-#[tactic(auto, unfolding(crate::specs::Blob::fields_spelled), using(crate::proofs::SizeLemmas::row_sizes))]
+#[tactic(auto, unfolding(crate::specs::Blob::fields_spelled), using(crate::specs::SizeLaws::row_sizes))]
 fn fields_len(key: &SshBasePublicKey) -> u64
     ensures len { result ≡ length (fields_spelled key.now) }
     ensures small { result ≤ 2 ^ 35 }

@@ -11,7 +11,7 @@ ghost use Rattle.picky_sshpub.specs.Blob.{blob, blob_of};
 ghost use Rattle.picky_sshpub.specs.BlobExact.{BlobSpelled};
 ghost use Rattle.picky_sshpub.specs.BlobRefusal.{read_blob};
 ghost use Rattle.picky_sshpub.specs.Line.{IsPublicLine, line_of};
-ghost use Rattle.picky_sshpub.specs.LineRefusal.{line_meaning};
+ghost use Rattle.picky_sshpub.specs.LineRefusal.{line_meaning, line_text};
 ghost use Rattle.picky_sshpub.specs.LineLaws.{IsKept};
 ghost use Rattle.picky_sshpub.specs.SourceLine.{line_in_front, after_line, source_meaning};
 
@@ -45,6 +45,23 @@ pub fn line_means_what_it_says()
 pub fn line_is_read_back()
     ensures text { (key : Key) (more : List ℕ) → IsKept key → line_meaning (line_of key ++ more) ≡ Ok key }
     ensures source { (key : Key) (more : List ℕ) → IsKept key → source_meaning (line_of key ++ more) ≡ Ok (key, 10 ∷ more) }
+{}
+
+/// A blob that was read, however it was spelled, is written in its one spelling, which is read back as the same key.
+pub fn blob_is_written_canonically()
+    ensures key { (bytes : List ℕ) (key : BaseKey) (rest : List ℕ) → IsBytes bytes
+        → read_blob bytes ≡ Ok (key, rest) → IsKey key }
+    ensures again { (bytes : List ℕ) (key : BaseKey) (rest more : List ℕ) → IsBytes bytes
+        → read_blob bytes ≡ Ok (key, rest) → read_blob (blob_of key ++ more) ≡ Ok (key, more) }
+{}
+
+/// So is a line, from a text and from a source, where LF and what follows are left.
+pub fn line_is_written_canonically()
+    ensures text { (text : List ℕ) (key : Key) (line more : List ℕ) → IsBytes text → IsUtf8 text
+        → line_meaning text ≡ Ok key → line_text key ≡ Ok line → line_meaning (line ++ more) ≡ Ok key }
+    ensures source { (bytes : List ℕ) (key : Key) (rest line more : List ℕ) → IsBytes bytes
+        → source_meaning bytes ≡ Ok (key, rest) → line_text key ≡ Ok line
+        → source_meaning (line ++ more) ≡ Ok (key, 10 ∷ more) }
 {}
 
 /// A line of UTF-8 in front of a source is answered as its text is.

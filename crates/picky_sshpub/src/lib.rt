@@ -2,6 +2,7 @@
 #![tactic(auto)]
 
 mod blob;
+mod blob_bytes;
 mod error;
 mod fingerprint;
 mod growing;

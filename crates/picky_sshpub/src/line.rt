@@ -8,15 +8,15 @@ ghost use Rattle.picky_wire.specs.Gives.{Gives};
 ghost use Rattle.picky_wire.specs.Written.{Writes};
 ghost use Rattle.picky_sshpub.specs.FromWire.{no_memory};
 ghost use Rattle.picky_sshpub.specs.Blob.{blob_of};
-ghost use Rattle.picky_sshpub.specs.BlobRefusal.{OnlyIfCounted};
 ghost use Rattle.picky_sshpub.specs.Line.{line_of};
-ghost use Rattle.picky_sshpub.specs.LineRefusal.{blob_key, body_key, is_key_type, line_meaning, line_text, StopsLine};
+ghost use Rattle.picky_sshpub.specs.LineRefusal.{blob_key, body_key, is_key_type, line_meaning, line_text, StopsLine, StopsReadingLine};
 
+use crate::blob_bytes::bytes_of;
 use crate::error::SshPublicKeyError;
-use crate::growing::Growing;
 use crate::key::{SshBasePublicKey, SshPublicKey};
+use base64::engine::general_purpose::STANDARD;
 use picky_keys::KeyKind;
-use picky_text::{Base64Error, after_word, decode, encode, first_word, rest_of_line};
+use picky_text::{Base64Error, after_word, decode, first_word, rest_of_line};
 use picky_wire::{
     IoKind, NoMemory, Sink, SizeError, SliceSource, SshComplexTypeDecode, SshComplexTypeEncode,
     Text, write_all,
@@ -105,57 +105,39 @@ pub fn names_key_type(word: &str) -> bool
 #[tactic(auto, unfolding(crate::specs::LineRefusal::body_key))]
 pub fn key_of_body(alloc: Global, body: &str) -> Result<SshBasePublicKey, SshPublicKeyError>
     ensures gives { Gives no_memory (λ key. key) result (body_key body.now) }
-    ensures no_fault { OnlyIfCounted result ⊥ }
+    ensures cause { IfErr result (λ e. StopsReadingLine e ⊥) }
 {
     match decode(alloc, body) {
-        Ok(blob) => key_of_blob(alloc, blob.as_slice()),
+        Ok(blob) => SshBasePublicKey::from_blob(alloc, blob.as_slice()),
         Err(Base64Error::NotBase64) => Err(SshPublicKeyError::Base64DecodeError),
         Err(Base64Error::NoMemory) => Err(SshPublicKeyError::NoMemory),
     }
 }
 
-/// The key of a blob. What follows the blob's last field says nothing.
-#[tactic(auto, unfolding(crate::specs::LineRefusal::blob_key))]
-fn key_of_blob(alloc: Global, blob: &[u8]) -> Result<SshBasePublicKey, SshPublicKeyError>
-    ensures gives { Gives no_memory (λ key. key) result (blob_key blob.now) }
-    ensures no_fault { OnlyIfCounted result ⊥ }
-{
-    let mut source = SliceSource::new(blob);
-    match SshBasePublicKey::decode(alloc, &mut source) {
-        Ok(key) => Ok(key),
-        Err(e) => Err(e),
-    }
-}
-
 /// The line of a key.
-#[tactic(auto, unfolding(crate::specs::Line::line_of))]
+#[tactic(auto, unfolding(crate::specs::Line::line_of, picky_text::specs::Base64::base64_of))]
 fn line_string(alloc: Global, key: &SshPublicKey) -> Result<String, AllocError>
     ensures { IfOk result (λ line. string_bytes line ≡ line_of key.now) }
 {
-    let blob = match blob_bytes(alloc, &key.inner_key) {
+    let blob = match bytes_of(alloc, &key.inner_key) {
         Ok(blob) => blob,
         Err(NoMemory) => return Err(AllocError),
     };
-    let body = encode(alloc, blob.as_slice())?;
-    let mut line = String::from_str(alloc, key.inner_key.kind().name())?;
+    let comment = key.comment.as_str();
+    let mut line = String::with_capacity(alloc, line_room(blob.len(), comment.len()))?;
+    line.push_str(key.inner_key.kind().name())?;
     line.push_str(" ")?;
-    line.push_str(body.as_str())?;
+    STANDARD.encode_string(blob.as_slice(), &mut line)?;
     line.push_str(" ")?;
-    line.push_str(key.comment.as_str())?;
+    line.push_str(comment)?;
     line.push_str("\r\n")?;
     Ok(line)
 }
 
-/// The blob of a key.
-fn blob_bytes(alloc: Global, key: &SshBasePublicKey) -> Result<Vec<u8>, NoMemory>
-    ensures { IfOk result (λ blob. blob.items ≡ blob_of key.now) }
-{
-    let mut sink = Growing::new(alloc);
-    match key.encode(&mut sink) {
-        Ok(()) => {
-            let Growing { bytes, .. } = sink;
-            Ok(bytes)
-        }
-        Err(_) => Err(NoMemory),
-    }
+/// Room for a line, so that it doesn't grow while it is written.
+fn line_room(blob_len: usize, comment_len: usize) -> usize {
+    (blob_len / 3)
+        .saturating_mul(4)
+        .saturating_add(comment_len)
+        .saturating_add(64)
 }

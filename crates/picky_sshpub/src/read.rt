@@ -1,12 +1,12 @@
 //! The fields of a blob, read from a source.
 
-ghost use Rattle.std.specs.Prelude.{◌≡◌, ◌++◌, ◌≤◌, ℕ, List, length, Some, None, ◌==◌, if◌then◌else◌};
+ghost use Rattle.std.specs.Prelude.{◌≡◌, ◌++◌, ◌≤◌, ℕ, List, length, Some, None, IfErr, ◌==◌, if◌then◌else◌};
 ghost use Rattle.picky_layout.specs.Combine.{at};
 ghost use Rattle.picky_layout.specs.Wire.{string, text};
 ghost use Rattle.picky_layout.specs.Mpint.{mpint};
 ghost use Rattle.picky_wire.specs.Count.{Rose};
 ghost use Rattle.picky_sshpub.specs.Blob.{key_type, ed_key};
-ghost use Rattle.picky_sshpub.specs.BlobRefusal.{Takes, LeavesRest, OnlyIfCounted};
+ghost use Rattle.picky_sshpub.specs.BlobRefusal.{Takes, LeavesRest, StopsReading};
 
 use crate::error::SshPublicKeyError;
 use picky_keys::KeyKind;
@@ -17,7 +17,7 @@ use std::alloc::Global;
 pub fn take_mpint<S: Source>(alloc: Global, stream: &mut S) -> Result<Mpint, SshPublicKeyError>
     ensures field { (i : ℕ) → S.tells stream.old → Takes (at i mpint) result (S.left stream.old) (S.left stream.new) }
     ensures front { S.tells stream.old → LeavesRest (S.left stream.old) (S.left stream.new) }
-    ensures read_fault_only_if_counted { OnlyIfCounted result (Rose (S.faults stream.old) (S.faults stream.new)) }
+    ensures cause { IfErr result (λ e. StopsReading e (Rose (S.faults stream.old) (S.faults stream.new))) }
     ensures told { S.tells stream.old → S.tells stream.new }
     ensures never_falls { S.faults stream.old ≤ S.faults stream.new }
 {
@@ -31,7 +31,7 @@ pub fn take_mpint<S: Source>(alloc: Global, stream: &mut S) -> Result<Mpint, Ssh
 pub fn take_string<S: Source>(alloc: Global, stream: &mut S) -> Result<Bytes, SshPublicKeyError>
     ensures field { (i : ℕ) → S.tells stream.old → Takes (at i string) result (S.left stream.old) (S.left stream.new) }
     ensures front { S.tells stream.old → LeavesRest (S.left stream.old) (S.left stream.new) }
-    ensures read_fault_only_if_counted { OnlyIfCounted result (Rose (S.faults stream.old) (S.faults stream.new)) }
+    ensures cause { IfErr result (λ e. StopsReading e (Rose (S.faults stream.old) (S.faults stream.new))) }
     ensures told { S.tells stream.old → S.tells stream.new }
     ensures never_falls { S.faults stream.old ≤ S.faults stream.new }
 {
@@ -45,7 +45,7 @@ pub fn take_string<S: Source>(alloc: Global, stream: &mut S) -> Result<Bytes, Ss
 pub fn take_text<S: Source>(alloc: Global, stream: &mut S) -> Result<Text, SshPublicKeyError>
     ensures field { (i : ℕ) → S.tells stream.old → Takes (at i text) result (S.left stream.old) (S.left stream.new) }
     ensures front { S.tells stream.old → LeavesRest (S.left stream.old) (S.left stream.new) }
-    ensures read_fault_only_if_counted { OnlyIfCounted result (Rose (S.faults stream.old) (S.faults stream.new)) }
+    ensures cause { IfErr result (λ e. StopsReading e (Rose (S.faults stream.old) (S.faults stream.new))) }
     ensures told { S.tells stream.old → S.tells stream.new }
     ensures never_falls { S.faults stream.old ≤ S.faults stream.new }
 {
@@ -60,7 +60,7 @@ pub fn take_text<S: Source>(alloc: Global, stream: &mut S) -> Result<Text, SshPu
 pub fn take_kind<S: Source>(alloc: Global, stream: &mut S) -> Result<KeyKind, SshPublicKeyError>
     ensures field { S.tells stream.old → Takes key_type result (S.left stream.old) (S.left stream.new) }
     ensures front { S.tells stream.old → LeavesRest (S.left stream.old) (S.left stream.new) }
-    ensures read_fault_only_if_counted { OnlyIfCounted result (Rose (S.faults stream.old) (S.faults stream.new)) }
+    ensures cause { IfErr result (λ e. StopsReading e (Rose (S.faults stream.old) (S.faults stream.new))) }
     ensures told { S.tells stream.old → S.tells stream.new }
     ensures never_falls { S.faults stream.old ≤ S.faults stream.new }
 {
@@ -78,7 +78,7 @@ pub fn take_kind<S: Source>(alloc: Global, stream: &mut S) -> Result<KeyKind, Ss
 pub fn take_ed_key<S: Source>(alloc: Global, stream: &mut S) -> Result<[u8; 32], SshPublicKeyError>
     ensures field { (i : ℕ) → S.tells stream.old → Takes (ed_key i) result (S.left stream.old) (S.left stream.new) }
     ensures front { S.tells stream.old → LeavesRest (S.left stream.old) (S.left stream.new) }
-    ensures read_fault_only_if_counted { OnlyIfCounted result (Rose (S.faults stream.old) (S.faults stream.new)) }
+    ensures cause { IfErr result (λ e. StopsReading e (Rose (S.faults stream.old) (S.faults stream.new))) }
     ensures told { S.tells stream.old → S.tells stream.new }
     ensures never_falls { S.faults stream.old ≤ S.faults stream.new }
 {

@@ -8,7 +8,7 @@ ghost use Rattle.picky_sshpub.specs.Key.{IsNumber, IsString, IsText, IsEdKey};
 use picky_wire::{Bytes, Mpint, Text};
 
 /// The length of a number, with the zero byte before a first byte of 128 or more.
-#[tactic(auto, using(crate::proofs::SizeLemmas::sizes))]
+#[tactic(auto, using(crate::specs::SizeLaws::sizes))]
 pub fn mpint_len(number: &Mpint) -> u64
     ensures len { result ≡ length (mpint_of number.now) }
     ensures small { result ≤ 2 ^ 33 }
@@ -30,7 +30,7 @@ fn sign_len(bytes: &[u8]) -> u64
 }
 
 /// The length of a string.
-#[tactic(auto, using(crate::proofs::SizeLemmas::sizes))]
+#[tactic(auto, using(crate::specs::SizeLaws::sizes))]
 pub fn string_len(bytes: &[u8]) -> u64
     requires { length bytes.now < 2 ^ 32 }
     ensures len { result ≡ length (string_of bytes.now) }
@@ -40,7 +40,7 @@ pub fn string_len(bytes: &[u8]) -> u64
 }
 
 /// The length of bytes as a string.
-#[tactic(auto, using(crate::proofs::SizeLemmas::sizes))]
+#[tactic(auto, using(crate::specs::SizeLaws::sizes))]
 pub fn bytes_len(bytes: &Bytes) -> u64
     ensures len { result ≡ length (string_of bytes.now) }
     ensures small { result ≤ 2 ^ 33 }
@@ -51,7 +51,7 @@ pub fn bytes_len(bytes: &Bytes) -> u64
 }
 
 /// The length of a text as a string.
-#[tactic(auto, using(crate::proofs::SizeLemmas::sizes))]
+#[tactic(auto, using(crate::specs::SizeLaws::sizes))]
 pub fn text_len(text: &Text) -> u64
     ensures len { result ≡ length (string_of text.now) }
     ensures small { result ≤ 2 ^ 33 }
@@ -62,7 +62,7 @@ pub fn text_len(text: &Text) -> u64
 }
 
 /// The length of an Ed25519 key as a string.
-#[tactic(auto, using(crate::proofs::SizeLemmas::sizes))]
+#[tactic(auto, using(crate::specs::SizeLaws::sizes))]
 pub fn ed_key_len(key: &[u8; 32]) -> u64
     ensures len { result ≡ length (string_of key.now) }
     ensures small { result ≤ 2 ^ 33 }

@@ -6,8 +6,8 @@ ghost use Rattle.picky_wire.specs.Count.{Rose};
 ghost use Rattle.picky_wire.specs.Gives.{Gives};
 ghost use Rattle.picky_wire.specs.declared.error.IoKind.TheVariants as io_kinds;
 ghost use Rattle.picky_sshpub.specs.FromWire.{public_key_error, no_memory};
-ghost use Rattle.picky_sshpub.specs.BlobRefusal.{LeavesRest, OnlyIfCounted};
-ghost use Rattle.picky_sshpub.specs.LineRefusal.{is_key_type, body_key};
+ghost use Rattle.picky_sshpub.specs.BlobRefusal.{LeavesRest};
+ghost use Rattle.picky_sshpub.specs.LineRefusal.{is_key_type, body_key, StopsReadingLine};
 ghost use Rattle.picky_sshpub.specs.SourceLine.{line_in_front, after_line, comment_meaning, bytes_meaning, source_meaning, IsLineTaken, StopsTaking};
 
 use crate::error::SshPublicKeyError;
@@ -48,6 +48,10 @@ impl SshComplexTypeDecode for SshPublicKey {
 
         ensures read_fault_only_if_counted { IfErr result (λ e. e ≡ SshPublicKeyError.IoError io_kinds.ReadFault
             → Rose (S.faults stream.old) (S.faults stream.new)) }
+
+        // Over a source that doesn't tell its bytes too.
+        ensures cause { IfErr result (λ e. StopsReadingLine e (Rose (S.faults stream.old) (S.faults stream.new))) }
+
         ensures front { S.tells stream.old
             → ((taken : List ℕ) × (S.left stream.old ≡ taken ++ S.left stream.new)) }
         ensures told { S.tells stream.old → S.tells stream.new }
@@ -66,7 +70,7 @@ fn take_line<S: Source>(alloc: Global, stream: &mut S) -> Result<Vec<u8>, SshPub
         → IfOk result (λ line. IsLineTaken line.items (S.left stream.old) (S.left stream.new)) }
     ensures too_long { S.tells stream.old → IsErrOf result SshPublicKeyError.TooLong
         → (2 ^ 32 ≤ length (line_in_front (S.left stream.old))) × (S.left stream.new ≡ drop (2 ^ 32) (S.left stream.old)) }
-    ensures stops { IfErr result (λ e. StopsTaking e (Rose (S.faults stream.old) (S.faults stream.new))) }
+    ensures cause { IfErr result (λ e. StopsTaking e (Rose (S.faults stream.old) (S.faults stream.new))) }
     ensures front { S.tells stream.old → LeavesRest (S.left stream.old) (S.left stream.new) }
     ensures told { S.tells stream.old → S.tells stream.new }
     ensures never_falls { S.faults stream.old ≤ S.faults stream.new }
@@ -120,7 +124,7 @@ fn next_byte<S: Source>(stream: &mut S) -> Result<Option<u8>, Failed>
 #[tactic(auto, unfolding(crate::specs::SourceLine::bytes_meaning))]
 fn key_of_line(alloc: Global, line: &[u8]) -> Result<SshPublicKey, SshPublicKeyError>
     ensures gives { Gives no_memory (λ key. key) result (bytes_meaning line.now) }
-    ensures no_fault { OnlyIfCounted result ⊥ }
+    ensures cause { IfErr result (λ e. StopsReadingLine e ⊥) }
 {
     if !is_name(word_of(line)) {
         return Err(SshPublicKeyError::UnknownKeyType);
@@ -150,7 +154,7 @@ fn is_name(word: &[u8]) -> bool
 #[tactic(auto, unfolding(crate::specs::LineRefusal::body_key))]
 fn key_of_bytes(alloc: Global, body: &[u8]) -> Result<SshBasePublicKey, SshPublicKeyError>
     ensures gives { Gives no_memory (λ key. key) result (body_key body.now) }
-    ensures no_fault { OnlyIfCounted result ⊥ }
+    ensures cause { IfErr result (λ e. StopsReadingLine e ⊥) }
 {
     match text_of(body) {
         Some(body) => key_of_body(alloc, body),
@@ -162,7 +166,7 @@ fn key_of_bytes(alloc: Global, body: &[u8]) -> Result<SshBasePublicKey, SshPubli
 #[tactic(auto, unfolding(crate::specs::SourceLine::comment_meaning), using(crate::proofs::SourceLemmas::tests))]
 fn comment_in(alloc: Global, rest: &[u8]) -> Result<Text, SshPublicKeyError>
     ensures gives { Gives no_memory (λ comment. comment) result (comment_meaning rest.now) }
-    ensures no_fault { OnlyIfCounted result ⊥ }
+    ensures cause { IfErr result (λ e. StopsReadingLine e ⊥) }
 {
     match text_of(line_of(rest)) {
         Some(comment) => match Text::new(alloc, comment.trim_end()) {

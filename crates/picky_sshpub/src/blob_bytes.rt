@@ -1,0 +1,67 @@
+//! A public key's blob alone, as bytes.
+
+ghost use Rattle.std.specs.Prelude.{◌≡◌, IfOk, IfErr};
+ghost use Rattle.picky_wire.specs.Gives.{Gives};
+ghost use Rattle.picky_sshpub.specs.FromWire.{no_memory};
+ghost use Rattle.picky_sshpub.specs.Blob.{blob_of};
+ghost use Rattle.picky_sshpub.specs.BlobRefusal.{StopsReading};
+ghost use Rattle.picky_sshpub.specs.LineRefusal.{blob_key, blob_bytes};
+
+use crate::error::SshPublicKeyError;
+use crate::growing::Growing;
+use crate::key::SshBasePublicKey;
+use picky_wire::{Bytes, NoMemory, SliceSource, SshComplexTypeDecode, SshComplexTypeEncode};
+use std::alloc::Global;
+
+/// How many bytes a length of the wire can't say.
+const TOO_MANY: usize = 1 << 32;
+
+impl SshBasePublicKey {
+    /// The key of a blob (RFC 4253, section 6.6). What follows the blob's last field says nothing.
+    ///
+    /// Refuses, in order, by field: `IoError(UnexpectedEnd)`, `InvalidUtf8`, `UnknownKeyType`, `KeyError`, `TooLong`.
+    #[tactic(auto, unfolding(crate::specs::LineRefusal::blob_key))]
+    pub fn from_blob(alloc: Global, blob: &[u8]) -> Result<SshBasePublicKey, SshPublicKeyError>
+        ensures gives { Gives no_memory (λ key. key) result (blob_key blob.now) }
+        ensures cause { IfErr result (λ e. StopsReading e ⊥) }
+    {
+        let mut source = SliceSource::new(blob);
+        match SshBasePublicKey::decode(alloc, &mut source) {
+            Ok(key) => Ok(key),
+            Err(e) => Err(e),
+        }
+    }
+
+    /// The key's one blob. Refuses, in order: `TooLong`, where it has 2^32 bytes or more.
+    #[tactic(auto, unfolding(crate::specs::LineRefusal::blob_bytes))]
+    pub fn to_blob(&self, alloc: Global) -> Result<Bytes, SshPublicKeyError>
+        ensures { Gives no_memory (λ bytes. bytes) result (blob_bytes self.now) }
+    {
+        match bytes_of(alloc, self) {
+            Ok(bytes) => {
+                if bytes.len() >= TOO_MANY {
+                    return Err(SshPublicKeyError::TooLong);
+                }
+                Ok(Bytes::from_vec(bytes))
+            }
+            Err(NoMemory) => Err(SshPublicKeyError::NoMemory),
+        }
+    }
+}
+
+/// The blob of a key.
+pub fn bytes_of(alloc: Global, key: &SshBasePublicKey) -> Result<Vec<u8>, NoMemory>
+    ensures { IfOk result (λ blob. blob.items ≡ blob_of key.now) }
+{
+    let mut sink = Growing::new(alloc);
+    match key.encode(&mut sink) {
+        Ok(()) => {
+            let Growing { bytes, .. } = sink;
+            Ok(bytes)
+        }
+        Err(_) => Err(NoMemory),
+    }
+}
+
+#[cfg(test)]
+mod tests;
