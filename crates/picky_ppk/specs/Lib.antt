@@ -1,0 +1,10 @@
+pub mod PuttyPublic
+pub mod PuttyRefusal
+pub mod QuoteMarks
+pub mod CommentLaws
+pub mod BodyLaws
+pub mod LineBytes
+pub mod PuttyLaws
+pub mod MeaningLaws
+pub mod KeyLaws
+pub mod Memory

@@ -1,0 +1,11 @@
+//! PuTTY's files (PuTTY manual, Appendix C; RFC 4716): public keys as PuTTYgen saves them.
+#![tactic(auto)]
+
+mod error;
+pub mod laws;
+mod putty_public;
+#[cfg(test)]
+mod tests;
+
+pub use error::PuttyError;
+pub use putty_public::PuttyPublicKey;
