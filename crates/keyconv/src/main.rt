@@ -2,17 +2,22 @@
 #![tactic(auto)]
 
 use picky_convert::{Status, report, run};
+use picky_suite::PlainSuite;
 use picky_wire::{SizeError, StdSink, StdSource, Text};
 use std::process::ExitCode;
 use std::{env, io};
 
-const HELP: &str = "usage: keyconv putty-pub < KEY.pub
+const HELP: &str = "usage: keyconv COMMAND < KEY.pub
 
-Reads an Ed25519 public key line, as ssh-keygen writes it, from standard input, and writes the
-same key and comment as a PuTTY public key to standard output.
+Reads a public key line, as ssh-keygen writes it, from standard input: RSA, ECDSA, Ed25519 and the
+two kinds whose secret a device keeps. Writes to standard output, by the command:
 
-  --help      this text
-  --version   the version
+  ssh-pub      the key and the comment as a public key line, in its one spelling
+  putty-pub    the same as a PuTTY public key; PuTTY has no keys whose secret a device keeps
+  fingerprint  the MD5, SHA-1 and SHA-256 fingerprints of the key, a line each
+
+  --help       this text
+  --version    the version
 
 Status: 0 done, 1 refused, 2 usage, 3 read fault, 4 write fault, 6 out of memory, 7 input over
 16 MiB, 8 input not UTF-8. A line on standard error says which.
@@ -26,10 +31,18 @@ fn main(rt: HostRuntime) -> ExitCode {
             [word] if word.as_str() == "--help" => print(&rt, HELP),
             [word] if word.as_str() == "--version" => print(&rt, VERSION),
             words => {
+                let mut suite = PlainSuite::new();
                 let mut source = StdSource::new(rt.stdin());
                 let mut out = StdSink::new(rt.stdout());
                 let mut err = StdSink::new(rt.stderr());
-                let status = run(rt.alloc(), words, &mut source, &mut out, &mut err);
+                let status = run(
+                    rt.alloc(),
+                    words,
+                    &mut suite,
+                    &mut source,
+                    &mut out,
+                    &mut err,
+                );
                 ExitCode::from(status.exit_code())
             }
         },

@@ -4,41 +4,46 @@ use Rattle.std.proofs.lemmas.Bool.{le-ltb, cases_Bool}
 use Rattle.std.proofs.lemmas.Str.{is_utf8-from_IsUtf8, IsUtf8-from_is_utf8}
 use Rattle.std.specs.Str.{IsUtf8, is_utf8}
 use Rattle.picky_convert.specs.declared.error.ConvertError.{ConvertError}
+use Rattle.picky_convert.specs.declared.error.Status.TheVariants as statuses
+use Rattle.picky_convert.specs.declared.command.Command.{Command}
+use Rattle.picky_convert.specs.Command.{answer}
 use Rattle.picky_convert.specs.declared.error.ConvertError.TheVariants as convert
 use Rattle.picky_convert.specs.declared.error.Status.{Status}
-use Rattle.picky_convert.specs.declared.error.Status.TheVariants as statuses
-use Rattle.picky_convert.specs.Convert.{conversion}
-use Rattle.picky_convert.specs.Run.{input_limit, outcome}
 use Rattle.picky_convert.specs.Memory.{convert_no_memory, status_no_memory, refusal_status}
+use Rattle.picky_convert.specs.Run.{input_limit, outcome}
 
 -- the bytes are a text that is converted
-pub outcome_done : (input text : List ℕ) → length input ≤ input_limit → IsUtf8 input
-    → conversion input ≡ Ok text → outcome input ≡ Ok text
+pub outcome_done : (command : Command) (input text : List ℕ) → length input ≤ input_limit → IsUtf8 input
+    → answer command input ≡ Ok text → outcome command input ≡ Ok text
 unfolding outcome
-outcome_done input text short utf8 done = rw (le-ltb input_limit (length input) short, is_utf8-from_IsUtf8 input utf8, done) refl
+outcome_done command input text short utf8 done = rw (le-ltb input_limit (length input) short, is_utf8-from_IsUtf8 input utf8, done) refl
 
 -- the bytes are a text that is refused
-pub outcome_refused : (input : List ℕ) (e : ConvertError) → length input ≤ input_limit → IsUtf8 input
-    → conversion input ≡ Err e → outcome input ≡ Err (statuses.Refused e)
+pub outcome_refused : (command : Command) (input : List ℕ) (e : ConvertError) → length input ≤ input_limit → IsUtf8 input
+    → answer command input ≡ Err e → outcome command input ≡ Err (statuses.Refused e)
 unfolding outcome
-outcome_refused input e short utf8 refused = rw (le-ltb input_limit (length input) short, is_utf8-from_IsUtf8 input utf8, refused) refl
+outcome_refused command input e short utf8 refused = rw (le-ltb input_limit (length input) short, is_utf8-from_IsUtf8 input utf8, refused) refl
 
 -- the bytes are a text that is refused, and not for want of memory
-pub outcome_of_refusal : (input : List ℕ) (e : ConvertError) (status : Status) → length input ≤ input_limit
-    → IsUtf8 input → (convert_no_memory e ≡ false → conversion input ≡ Err e) → status ≡ refusal_status e
-    → status_no_memory status ≡ false → outcome input ≡ Err status
-outcome_of_refusal input (convert.Input e) status short utf8 refused is known =
-    rw is (outcome_refused input (convert.Input e) short utf8 (refused refl))
-outcome_of_refusal input convert.CommentNotCarried status short utf8 refused is known =
-    rw is (outcome_refused input convert.CommentNotCarried short utf8 (refused refl))
-outcome_of_refusal input convert.NoMemory status short utf8 refused is known =
+pub outcome_of_refusal : (command : Command) (input : List ℕ) (e : ConvertError) (status : Status) → length input ≤ input_limit
+    → IsUtf8 input → (convert_no_memory e ≡ false → answer command input ≡ Err e) → status ≡ refusal_status e
+    → status_no_memory status ≡ false → outcome command input ≡ Err status
+outcome_of_refusal command input (convert.Input e) status short utf8 refused is known =
+    rw is (outcome_refused command input (convert.Input e) short utf8 (refused refl))
+outcome_of_refusal command input convert.CommentNotCarried status short utf8 refused is known =
+    rw is (outcome_refused command input convert.CommentNotCarried short utf8 (refused refl))
+outcome_of_refusal command input (convert.Putty e) status short utf8 refused is known =
+    rw is (outcome_refused command input (convert.Putty e) short utf8 (refused refl))
+outcome_of_refusal command input convert.TooLong status short utf8 refused is known =
+    rw is (outcome_refused command input convert.TooLong short utf8 (refused refl))
+outcome_of_refusal command input convert.NoMemory status short utf8 refused is known =
     let none : true ≡ false = rw is at known in cc none
 
 -- the bytes are no text
-pub outcome_no_text : (input : List ℕ) → length input ≤ input_limit → (IsUtf8 input → ⊥)
-    → outcome input ≡ Err statuses.InputNotUtf8
+pub outcome_no_text : (command : Command) (input : List ℕ) → length input ≤ input_limit → (IsUtf8 input → ⊥)
+    → outcome command input ≡ Err statuses.InputNotUtf8
 unfolding outcome
-outcome_no_text input short not_utf8 = elim (cases_Bool (is_utf8 input)) [
+outcome_no_text command input short not_utf8 = elim (cases_Bool (is_utf8 input)) [
   | inl utf8 ↦ absurd (not_utf8 (IsUtf8-from_is_utf8 input utf8))
   | inr other ↦ rw (le-ltb input_limit (length input) short, other) refl
 ]

@@ -1,45 +1,152 @@
--- Lemmas on a public key's text in PuTTY's format.
-use Rattle.std.proofs.Common.{◌≡◌, ℕ, List, [], ◌∷◌, ◌++◌, sym, ap, ◌∙◌, codes}
-use Rattle.std.proofs.lemmas.List.{append_assoc, append-nil}
-use Rattle.picky_text.specs.Base64.{base64_of}
-use Rattle.picky_text.specs.Rows.{rows_of}
-use Rattle.picky_text.specs.Lines.{text_of, end_of}
-use Rattle.picky_text.specs.Quote.{quote}
-use Rattle.picky_text.specs.declared.lines.LineEnd.{LineEnd}
-use Rattle.picky_text.specs.declared.lines.LineEnd.TheVariants.{CrLf}
-use Rattle.picky_convert.specs.PuttyPublic.{header, footer, comment_key, comment_line, putty_public}
+-- Lemmas on the text of a public key in PuTTY's format.
+use Rattle.std.proofs.Common.{◌≡◌, ℕ, List, Bool, true, false, Ok, Err, if◌then◌else◌, refl, sym, ap, ◌∙◌, ◌==◌, ◌⊎◌, inl, inr}
+use Rattle.std.specs.List.{list_any}
+use Rattle.std.proofs.lemmas.Bool.{cases_Bool}
+use Rattle.picky_sshpub.specs.declared.key.SshPublicKey.{SshPublicKey}
+use Rattle.picky_sshpub.specs.Blob.{blob_of}
+use Rattle.picky_sshpub.specs.LineRefusal.{is_short}
+use Rattle.picky_ppk.specs.declared.error.PuttyError.{PuttyError}
+use Rattle.picky_ppk.specs.declared.error.PuttyError.TheVariants as putty
+use Rattle.picky_ppk.specs.declared.putty_public.PuttyPublicKey.{PuttyPublicKey}
+use Rattle.picky_ppk.specs.Memory.{is_no_memory}
+use Rattle.picky_ppk.specs.PuttyPublic.{putty_public}
+use Rattle.picky_ppk.specs.PuttyRefusal.{is_hardware, no_hardware_keys, of_openssh, putty_text}
+use Rattle.picky_convert.specs.declared.conversion.Target.TheVariants as targets
+use Rattle.picky_convert.specs.declared.error.ConvertError.{ConvertError}
+use Rattle.picky_convert.specs.declared.error.ConvertError.TheVariants as convert
+use Rattle.picky_convert.specs.Memory.{convert_no_memory}
+use Rattle.picky_convert.specs.Reading.{public_meaning}
+use Rattle.picky_convert.specs.Convert.{putty_refusal, written}
+use Rattle.picky_convert.proofs.TestLemmas.{passes, guarded}
 
--- the text of some lines and one more
-text_of-push : (end : LineEnd) (ls : List (List ℕ)) (line : List ℕ)
-    → text_of end (ls ++ line ∷ []) ≡ text_of end ls ++ (line ++ end_of end)
-unfolding text_of
-text_of-push end [] line = append-nil (line ++ end_of end)
-text_of-push end (l ∷ ls) line =
-    ap (λ r. (l ++ end_of end) ++ r) (text_of-push end ls line)
-    ∙ sym (append_assoc (l ++ end_of end) (text_of end ls) (line ++ end_of end))
+abbrev has_lf : SshPublicKey → Bool
+has_lf key = list_any (λ b. b == 10) key.comment
 
--- the text as it is written, piece by piece
-pub putty_public_is : (blob comment : List ℕ) → putty_public blob comment
-    ≡ ((((codes "---- BEGIN SSH2 PUBLIC KEY ----\r\n" ++ codes "Comment: \"") ++ quote comment) ++ codes "\"\r\n")
-    ++ text_of CrLf (rows_of (base64_of blob))) ++ codes "---- END SSH2 PUBLIC KEY ----\r\n"
-unfolding putty_public header footer comment_key comment_line text_of
-putty_public_is blob comment =
-    let rows = text_of CrLf (rows_of (base64_of blob)) in
-    let end = codes "---- END SSH2 PUBLIC KEY ----\r\n" in
-    text_of-push CrLf (header ∷ comment_line comment ∷ rows_of (base64_of blob)) footer
-    ∙ ap (λ line. codes "---- BEGIN SSH2 PUBLIC KEY ----\r\nComment: \"" ++ ((line ++ rows) ++ end))
-    (append_assoc (quote comment) (34 ∷ []) (13 ∷ 10 ∷ []))
+-- a key that PuTTY has
+pub record IsMade (key : SshPublicKey) (made : PuttyPublicKey) : Type 0 where
+  pub plain : is_hardware key.inner_key ≡ false
+  pub short : is_short (blob_of key.inner_key) ≡ true
+  pub is : record { blob = blob_of key.inner_key; comment = key.comment } ≡ made
 
--- the text, where each piece was written after the ones before
-pub putty_written : (blob comment body t1 t2 t3 t4 t5 t6 : List ℕ)
-    → t1 ≡ codes "---- BEGIN SSH2 PUBLIC KEY ----\r\n" → t2 ≡ t1 ++ codes "Comment: \""
-    → t3 ≡ t2 ++ quote comment → t4 ≡ t3 ++ codes "\"\r\n"
-    → t5 ≡ t4 ++ text_of CrLf (rows_of body) → body ≡ base64_of blob
-    → t6 ≡ t5 ++ codes "---- END SSH2 PUBLIC KEY ----\r\n" → t6 ≡ putty_public blob comment
-putty_written blob comment body t1 t2 t3 t4 t5 t6 p1 p2 p3 p4 p5 same p6 =
-    let q2 = p2 ∙ ap (λ t. t ++ codes "Comment: \"") p1 in
-    let q3 = p3 ∙ ap (λ t. t ++ quote comment) q2 in
-    let q4 = p4 ∙ ap (λ t. t ++ codes "\"\r\n") q3 in
-    let q5 = p5 ∙ ap (λ b. t4 ++ text_of CrLf (rows_of b)) same
-    ∙ ap (λ t. t ++ text_of CrLf (rows_of (base64_of blob))) q4 in
-    p6 ∙ ap (λ t. t ++ codes "---- END SSH2 PUBLIC KEY ----\r\n") q5 ∙ sym (putty_public_is blob comment)
+pub made_of : (key : SshPublicKey) (made : PuttyPublicKey) → of_openssh key ≡ Ok made → IsMade key made
+unfolding of_openssh
+made_of key made done =
+    let plain = guarded (is_hardware key.inner_key) _ no_hardware_keys made done in
+    let short = passes (is_short (blob_of key.inner_key)) _ putty.TooLong made plain.1 in
+    record { plain = plain.0; short = short.0; is = cc short.1 }
+
+-- a key that PuTTY lacks, or whose blob is too long
+pub refused_of : (key : SshPublicKey) (e : PuttyError) → of_openssh key ≡ Err e
+    → ((is_hardware key.inner_key ≡ true) × (e ≡ no_hardware_keys))
+    ⊎ ((is_hardware key.inner_key ≡ false) × (is_short (blob_of key.inner_key) ≡ false) × (e ≡ putty.TooLong))
+unfolding of_openssh
+refused_of key e refused = go (is_hardware key.inner_key) (is_short (blob_of key.inner_key)) _ refused
+  where
+    go : (hardware short : Bool) (made : PuttyPublicKey)
+        → (if hardware then Err no_hardware_keys else if short then Ok made else Err putty.TooLong) ≡ Err e
+        → ((hardware ≡ true) × (e ≡ no_hardware_keys)) ⊎ ((hardware ≡ false) × (short ≡ false) × (e ≡ putty.TooLong))
+    go true short made same = inl (refl, cc same)
+    go false true made same = cc same
+    go false false made same = inr (refl, refl, cc same)
+
+memory_is : (e : PuttyError) → is_no_memory e ≡ true → e ≡ putty.NoMemory
+memory_is putty.EndOfInput is = cc is
+memory_is (putty.InvalidInput context expected actual) is = cc is
+memory_is putty.InvalidKeyValueFormat is = cc is
+memory_is putty.Aes is = cc is
+memory_is putty.Argon2 is = cc is
+memory_is putty.MacValidation is = cc is
+memory_is putty.PublicAndPrivateKeyMismatch is = cc is
+memory_is putty.InvalidPrivateKeyData is = cc is
+memory_is putty.InvalidPublicKeyData is = cc is
+memory_is putty.InvalidPublicKeyContainer is = cc is
+memory_is putty.InvalidPublicKeyComment is = cc is
+memory_is putty.AlreadyDecrypted is = cc is
+memory_is putty.AlreadyEncrypted is = cc is
+memory_is putty.Encrypted is = cc is
+memory_is (putty.NotSupported feature) is = cc is
+memory_is (putty.SshPublicKey e) is = cc is
+memory_is (putty.IoError kind) is = cc is
+memory_is putty.SuiteFault is = cc is
+memory_is putty.TooLong is = cc is
+memory_is putty.TooManyLines is = cc is
+memory_is putty.NoMemory is = refl
+
+-- the refusals that are handed on
+pub other_refusal : (e : PuttyError) (lf : Bool) → (e ≡ putty.NoMemory → ⊥) → (e ≡ putty.TooLong → ⊥)
+    → putty_refusal e lf ≡ convert.Putty e
+other_refusal putty.EndOfInput lf memory long = refl
+other_refusal (putty.InvalidInput context expected actual) lf memory long = refl
+other_refusal putty.InvalidKeyValueFormat lf memory long = refl
+other_refusal putty.Aes lf memory long = refl
+other_refusal putty.Argon2 lf memory long = refl
+other_refusal putty.MacValidation lf memory long = refl
+other_refusal putty.PublicAndPrivateKeyMismatch lf memory long = refl
+other_refusal putty.InvalidPrivateKeyData lf memory long = refl
+other_refusal putty.InvalidPublicKeyData lf memory long = refl
+other_refusal putty.InvalidPublicKeyContainer lf memory long = refl
+other_refusal putty.InvalidPublicKeyComment lf memory long = refl
+other_refusal putty.AlreadyDecrypted lf memory long = refl
+other_refusal putty.AlreadyEncrypted lf memory long = refl
+other_refusal putty.Encrypted lf memory long = refl
+other_refusal (putty.NotSupported feature) lf memory long = refl
+other_refusal (putty.SshPublicKey e) lf memory long = refl
+other_refusal (putty.IoError kind) lf memory long = refl
+other_refusal putty.SuiteFault lf memory long = refl
+other_refusal putty.TooLong lf memory long = absurd (long refl)
+other_refusal putty.TooManyLines lf memory long = refl
+other_refusal putty.NoMemory lf memory long = absurd (memory refl)
+
+-- ---- what is written of it
+
+pub lf_refused : (key : SshPublicKey) → is_hardware key.inner_key ≡ false → has_lf key ≡ true
+    → written targets.PuttyPublic (public_meaning key) ≡ Err convert.CommentNotCarried
+unfolding written
+lf_refused key plain lf = rw (plain, lf) refl
+
+pub blob_refused : (key : SshPublicKey) → is_hardware key.inner_key ≡ false → has_lf key ≡ false
+    → is_short (blob_of key.inner_key) ≡ false → written targets.PuttyPublic (public_meaning key) ≡ Err convert.TooLong
+unfolding written
+blob_refused key plain lf long = rw (plain, lf, long) refl
+
+pub hardware_refused : (key : SshPublicKey) → is_hardware key.inner_key ≡ true
+    → written targets.PuttyPublic (public_meaning key) ≡ Err (convert.Putty no_hardware_keys)
+unfolding written
+hardware_refused key hardware = rw hardware refl
+
+-- a refusal of the key is the conversion's
+pub key_refused : (key : SshPublicKey) (e : PuttyError) (f : ConvertError) (lf : Bool)
+    → (is_no_memory e ≡ false → of_openssh key ≡ Err e) → lf ≡ has_lf key → f ≡ putty_refusal e lf
+    → convert_no_memory f ≡ false → written targets.PuttyPublic (public_meaning key) ≡ Err f
+key_refused key e f lf refused lf_is is known = elim (cases_Bool (is_no_memory e)) [
+  | inl memory ↦ let none : true ≡ false = rw (is, memory_is e memory) at known in cc none
+  | inr other ↦ elim (refused_of key e (refused other)) [
+    | inl hardware ↦ hardware_refused key hardware.0 ∙ sym (ap Err (is ∙ ap (λ x. putty_refusal x lf) hardware.1))
+    | inr long ↦ elim (cases_Bool lf) [
+      | inl has ↦ lf_refused key long.0 (sym lf_is ∙ has)
+          ∙ sym (ap Err (is ∙ ap (λ x. putty_refusal x lf) long.2 ∙ ap (putty_refusal putty.TooLong) has))
+      | inr none ↦ blob_refused key long.0 (sym lf_is ∙ none) long.1
+          ∙ sym (ap Err (is ∙ ap (λ x. putty_refusal x lf) long.2 ∙ ap (putty_refusal putty.TooLong) none))
+    ]
+  ]
+]
+
+pub text_written : (key : SshPublicKey) (made : PuttyPublicKey) (text : List ℕ) → IsMade key made → has_lf key ≡ false
+    → putty_text made ≡ Ok text → written targets.PuttyPublic (public_meaning key) ≡ Ok text
+unfolding written putty_text
+text_written key made text is lf done =
+    let done : putty_text (record { blob = blob_of key.inner_key; comment = key.comment }) ≡ Ok text = ap putty_text is.is ∙ done in
+    let passed = passes (is_short (putty_public (blob_of key.inner_key) key.comment)) _ putty.TooLong text done in
+    let is_text : putty_public (blob_of key.inner_key) key.comment ≡ text = cc passed.1 in
+    rw (is.plain, lf, is.short, passed.0) (ap Ok is_text)
+
+pub text_refused : (key : SshPublicKey) (made : PuttyPublicKey) (e : PuttyError) → IsMade key made → has_lf key ≡ false
+    → putty_text made ≡ Err e → written targets.PuttyPublic (public_meaning key) ≡ Err convert.TooLong
+unfolding written putty_text
+text_refused key made e is lf refused =
+    let refused : putty_text (record { blob = blob_of key.inner_key; comment = key.comment }) ≡ Err e = ap putty_text is.is ∙ refused in
+    rw (is.plain, lf, is.short, failed (is_short (putty_public (blob_of key.inner_key) key.comment)) _ _ _ refused) refl
+  where
+    failed : {A E : Type 0} (b : Bool) (e f : E) (x : A) → (if b then Ok x else Err e) ≡ Err f → b ≡ false
+    failed true e f x same = cc same
+    failed false e f x same = refl

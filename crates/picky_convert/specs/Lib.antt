@@ -1,10 +1,7 @@
-pub mod Ed25519
-pub mod FromWire
-pub mod PublicLine
-pub mod LineRefusal
-pub mod PuttyPublic
-pub mod Command
+pub mod Reading
+pub mod Fingerprint
 pub mod Convert
-pub mod Report
+pub mod Command
 pub mod Memory
+pub mod Report
 pub mod Run

@@ -4,47 +4,41 @@ use Rattle.std.specs.Str.{IsUtf8, is_utf8}
 use Rattle.picky_layout.specs.Outcome.{map_err}
 use Rattle.picky_convert.specs.declared.error.Status.{Status}
 use Rattle.picky_convert.specs.declared.error.Status.TheVariants as statuses
-use Rattle.picky_convert.specs.PublicLine.{Meaning}
+use Rattle.picky_convert.specs.declared.command.Command.{Command}
+use Rattle.picky_convert.specs.declared.meaning.Meaning.{Meaning}
 use Rattle.picky_convert.specs.Memory.{wants_memory}
-use Rattle.picky_convert.specs.Convert.{Reads, Carries, Spells, ReadsBack, conversion}
+use Rattle.picky_convert.specs.Reading.{Reads}
+use Rattle.picky_convert.specs.Command.{answer, IsAnswer, CanWrite}
 
 -- how many bytes a source may have
 abbrev pub input_limit : ℕ
 input_limit = 16777216
 
--- the text that is written for these bytes, or the status that says why none is
-unfoldable pub outcome : List ℕ → Result (List ℕ) Status
-outcome input =
+-- the text that the command writes for these bytes, or the status that says why it writes none
+unfoldable pub outcome : Command → List ℕ → Result (List ℕ) Status
+outcome command input =
     if nat_lt input_limit (length input) then Err statuses.InputTooLong
-    else if is_utf8 input then map_err statuses.Refused (conversion input)
+    else if is_utf8 input then map_err statuses.Refused (answer command input)
     else Err statuses.InputNotUtf8
 
--- the bytes are a key text that the conversion carries
-pub record IsValid (input : List ℕ) : Type 0 where
+-- the bytes are a key text for which the command writes a text
+pub record IsValid (command : Command) (input : List ℕ) : Type 0 where
   pub short : length input ≤ input_limit
   pub utf8 : IsUtf8 input
   pub meaning : Meaning
   pub reads : Reads input meaning
-  pub carries : Carries meaning
+  pub can_write : CanWrite command meaning
 
--- the text is the one that spells what the input means, and it is read back
-pub record IsTextOf (input text : List ℕ) : Type 0 where
-  pub meaning : Meaning
-  pub reads : Reads input meaning
-  pub spells : Spells meaning text
-  pub only : (other : List ℕ) → Spells meaning other → other ≡ text
-  pub read_back : ReadsBack text meaning
-
--- that text was written after these bytes
-pub record Converts (input before after : List ℕ) : Type 0 where
+-- what the command writes for these bytes was written after those
+pub record Writes (command : Command) (input before after : List ℕ) : Type 0 where
   pub text : List ℕ
-  pub is_of : IsTextOf input text
+  pub is_answer : IsAnswer command input text
   pub written : after ≡ before ++ text
 
--- a front of that text was written after these bytes
-pub record WritesPrefix (input before after : List ℕ) : Type 0 where
+-- a front of it was
+pub record WritesPrefix (command : Command) (input before after : List ℕ) : Type 0 where
   pub text : List ℕ
-  pub is_of : IsTextOf input text
+  pub is_answer : IsAnswer command input text
   pub len : ℕ
   pub written : after ≡ before ++ take len text
 

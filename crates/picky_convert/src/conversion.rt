@@ -1,89 +1,147 @@
 //! The conversion of a key text.
 
-ghost use Rattle.std.specs.Prelude.{◌≡◌, ◌==◌, ◌≤◌, length, string_bytes, MatchOption};
+ghost use Rattle.std.specs.Prelude.{◌≡◌, ◌==◌, ◌⊎◌, Err, IfOk, IsOk};
 ghost use Rattle.std.specs.List.{list_any};
-ghost use Rattle.std.specs.Str.{IsUtf8};
+ghost use Rattle.picky_text.specs.Words.{ends_line};
 ghost use Rattle.picky_wire.specs.Gives.{Gives};
-ghost use Rattle.picky_convert.specs.Convert.{conversion, written};
-ghost use Rattle.picky_convert.specs.Memory.{convert_no_memory, status_no_memory, input_refusal, refusal_status};
-ghost use Rattle.picky_convert.specs.Run.{input_limit, outcome};
+ghost use Rattle.picky_convert.specs.Memory.{convert_no_memory};
+ghost use Rattle.picky_convert.specs.Reading.{public_key as public_key_of, public_meaning, Reads};
+ghost use Rattle.picky_convert.specs.Convert.{Carries, HasRoom, carries_comment, putty_refusal as putty_refusal_of, conversion, written, IsConversion};
 
-use crate::error::{ConvertError, ReadError, SshPublicKeyError, Status};
-use crate::line::{PublicLine, read_line};
-use crate::putty::putty_text;
+use crate::error::{ConvertError, ReadError};
+use crate::meaning::{Key, Meaning, read_text};
+use memchr::{memchr, memchr2};
+use picky_ppk::{PuttyError, PuttyPublicKey};
+use picky_sshpub::{SshPublicKey, SshPublicKeyError};
+use picky_suite::Suite;
+use picky_wire::Text;
 use std::alloc::Global;
-use std::str;
 
-/// The text that is written for these bytes, or the status that says why none is.
-#[tactic(auto, using(crate::proofs::OutcomeLemmas::outcomes))]
-pub fn convert_bytes(alloc: Global, input: &[u8]) -> Result<String, Status>
-    requires { length input.now ≤ input_limit }
-    ensures { Gives status_no_memory string_bytes result (outcome input.now) }
-{
-    match as_text(input) {
-        Some(text) => match convert(alloc, text) {
-            Ok(text) => Ok(text),
-            Err(e) => Err(status_of(e)),
-        },
-        None => Err(Status::InputNotUtf8),
-    }
+/// What a key text is converted to.
+#[derive(Debug, Drop, PartialEq, Eq)]
+pub enum Target {
+    OpenSshPublic,
+    PuttyPublic,
 }
 
-/// The bytes as a text, where they are UTF-8.
-fn as_text(bytes: &[u8]) -> Option<&str>
-    ensures { MatchOption result (IsUtf8 bytes.now → ⊥) (λ text. (text.now ≡ bytes.now) × IsUtf8 bytes.now) }
-{
-    str::from_utf8(bytes).ok()
-}
-
-/// The status of a conversion that is refused.
-#[tactic(auto, using(crate::proofs::MemoryLemmas::known_refusal))]
-fn status_of(e: ConvertError) -> Status
-    ensures { result ≡ refusal_status e }
-{
-    match e {
-        ConvertError::NoMemory => Status::NoMemory,
-        e => Status::Refused(e),
-    }
-}
-
-/// The public key in PuTTY's format for a key text.
+/// The text of the target for the key and the comment that a text means.
+///
+/// `OpenSshPublic` is a public key line and `PuttyPublic` PuTTY's text of a public key (docs/FORMATS.md).
+/// Refuses, in order: `Input`; `Putty(NotSupported)`, where PuTTY has no such key; `CommentNotCarried`;
+/// `TooLong`, where the blob or the text has 2^32 bytes or more.
 #[tactic(auto, unfolding(crate::specs::Convert::conversion))]
-fn convert(alloc: Global, text: &str) -> Result<String, ConvertError>
-    ensures { Gives convert_no_memory string_bytes result (conversion text.now) }
+pub fn convert<S: Suite>(
+    alloc: Global,
+    suite: &mut S,
+    input: &str,
+    target: &Target,
+) -> Result<Text, ConvertError>
+    ensures gives { Gives convert_no_memory (λ text. text) result (conversion target.now input.now) }
+    ensures converts { IfOk result (λ text. IsConversion target.now input.now text) }
+    ensures complete { (meaning : Meaning) → Reads input.now meaning → Carries target.now meaning
+        → HasRoom target.now meaning → IsOk result ⊎ (result ≡ Err ConvertError.NoMemory) }
+    ensures unused { suite.new ≡ suite.old }
 {
-    match read_line(alloc, text) {
-        Ok(line) => write_line(alloc, &line),
-        Err(e) => Err(input_error(e)),
+    match read_text(alloc, suite, input) {
+        Ok(meaning) => write_text(alloc, target, meaning),
+        Err(ReadError::NoMemory) => Err(ConvertError::NoMemory),
+        Err(e) => Err(ConvertError::Input(e)),
     }
 }
 
-/// The text of a key and a comment, where the comment is carried.
-fn write_line(alloc: Global, line: &PublicLine<'_>) -> Result<String, ConvertError>
-    ensures { Gives convert_no_memory string_bytes result (written (record { key = line.now.key; comment = line.now.comment.now })) }
+/// The text of the target for a meaning.
+fn write_text(alloc: Global, target: &Target, meaning: Meaning) -> Result<Text, ConvertError>
+    ensures { Gives convert_no_memory (λ text. text) result (written target.now meaning) }
 {
-    if has_lf(line.comment) {
+    let key = public_key(meaning);
+    match target {
+        Target::OpenSshPublic => write_line(alloc, &key),
+        Target::PuttyPublic => write_putty(alloc, key),
+    }
+}
+
+/// The public part of the key, with the comment.
+pub fn public_key(meaning: Meaning) -> SshPublicKey
+    ensures { result ≡ public_key_of meaning }
+{
+    let Meaning { key, comment } = meaning;
+    match key {
+        Key::Public(inner_key) => SshPublicKey { inner_key, comment },
+    }
+}
+
+/// The public key line.
+#[tactic(auto, unfolding(crate::specs::Convert::written, picky_sshpub::specs::LineRefusal::line_text))]
+fn write_line(alloc: Global, key: &SshPublicKey) -> Result<Text, ConvertError>
+    ensures { Gives convert_no_memory (λ text. text) result (written Target.OpenSshPublic (public_meaning key.now)) }
+{
+    if !line_carries(key.comment.as_str()) {
         return Err(ConvertError::CommentNotCarried);
     }
-    match putty_text(alloc, &line.key, line.comment) {
+    match key.to_string(alloc) {
         Ok(text) => Ok(text),
+        Err(SshPublicKeyError::TooLong) => Err(ConvertError::TooLong),
         Err(_) => Err(ConvertError::NoMemory),
     }
 }
 
+/// PuTTY's text.
+fn write_putty(alloc: Global, key: SshPublicKey) -> Result<Text, ConvertError>
+    ensures { Gives convert_no_memory (λ text. text) result (written Target.PuttyPublic (public_meaning key)) }
+{
+    let lf = has_lf(key.comment.as_str());
+    match PuttyPublicKey::take_openssh(alloc, key) {
+        Ok(putty) => {
+            if lf {
+                return Err(ConvertError::CommentNotCarried);
+            }
+            match putty.to_string(alloc) {
+                Ok(text) => Ok(text),
+                Err(PuttyError::TooLong) => Err(ConvertError::TooLong),
+                Err(_) => Err(ConvertError::NoMemory),
+            }
+        }
+        Err(e) => Err(putty_refusal(e, lf)),
+    }
+}
+
+/// The refusal of a key that PuTTY lacks, or whose blob is too long; a comment with LF is judged between.
+#[tactic(auto, using(crate::proofs::PuttyLemmas::other_refusal))]
+fn putty_refusal(e: PuttyError, lf: bool) -> ConvertError
+    ensures { result ≡ putty_refusal_of e lf }
+{
+    match e {
+        PuttyError::NoMemory => ConvertError::NoMemory,
+        PuttyError::TooLong => {
+            if lf {
+                return ConvertError::CommentNotCarried;
+            }
+            ConvertError::TooLong
+        }
+        e => ConvertError::Putty(e),
+    }
+}
+
+/// Whether a line carries the comment.
+fn line_carries(comment: &str) -> bool
+    ensures { result ≡ carries_comment Target.OpenSshPublic comment.now }
+{
+    !has_line_end(comment) && comment.trim_end() == comment
+}
+
+#[tactic(auto, using(crate::proofs::SearchLemmas::found_is_any))]
+fn has_line_end(text: &str) -> bool
+    ensures { result ≡ list_any ends_line text.now }
+{
+    memchr2(b'\r', b'\n', text.as_bytes()).is_some()
+}
+
+#[tactic(auto, using(crate::proofs::SearchLemmas::found_is_any))]
 fn has_lf(text: &str) -> bool
     ensures { result ≡ list_any (λ b. b == 10) text.now }
 {
-    text.as_bytes().iter().any(|b| *b == b'\n')
+    memchr(b'\n', text.as_bytes()).is_some()
 }
 
-/// A line's refusal as the conversion's.
-#[tactic(auto, using(crate::proofs::MemoryLemmas::known_error))]
-fn input_error(e: SshPublicKeyError) -> ConvertError
-    ensures { result ≡ input_refusal e }
-{
-    match e {
-        SshPublicKeyError::NoMemory => ConvertError::NoMemory,
-        e => ConvertError::Input(ReadError::Public(e)),
-    }
-}
+#[cfg(test)]
+mod tests;

@@ -1,56 +1,15 @@
 //! Why a key text is not converted, and how a run ends.
 
 ghost use Rattle.std.specs.Prelude.{◌≡◌};
-ghost use Rattle.picky_convert.specs.FromWire.{public_key_error};
 
-use picky_wire::{IoKind, WireError};
+use picky_ppk::PuttyError;
+use picky_sshpub::SshPublicKeyError;
 use thiserror::Error;
-
-/// Why a public key line is not read.
-#[derive(Debug, Drop, PartialEq, Eq, Error)]
-pub enum SshPublicKeyError {
-    /// The blob is cut inside a field.
-    #[error("IoError")]
-    IoError(IoKind),
-    /// A string of the blob that must be UTF-8 isn't.
-    #[error("InvalidUtf8")]
-    InvalidUtf8,
-    /// The second word is no base64.
-    #[error("Base64DecodeError")]
-    Base64DecodeError,
-    /// The first word, or the name in the blob, names no key type that is read here.
-    #[error("UnknownKeyType")]
-    UnknownKeyType,
-    /// The key in the blob has a length that its type forbids.
-    #[error("KeyError")]
-    KeyError,
-    /// There are more bytes than a length of the wire can say.
-    #[error("TooLong")]
-    TooLong,
-    /// Memory ran out.
-    #[error("NoMemory")]
-    NoMemory,
-}
-
-impl From<WireError> for SshPublicKeyError {
-    ghost from_gives = { λ e result. result ≡ public_key_error e };
-
-    fn from(e: WireError) -> SshPublicKeyError {
-        match e {
-            WireError::UnexpectedEnd => SshPublicKeyError::IoError(IoKind::UnexpectedEnd),
-            WireError::ReadFault => SshPublicKeyError::IoError(IoKind::ReadFault),
-            WireError::WriteFault => SshPublicKeyError::IoError(IoKind::WriteFault),
-            WireError::InvalidUtf8 => SshPublicKeyError::InvalidUtf8,
-            WireError::TooLong => SshPublicKeyError::TooLong,
-            WireError::NoMemory => SshPublicKeyError::NoMemory,
-        }
-    }
-}
 
 /// Why a key text means nothing.
 #[derive(Debug, Drop, PartialEq, Eq, Error)]
 pub enum ReadError {
-    /// It is read as a public key line.
+    /// As a public key line it says no key.
     #[error("Public")]
     Public(SshPublicKeyError),
     /// Memory ran out.
@@ -67,6 +26,12 @@ pub enum ConvertError {
     /// The target can't hold the comment.
     #[error("CommentNotCarried")]
     CommentNotCarried,
+    /// PuTTY's format can't hold the key.
+    #[error("Putty")]
+    Putty(PuttyError),
+    /// What is to be written has more bytes than a length of the wire can say.
+    #[error("TooLong")]
+    TooLong,
     /// Memory ran out.
     #[error("NoMemory")]
     NoMemory,

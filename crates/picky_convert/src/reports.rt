@@ -3,7 +3,9 @@
 ghost use Rattle.std.specs.Prelude.{◌≡◌};
 ghost use Rattle.picky_convert.specs.Report.{report as report_of};
 
-use crate::error::{ConvertError, ReadError, SshPublicKeyError, Status};
+use crate::error::{ConvertError, ReadError, Status};
+use picky_ppk::PuttyError;
+use picky_sshpub::SshPublicKeyError;
 
 /// The line of a status; Done has none that is written.
 #[tactic(auto, unfolding(crate::specs::Report::report))]
@@ -16,6 +18,8 @@ pub fn report(status: &Status) -> &'static str
         Status::Refused(ConvertError::Input(ReadError::NoMemory)) =>
             "keyconv: refused: input.NoMemory\n",
         Status::Refused(ConvertError::CommentNotCarried) => "keyconv: refused: CommentNotCarried\n",
+        Status::Refused(ConvertError::Putty(e)) => putty_report(e),
+        Status::Refused(ConvertError::TooLong) => "keyconv: refused: TooLong\n",
         Status::Refused(ConvertError::NoMemory) => "keyconv: refused: NoMemory\n",
         Status::Usage => {
             "keyconv: usage: keyconv openssh|ppk2|ppk3|ssh-pub|putty-pub|cert|tbs|fingerprint|sample\n"
@@ -43,3 +47,40 @@ fn public_report(e: &SshPublicKeyError) -> &'static str
         SshPublicKeyError::NoMemory => "keyconv: refused: input.public.NoMemory\n",
     }
 }
+
+#[tactic(auto, unfolding(crate::specs::Report::report))]
+fn putty_report(e: &PuttyError) -> &'static str
+    ensures { result.now ≡ report_of (Status.Refused (ConvertError.Putty e.now)) }
+{
+    match e {
+        PuttyError::EndOfInput => "keyconv: refused: output.putty.EndOfInput\n",
+        PuttyError::InvalidInput { .. } => "keyconv: refused: output.putty.InvalidInput\n",
+        PuttyError::InvalidKeyValueFormat =>
+            "keyconv: refused: output.putty.InvalidKeyValueFormat\n",
+        PuttyError::Aes => "keyconv: refused: output.putty.Aes\n",
+        PuttyError::Argon2 => "keyconv: refused: output.putty.Argon2\n",
+        PuttyError::MacValidation => "keyconv: refused: output.putty.MacValidation\n",
+        PuttyError::PublicAndPrivateKeyMismatch =>
+            "keyconv: refused: output.putty.PublicAndPrivateKeyMismatch\n",
+        PuttyError::InvalidPrivateKeyData =>
+            "keyconv: refused: output.putty.InvalidPrivateKeyData\n",
+        PuttyError::InvalidPublicKeyData => "keyconv: refused: output.putty.InvalidPublicKeyData\n",
+        PuttyError::InvalidPublicKeyContainer =>
+            "keyconv: refused: output.putty.InvalidPublicKeyContainer\n",
+        PuttyError::InvalidPublicKeyComment =>
+            "keyconv: refused: output.putty.InvalidPublicKeyComment\n",
+        PuttyError::AlreadyDecrypted => "keyconv: refused: output.putty.AlreadyDecrypted\n",
+        PuttyError::AlreadyEncrypted => "keyconv: refused: output.putty.AlreadyEncrypted\n",
+        PuttyError::Encrypted => "keyconv: refused: output.putty.Encrypted\n",
+        PuttyError::NotSupported { .. } => "keyconv: refused: output.putty.NotSupported\n",
+        PuttyError::SshPublicKey(_) => "keyconv: refused: output.putty.SshPublicKey\n",
+        PuttyError::IoError(_) => "keyconv: refused: output.putty.IoError\n",
+        PuttyError::SuiteFault => "keyconv: refused: output.putty.SuiteFault\n",
+        PuttyError::TooLong => "keyconv: refused: output.putty.TooLong\n",
+        PuttyError::TooManyLines => "keyconv: refused: output.putty.TooManyLines\n",
+        PuttyError::NoMemory => "keyconv: refused: output.putty.NoMemory\n",
+    }
+}
+
+#[cfg(test)]
+mod tests;

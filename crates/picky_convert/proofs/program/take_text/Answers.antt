@@ -6,13 +6,13 @@ use Rattle.picky_convert.proofs.CauseLemmas.{can_come, explained, outcome_long}
 use Rattle.picky_convert.proofs.program.take_text.Goals as goal
 
 pub returns-in-Ok-clause-known : goal.returns-in-Ok-clause-known
-returns-in-Ok-clause-known g c = can_come _ c.convert_bytes.result c.as_slice.result.now _ c.convert_bytes.ensures
+returns-in-Ok-clause-known g c = can_come _ c.perform.result c.args.command.now c.as_slice.result.now _ c.perform.ensures.gives
 
 pub returns-in-Ok-clause-refused : goal.returns-in-Ok-clause-refused
 returns-in-Ok-clause-refused g c = λ told.
     let whole = c.as_slice.ensures.value ∙ c.in-Ok.ensures.whole told in
-    subst (λ input. IfErr c.convert_bytes.result (λ status. Explains status (outcome input))) whole
-    (explained _ c.convert_bytes.result c.as_slice.result.now c.convert_bytes.ensures)
+    subst (λ input. IfErr c.perform.result (λ status. Explains status (outcome c.args.command.now input))) whole
+    (explained _ c.perform.result c.args.command.now c.as_slice.result.now c.perform.ensures.gives)
 
 pub returns-in-Err-TooLong-clause-refused : goal.returns-in-Err-TooLong-clause-refused
-returns-in-Err-TooLong-clause-refused g c = λ told. outcome_long _ (c.in-Err-TooLong.ensures.too_long told (ap Err c.in-Err-TooLong.field-0-is))
+returns-in-Err-TooLong-clause-refused g c = λ told. outcome_long c.args.command.now _ (c.in-Err-TooLong.ensures.too_long told (ap Err c.in-Err-TooLong.field-0-is))
