@@ -1,21 +1,15 @@
 -- Which statuses a run can have for the bytes of its source.
-use Rattle.std.proofs.Common.{◌≡◌, ℕ, ◌<◌, List, length, Bool, true, false, Option, Some, None, Result, Ok, Err, refl, sym, ap, ◌∙◌, subst, nat_lt, if◌then◌else◌, ◌&&◌, ◌≢◌, ◌⊎◌, inl, inr}
+use Rattle.std.proofs.Common.{◌≡◌, ℕ, ◌<◌, List, length, Bool, true, false, Result, Ok, Err, refl, sym, ap, ◌∙◌, subst, nat_lt, if◌then◌else◌, ◌≢◌, ◌⊎◌, inl, inr}
 use Rattle.std.proofs.lemmas.Bool.{lt-ltb, ltb-true}
 use Rattle.std.proofs.lemmas.Str.{is_utf8-from_IsUtf8}
-use Rattle.std.specs.Option.{ok_or}
 use Rattle.std.specs.Str.{IsUtf8, is_utf8}
 use Rattle.std.specs.Prelude.{IfErr}
 use Rattle.picky_wire.specs.Gives.{Gives}
-use Rattle.picky_layout.specs.Flaw.{Why, Short, NotUtf8, Big, Flawed, Length, Magic, Name, Number}
 use Rattle.picky_layout.specs.Outcome.{and_then, map_err}
-use Rattle.picky_text.specs.Base64.{decoded}
-use Rattle.picky_text.specs.Words.{first_word, body_word, comment_of}
-use Rattle.picky_sshpub.specs.FromWire.{no_memory as public_no_memory}
 use Rattle.picky_sshpub.specs.declared.error.SshPublicKeyError.{SshPublicKeyError}
 use Rattle.picky_sshpub.specs.declared.error.SshPublicKeyError.TheVariants as public
-use Rattle.picky_sshpub.specs.Blob.{blob}
-use Rattle.picky_sshpub.specs.BlobRefusal.{why_error, blob_error, read_blob}
-use Rattle.picky_sshpub.specs.LineRefusal.{blob_key, body_key, is_key_type, is_short, line_meaning}
+use Rattle.picky_sshpub.specs.LineRefusal.{line_meaning}
+use Rattle.picky_sshpub.specs.LineOwn.{line_own}
 use Rattle.picky_ppk.specs.PuttyRefusal.{no_hardware_keys}
 use Rattle.picky_convert.specs.declared.command.Command.{Command}
 use Rattle.picky_convert.specs.declared.command.Command.TheVariants as commands
@@ -30,20 +24,14 @@ use Rattle.picky_convert.specs.declared.meaning.Meaning.{Meaning}
 use Rattle.picky_convert.specs.Reading.{reading}
 use Rattle.picky_convert.specs.Convert.{has_kind, carries_comment, has_room, text_for, written, conversion}
 use Rattle.picky_convert.specs.Command.{answer}
-use Rattle.picky_convert.specs.Memory.{read_wants_memory, wants_memory, status_no_memory}
+use Rattle.picky_convert.specs.Memory.{WantsMemory}
 use Rattle.picky_convert.specs.Run.{input_limit, outcome, Explains, CanCome}
 use Rattle.picky_convert.proofs.TestLemmas.{refuses}
 
 -- ---- no refusal is want of memory
 
-why_known : (why : Why) → public_no_memory (why_error why) ≡ false
-why_known (Flawed Short) = refl
-why_known (Flawed NotUtf8) = refl
-why_known (Flawed Big) = refl
-why_known Length = refl
-why_known Magic = refl
-why_known (Name n) = refl
-why_known (Number n) = refl
+abbrev IsPublic : SshPublicKeyError → Type 0
+IsPublic e = e ≡ public.NoMemory → ⊥
 
 -- a step after which only refusals of the next one come
 next_known : {E A B : Type 0} (P : E → Type 0) (r : Result A E) (next : A → Result B E) (e : E)
@@ -56,54 +44,38 @@ mapped_known : {E F A : Type 0} (P : F → Type 0) (f : E → F) (r : Result A E
 mapped_known P f (Ok x) e each refused = cc refused
 mapped_known P f (Err g) e each refused = let is : f g ≡ e = cc refused in subst P is (each g refl)
 
-none_known : {A E : Type 0} (P : E → Type 0) (o : Option A) (own e : E) → P own → ok_or o own ≡ Err e → P e
-none_known P (Some x) own e known refused = cc refused
-none_known P None own e known refused = let is : own ≡ e = cc refused in subst P is known
-
-abbrev IsPublic : SshPublicKeyError → Type 0
-IsPublic e = public_no_memory e ≡ false
-
-blob_known : (bytes : List ℕ) (e : SshPublicKeyError) → blob_key bytes ≡ Err e → IsPublic e
-unfolding blob_key read_blob
-blob_known bytes e refused =
-    next_known IsPublic (map_err blob_error (blob.read bytes)) (λ found. Ok found.0) e
-    (λ f. mapped_known IsPublic blob_error (blob.read bytes) f (λ reason is. why_known reason.1))
-    (λ found f is. cc is) refused
-
-body_known : (body : List ℕ) (e : SshPublicKeyError) → body_key body ≡ Err e → IsPublic e
-unfolding body_key
-body_known body e refused =
-    next_known IsPublic (ok_or (decoded body) public.Base64DecodeError) blob_key e
-    (λ f. none_known IsPublic (decoded body) public.Base64DecodeError f refl) blob_known refused
-
 line_known : (text : List ℕ) (e : SshPublicKeyError) → line_meaning text ≡ Err e → IsPublic e
-unfolding line_meaning
-line_known text e refused =
-    refuses IsPublic (is_key_type (first_word text)) _ public.UnknownKeyType e
-    (λ f. refuses IsPublic (is_short (body_word text) && is_short (comment_of text)) _ public.TooLong f
-    (λ g. next_known IsPublic (body_key (body_word text)) _ g (body_known (body_word text)) (λ key h is. cc is)) refl)
-    refl refused
+line_known text e refused = (line_own text e refused).1
 
 abbrev IsConvert : ConvertError → Type 0
-IsConvert e = wants_memory e ≡ false
+IsConvert e = WantsMemory e → ⊥
 
-reading_known : (text : List ℕ) (e : ReadError) → reading text ≡ Err e → read_wants_memory e ≡ false
+public_known : (e : SshPublicKeyError) → IsPublic e → IsConvert (convert.Input (input_errors.Public e))
+public_known e other (inl is) = cc is
+public_known e other (inr is) = other (cc is)
+
+reading_known : (text : List ℕ) (e : ReadError) → reading text ≡ Err e → IsConvert (convert.Input e)
 unfolding reading
 reading_known text e refused =
-    next_known (λ e. read_wants_memory e ≡ false) (map_err input_errors.Public (line_meaning text)) _ e
-    (λ f. mapped_known (λ e. read_wants_memory e ≡ false) input_errors.Public (line_meaning text) f (line_known text))
+    next_known (λ e. IsConvert (convert.Input e)) (map_err input_errors.Public (line_meaning text)) _ e
+    (λ f. mapped_known (λ e. IsConvert (convert.Input e)) input_errors.Public (line_meaning text) f
+    (λ g is. public_known g (line_known text g is)))
     (λ key f is. cc is) refused
 
 input_known : (text : List ℕ) (e : ConvertError) → map_err convert.Input (reading text) ≡ Err e → IsConvert e
 input_known text e refused = mapped_known IsConvert convert.Input (reading text) e (reading_known text) refused
+
+hardware_known : IsConvert (convert.Putty no_hardware_keys)
+hardware_known (inl is) = cc is
+hardware_known (inr is) = cc is
 
 written_known : (target : Target) (meaning : Meaning) (e : ConvertError) → written target meaning ≡ Err e → IsConvert e
 unfolding written
 written_known target meaning e refused =
     refuses IsConvert (has_kind target meaning.key) _ (convert.Putty no_hardware_keys) e
     (λ f. refuses IsConvert (carries_comment target meaning.comment) _ convert.CommentNotCarried f
-    (λ g. refuses IsConvert (has_room target meaning) (Ok (text_for target meaning)) convert.TooLong g (λ h is. cc is) refl) refl)
-    refl refused
+    (λ g. refuses IsConvert (has_room target meaning) (Ok (text_for target meaning)) convert.TooLong g (λ h is. cc is) (λ is. cc is)) (λ is. cc is))
+    hardware_known refused
 
 answer_known : (command : Command) (text : List ℕ) (e : ConvertError) → answer command text ≡ Err e → IsConvert e
 unfolding conversion
@@ -153,16 +125,11 @@ explains_at command input status fault refused = go (outcome_err command input s
 
 -- a status that a command answers explains itself
 pub explains : (command : Command) (input : List ℕ) (status : Status) (fault : Type 0)
-    → (status_no_memory status ≡ false → outcome command input ≡ Err status)
+    → (status ≡ statuses.NoMemory) ⊎ (outcome command input ≡ Err status)
     → CanCome status fault × Explains status (outcome command input)
-explains command input statuses.Done fault each = explains_at command input statuses.Done fault (each refl)
-explains command input (statuses.Refused e) fault each = explains_at command input (statuses.Refused e) fault (each refl)
-explains command input statuses.Usage fault each = explains_at command input statuses.Usage fault (each refl)
-explains command input statuses.ReadFault fault each = explains_at command input statuses.ReadFault fault (each refl)
-explains command input statuses.WriteFault fault each = explains_at command input statuses.WriteFault fault (each refl)
-explains command input statuses.NoMemory fault each = (tt, tt)
-explains command input statuses.InputTooLong fault each = explains_at command input statuses.InputTooLong fault (each refl)
-explains command input statuses.InputNotUtf8 fault each = explains_at command input statuses.InputNotUtf8 fault (each refl)
+explains command input status fault (inl memory) =
+    subst (λ s. CanCome s fault × Explains s (outcome command input)) (sym memory) (tt, tt)
+explains command input status fault (inr refused) = explains_at command input status fault refused
 
 -- more bytes than the limit
 pub outcome_long : (command : Command) (input : List ℕ) → input_limit < length input → outcome command input ≡ Err statuses.InputTooLong
@@ -186,12 +153,12 @@ no_text_of command input refused = elim (outcome_err command input statuses.Inpu
 ]
 
 pub can_come : {X : Type 0} (view : X → List ℕ) (r : Result X Status) (command : Command) (input : List ℕ) (fault : Type 0)
-    → Gives status_no_memory view r (outcome command input) → IfErr r (λ status. CanCome status fault)
+    → Gives statuses.NoMemory view r (outcome command input) → IfErr r (λ status. CanCome status fault)
 can_come view (Ok x) command input fault gives = tt
 can_come view (Err status) command input fault gives = (explains command input status fault gives).0
 
 pub explained : {X : Type 0} (view : X → List ℕ) (r : Result X Status) (command : Command) (input : List ℕ)
-    → Gives status_no_memory view r (outcome command input) → IfErr r (λ status. Explains status (outcome command input))
+    → Gives statuses.NoMemory view r (outcome command input) → IfErr r (λ status. Explains status (outcome command input))
 explained view (Ok x) command input gives = tt
 explained view (Err status) command input gives = (explains command input status (Unit {0}) gives).1
 

@@ -21,7 +21,6 @@ use Rattle.picky_ppk.specs.PuttyLaws.{putty_public_spells, putty_public_only, pu
 use Rattle.picky_wire.specs.Gives.{Gives}
 use Rattle.picky_convert.specs.declared.error.ConvertError.{ConvertError}
 use Rattle.picky_convert.specs.declared.error.ConvertError.TheVariants as errors
-use Rattle.picky_convert.specs.Memory.{convert_no_memory}
 use Rattle.picky_convert.specs.declared.conversion.Target.{Target}
 use Rattle.picky_convert.specs.declared.conversion.Target.TheVariants as targets
 use Rattle.picky_convert.specs.declared.meaning.Meaning.{Meaning}
@@ -121,7 +120,7 @@ pub read_is_kept : (input : List ℕ) (meaning : Meaning) → IsUtf8 input → r
 read_is_kept input meaning utf8 means short =
     let line = line_of_reading input meaning means in
     let same = ap public_key line.2 in
-    subst IsKept (sym same) (text_is_kept input line.0 (utf8_is_bytes input utf8) utf8 line.1
+    subst IsKept (sym same) (text_is_kept input line.0 (utf8_is_bytes input utf8) line.1
     (subst (λ k. length (line_of k) < 2 ^ 32) same short))
 
 -- what is written is read back
@@ -207,28 +206,22 @@ line_is_kept input text utf8 done =
 
 -- what is written for the meaning of a text is its conversion
 pub written_is : (r : Result (List ℕ) ConvertError) (target : Target) (input : List ℕ) (meaning : Meaning)
-    → reading input ≡ Ok meaning → Gives convert_no_memory (λ text. text) r (written target meaning)
-    → Gives convert_no_memory (λ text. text) r (conversion target input)
+    → reading input ≡ Ok meaning → Gives errors.NoMemory (λ text. text) r (written target meaning)
+    → Gives errors.NoMemory (λ text. text) r (conversion target input)
 unfolding conversion
 written_is r target input meaning means gives = rw means gives
 
 -- what `conversion` gives is the text of its input
 pub given_converts : (r : Result (List ℕ) ConvertError) (target : Target) (input : List ℕ) → IsUtf8 input
-    → Gives convert_no_memory (λ text. text) r (conversion target input) → IfOk r (λ text. IsConversion target input text)
+    → Gives errors.NoMemory (λ text. text) r (conversion target input) → IfOk r (λ text. IsConversion target input text)
 given_converts (Ok text) target input utf8 gives = conversion_is target input text utf8 gives
 given_converts (Err e) target input utf8 gives = tt
 
 -- and there is one for what the target carries, where there is memory
 pub given_text : (r : Result (List ℕ) ConvertError) (target : Target) (input : List ℕ) (meaning : Meaning)
-    → Gives convert_no_memory (λ text. text) r (conversion target input) → Reads input meaning → Carries target meaning
+    → Gives errors.NoMemory (λ text. text) r (conversion target input) → Reads input meaning → Carries target meaning
     → HasRoom target meaning → IsOk r ⊎ (r ≡ Err errors.NoMemory)
 given_text (Ok text) target input meaning gives reads carries room = inl refl
-given_text (Err (errors.Input e)) target input meaning gives reads carries room =
-    let refused = gives refl in let done = conversion_of target input meaning reads carries room in cc (refused, done)
-given_text (Err errors.CommentNotCarried) target input meaning gives reads carries room =
-    let refused = gives refl in let done = conversion_of target input meaning reads carries room in cc (refused, done)
-given_text (Err (errors.Putty e)) target input meaning gives reads carries room =
-    let refused = gives refl in let done = conversion_of target input meaning reads carries room in cc (refused, done)
-given_text (Err errors.TooLong) target input meaning gives reads carries room =
-    let refused = gives refl in let done = conversion_of target input meaning reads carries room in cc (refused, done)
-given_text (Err errors.NoMemory) target input meaning gives reads carries room = inr refl
+given_text (Err e) target input meaning (inl memory) reads carries room = inr (ap Err memory)
+given_text (Err e) target input meaning (inr refused) reads carries room =
+    let done = conversion_of target input meaning reads carries room in cc (refused, done)

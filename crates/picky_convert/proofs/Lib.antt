@@ -1,9 +1,8 @@
 pub mod TestLemmas
 pub mod SearchLemmas
 pub mod Utf8Lemmas
-pub mod OutputLemmas
-pub mod MemoryLemmas
 pub mod ReadingLemmas
+pub mod SizeLemmas
 pub mod RoomLemmas
 pub mod ConvertLemmas
 pub mod PuttyLemmas

@@ -1,5 +1,5 @@
 -- Lemmas on what is written for the bytes of a source.
-use Rattle.std.proofs.Common.{◌≡◌, ◌≤◌, ℕ, List, length, true, false, Ok, Err, refl, inl, inr}
+use Rattle.std.proofs.Common.{◌≡◌, ◌≤◌, ℕ, List, length, Ok, Err, refl, ap, ◌∙◌, ◌⊎◌, inl, inr}
 use Rattle.std.proofs.lemmas.Bool.{le-ltb, cases_Bool}
 use Rattle.std.proofs.lemmas.Str.{is_utf8-from_IsUtf8, IsUtf8-from_is_utf8}
 use Rattle.std.specs.Str.{IsUtf8, is_utf8}
@@ -9,7 +9,7 @@ use Rattle.picky_convert.specs.declared.command.Command.{Command}
 use Rattle.picky_convert.specs.Command.{answer}
 use Rattle.picky_convert.specs.declared.error.ConvertError.TheVariants as convert
 use Rattle.picky_convert.specs.declared.error.Status.{Status}
-use Rattle.picky_convert.specs.Memory.{convert_no_memory, status_no_memory, refusal_status}
+use Rattle.picky_convert.specs.Memory.{refusal_status}
 use Rattle.picky_convert.specs.Run.{input_limit, outcome}
 
 -- the bytes are a text that is converted
@@ -24,20 +24,19 @@ pub outcome_refused : (command : Command) (input : List ℕ) (e : ConvertError) 
 unfolding outcome
 outcome_refused command input e short utf8 refused = rw (le-ltb input_limit (length input) short, is_utf8-from_IsUtf8 input utf8, refused) refl
 
--- the bytes are a text that is refused, and not for want of memory
+-- the statuses of the other refusals
+pub other_status : (e : ConvertError) → (e ≡ convert.NoMemory → ⊥) → refusal_status e ≡ statuses.Refused e
+other_status convert.NoMemory other = absurd (other refl)
+other_status e other = refl
+
+-- the bytes are a text that is refused, or memory ran out
 pub outcome_of_refusal : (command : Command) (input : List ℕ) (e : ConvertError) (status : Status) → length input ≤ input_limit
-    → IsUtf8 input → (convert_no_memory e ≡ false → answer command input ≡ Err e) → status ≡ refusal_status e
-    → status_no_memory status ≡ false → outcome command input ≡ Err status
-outcome_of_refusal command input (convert.Input e) status short utf8 refused is known =
-    rw is (outcome_refused command input (convert.Input e) short utf8 (refused refl))
-outcome_of_refusal command input convert.CommentNotCarried status short utf8 refused is known =
-    rw is (outcome_refused command input convert.CommentNotCarried short utf8 (refused refl))
-outcome_of_refusal command input (convert.Putty e) status short utf8 refused is known =
-    rw is (outcome_refused command input (convert.Putty e) short utf8 (refused refl))
-outcome_of_refusal command input convert.TooLong status short utf8 refused is known =
-    rw is (outcome_refused command input convert.TooLong short utf8 (refused refl))
-outcome_of_refusal command input convert.NoMemory status short utf8 refused is known =
-    let none : true ≡ false = rw is at known in cc none
+    → IsUtf8 input → (e ≡ convert.NoMemory) ⊎ (answer command input ≡ Err e) → status ≡ refusal_status e
+    → (status ≡ statuses.NoMemory) ⊎ (outcome command input ≡ Err status)
+outcome_of_refusal command input e status short utf8 (inl memory) is = inl (is ∙ ap refusal_status memory)
+outcome_of_refusal command input convert.NoMemory status short utf8 (inr refused) is = inl is
+outcome_of_refusal command input e status short utf8 (inr refused) is =
+    inr (rw is (outcome_refused command input e short utf8 refused))
 
 -- the bytes are no text
 pub outcome_no_text : (command : Command) (input : List ℕ) → length input ≤ input_limit → (IsUtf8 input → ⊥)

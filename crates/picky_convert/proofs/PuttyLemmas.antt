@@ -8,13 +8,11 @@ use Rattle.picky_sshpub.specs.LineRefusal.{is_short}
 use Rattle.picky_ppk.specs.declared.error.PuttyError.{PuttyError}
 use Rattle.picky_ppk.specs.declared.error.PuttyError.TheVariants as putty
 use Rattle.picky_ppk.specs.declared.putty_public.PuttyPublicKey.{PuttyPublicKey}
-use Rattle.picky_ppk.specs.Memory.{is_no_memory}
 use Rattle.picky_ppk.specs.PuttyPublic.{putty_public}
 use Rattle.picky_ppk.specs.PuttyRefusal.{is_hardware, no_hardware_keys, of_openssh, putty_text}
 use Rattle.picky_convert.specs.declared.conversion.Target.TheVariants as targets
 use Rattle.picky_convert.specs.declared.error.ConvertError.{ConvertError}
 use Rattle.picky_convert.specs.declared.error.ConvertError.TheVariants as convert
-use Rattle.picky_convert.specs.Memory.{convert_no_memory}
 use Rattle.picky_convert.specs.Reading.{public_meaning}
 use Rattle.picky_convert.specs.Convert.{putty_refusal, written}
 use Rattle.picky_convert.proofs.TestLemmas.{passes, guarded}
@@ -49,53 +47,12 @@ refused_of key e refused = go (is_hardware key.inner_key) (is_short (blob_of key
     go false true made same = cc same
     go false false made same = inr (refl, refl, cc same)
 
-memory_is : (e : PuttyError) → is_no_memory e ≡ true → e ≡ putty.NoMemory
-memory_is putty.EndOfInput is = cc is
-memory_is (putty.InvalidInput context expected actual) is = cc is
-memory_is putty.InvalidKeyValueFormat is = cc is
-memory_is putty.Aes is = cc is
-memory_is putty.Argon2 is = cc is
-memory_is putty.MacValidation is = cc is
-memory_is putty.PublicAndPrivateKeyMismatch is = cc is
-memory_is putty.InvalidPrivateKeyData is = cc is
-memory_is putty.InvalidPublicKeyData is = cc is
-memory_is putty.InvalidPublicKeyContainer is = cc is
-memory_is putty.InvalidPublicKeyComment is = cc is
-memory_is putty.AlreadyDecrypted is = cc is
-memory_is putty.AlreadyEncrypted is = cc is
-memory_is putty.Encrypted is = cc is
-memory_is (putty.NotSupported feature) is = cc is
-memory_is (putty.SshPublicKey e) is = cc is
-memory_is (putty.IoError kind) is = cc is
-memory_is putty.SuiteFault is = cc is
-memory_is putty.TooLong is = cc is
-memory_is putty.TooManyLines is = cc is
-memory_is putty.NoMemory is = refl
-
 -- the refusals that are handed on
 pub other_refusal : (e : PuttyError) (lf : Bool) → (e ≡ putty.NoMemory → ⊥) → (e ≡ putty.TooLong → ⊥)
     → putty_refusal e lf ≡ convert.Putty e
-other_refusal putty.EndOfInput lf memory long = refl
-other_refusal (putty.InvalidInput context expected actual) lf memory long = refl
-other_refusal putty.InvalidKeyValueFormat lf memory long = refl
-other_refusal putty.Aes lf memory long = refl
-other_refusal putty.Argon2 lf memory long = refl
-other_refusal putty.MacValidation lf memory long = refl
-other_refusal putty.PublicAndPrivateKeyMismatch lf memory long = refl
-other_refusal putty.InvalidPrivateKeyData lf memory long = refl
-other_refusal putty.InvalidPublicKeyData lf memory long = refl
-other_refusal putty.InvalidPublicKeyContainer lf memory long = refl
-other_refusal putty.InvalidPublicKeyComment lf memory long = refl
-other_refusal putty.AlreadyDecrypted lf memory long = refl
-other_refusal putty.AlreadyEncrypted lf memory long = refl
-other_refusal putty.Encrypted lf memory long = refl
-other_refusal (putty.NotSupported feature) lf memory long = refl
-other_refusal (putty.SshPublicKey e) lf memory long = refl
-other_refusal (putty.IoError kind) lf memory long = refl
-other_refusal putty.SuiteFault lf memory long = refl
-other_refusal putty.TooLong lf memory long = absurd (long refl)
-other_refusal putty.TooManyLines lf memory long = refl
 other_refusal putty.NoMemory lf memory long = absurd (memory refl)
+other_refusal putty.TooLong lf memory long = absurd (long refl)
+other_refusal e lf memory long = refl
 
 -- ---- what is written of it
 
@@ -116,20 +73,18 @@ hardware_refused key hardware = rw hardware refl
 
 -- a refusal of the key is the conversion's
 pub key_refused : (key : SshPublicKey) (e : PuttyError) (f : ConvertError) (lf : Bool)
-    → (is_no_memory e ≡ false → of_openssh key ≡ Err e) → lf ≡ has_lf key → f ≡ putty_refusal e lf
-    → convert_no_memory f ≡ false → written targets.PuttyPublic (public_meaning key) ≡ Err f
-key_refused key e f lf refused lf_is is known = elim (cases_Bool (is_no_memory e)) [
-  | inl memory ↦ let none : true ≡ false = rw (is, memory_is e memory) at known in cc none
-  | inr other ↦ elim (refused_of key e (refused other)) [
-    | inl hardware ↦ hardware_refused key hardware.0 ∙ sym (ap Err (is ∙ ap (λ x. putty_refusal x lf) hardware.1))
-    | inr long ↦ elim (cases_Bool lf) [
-      | inl has ↦ lf_refused key long.0 (sym lf_is ∙ has)
-          ∙ sym (ap Err (is ∙ ap (λ x. putty_refusal x lf) long.2 ∙ ap (putty_refusal putty.TooLong) has))
-      | inr none ↦ blob_refused key long.0 (sym lf_is ∙ none) long.1
-          ∙ sym (ap Err (is ∙ ap (λ x. putty_refusal x lf) long.2 ∙ ap (putty_refusal putty.TooLong) none))
-    ]
+    → (e ≡ putty.NoMemory) ⊎ (of_openssh key ≡ Err e) → lf ≡ has_lf key → f ≡ putty_refusal e lf
+    → (f ≡ convert.NoMemory) ⊎ (written targets.PuttyPublic (public_meaning key) ≡ Err f)
+key_refused key e f lf (inl memory) lf_is is = inl (is ∙ ap (λ x. putty_refusal x lf) memory)
+key_refused key e f lf (inr refused) lf_is is = inr (elim (refused_of key e refused) [
+  | inl hardware ↦ hardware_refused key hardware.0 ∙ sym (ap Err (is ∙ ap (λ x. putty_refusal x lf) hardware.1))
+  | inr long ↦ elim (cases_Bool lf) [
+    | inl has ↦ lf_refused key long.0 (sym lf_is ∙ has)
+        ∙ sym (ap Err (is ∙ ap (λ x. putty_refusal x lf) long.2 ∙ ap (putty_refusal putty.TooLong) has))
+    | inr none ↦ blob_refused key long.0 (sym lf_is ∙ none) long.1
+        ∙ sym (ap Err (is ∙ ap (λ x. putty_refusal x lf) long.2 ∙ ap (putty_refusal putty.TooLong) none))
   ]
-]
+])
 
 pub text_written : (key : SshPublicKey) (made : PuttyPublicKey) (text : List ℕ) → IsMade key made → has_lf key ≡ false
     → putty_text made ≡ Ok text → written targets.PuttyPublic (public_meaning key) ≡ Ok text
@@ -140,11 +95,13 @@ text_written key made text is lf done =
     let is_text : putty_public (blob_of key.inner_key) key.comment ≡ text = cc passed.1 in
     rw (is.plain, lf, is.short, passed.0) (ap Ok is_text)
 
-pub text_refused : (key : SshPublicKey) (made : PuttyPublicKey) (e : PuttyError) → IsMade key made → has_lf key ≡ false
-    → putty_text made ≡ Err e → written targets.PuttyPublic (public_meaning key) ≡ Err convert.TooLong
+pub text_refused : (key : SshPublicKey) (made : PuttyPublicKey) → IsMade key made → has_lf key ≡ false
+    → (putty.TooLong ≡ putty.NoMemory) ⊎ (putty_text made ≡ Err putty.TooLong)
+    → written targets.PuttyPublic (public_meaning key) ≡ Err convert.TooLong
 unfolding written putty_text
-text_refused key made e is lf refused =
-    let refused : putty_text (record { blob = blob_of key.inner_key; comment = key.comment }) ≡ Err e = ap putty_text is.is ∙ refused in
+text_refused key made is lf (inl memory) = cc memory
+text_refused key made is lf (inr refused) =
+    let refused : putty_text (record { blob = blob_of key.inner_key; comment = key.comment }) ≡ Err putty.TooLong = ap putty_text is.is ∙ refused in
     rw (is.plain, lf, is.short, failed (is_short (putty_public (blob_of key.inner_key) key.comment)) _ _ _ refused) refl
   where
     failed : {A E : Type 0} (b : Bool) (e f : E) (x : A) → (if b then Ok x else Err e) ≡ Err f → b ≡ false

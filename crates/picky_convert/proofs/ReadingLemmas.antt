@@ -8,7 +8,6 @@ use Rattle.picky_sshpub.specs.LineLaws.{line_meaning_of, line_meaning_says}
 use Rattle.picky_wire.specs.Gives.{Gives}
 use Rattle.picky_convert.specs.declared.error.ReadError.{ReadError}
 use Rattle.picky_convert.specs.declared.error.ReadError.TheVariants as errors
-use Rattle.picky_convert.specs.Memory.{read_no_memory}
 use Rattle.picky_convert.specs.declared.meaning.Meaning.{Meaning}
 use Rattle.picky_convert.specs.Reading.{public_key, public_meaning, Reads, reading}
 use Rattle.picky_convert.proofs.Utf8Lemmas.{utf8_is_bytes}
@@ -42,15 +41,15 @@ one_meaning text m n first second =
 
 -- what `reading` gives is a meaning
 pub given_means : (r : Result Meaning ReadError) (text : List ℕ) → IsUtf8 text
-    → Gives read_no_memory (λ meaning. meaning) r (reading text) → IfOk r (λ meaning. Reads text meaning)
+    → Gives errors.NoMemory (λ meaning. meaning) r (reading text) → IfOk r (λ meaning. Reads text meaning)
 given_means (Ok meaning) text utf8 gives = reading_says text meaning utf8 gives
 given_means (Err e) text utf8 gives = tt
 
 -- and there is one for a text that means something, where there is memory
 pub given_meaning : (r : Result Meaning ReadError) (text : List ℕ) (meaning : Meaning)
-    → Gives read_no_memory (λ meaning. meaning) r (reading text) → Reads text meaning
+    → Gives errors.NoMemory (λ meaning. meaning) r (reading text) → Reads text meaning
     → (r ≡ Ok meaning) ⊎ (r ≡ Err errors.NoMemory)
 given_meaning (Ok other) text meaning gives reads = inl (sym gives ∙ reading_of text meaning reads)
-given_meaning (Err (errors.Public e)) text meaning gives reads =
-    let refused = gives refl in let means = reading_of text meaning reads in cc (refused, means)
-given_meaning (Err errors.NoMemory) text meaning gives reads = inr refl
+given_meaning (Err e) text meaning (inl memory) reads = inr (ap Err memory)
+given_meaning (Err e) text meaning (inr refused) reads =
+    let means = reading_of text meaning reads in cc (refused, means)

@@ -16,6 +16,7 @@ use Rattle.picky_text.specs.declared.lines.LineEnd.TheVariants.{CrLf}
 use Rattle.picky_text.specs.Quote.{is_special, quote}
 use Rattle.picky_text.specs.Rows.{rows_within, rows_of}
 use Rattle.picky_text.specs.Words.{after_word, body_word}
+use Rattle.picky_text.specs.WordLaws.{word_len, after_len, comment_len}
 use Rattle.picky_keys.specs.declared.curve.EcCurve.{EcCurve}
 use Rattle.picky_keys.specs.declared.curve.EcCurve.TheVariants.{NistP256, NistP384, NistP521}
 use Rattle.picky_keys.specs.declared.curve.EdAlgorithm.TheVariants.{Ed25519}
@@ -28,9 +29,8 @@ use Rattle.picky_sshpub.specs.declared.key.SshPublicKey.{SshPublicKey}
 use Rattle.picky_sshpub.specs.Key.{kind_of}
 use Rattle.picky_sshpub.specs.Blob.{fields_spelled, blob_of}
 use Rattle.picky_sshpub.specs.BlobExact.{NumberSpelled, AnyText, FieldsSpelled, blob_exact}
-use Rattle.picky_sshpub.specs.SourceLaws.{word_len, after_len, comment_len}
 use Rattle.picky_sshpub.specs.Line.{IsPublicLine, line_of, line_name, line_body}
-use Rattle.picky_sshpub.specs.SizeLaws.{length-string_of, length_high, length_low, length_two, length_three, length-blob_of}
+use Rattle.picky_convert.proofs.SizeLemmas.{length-string_of, length_high, length_low, length_two, length_three, length-blob_of}
 use Rattle.picky_ppk.specs.PuttyPublic.{header, footer, comment_key, comment_line, putty_public}
 use Rattle.picky_convert.specs.declared.meaning.Meaning.{Meaning}
 use Rattle.picky_convert.specs.declared.conversion.Target.{Target}

@@ -1,12 +1,15 @@
 -- A run: what it writes for the bytes of its source, and how it ends.
-use Rattle.std.specs.Prelude.{◌≡◌, ◌++◌, ◌≤◌, ◌<◌, List, ℕ, length, take, nat_lt, Result, Err, if◌then◌else◌, false}
+use Rattle.std.specs.Prelude.{◌≡◌, ◌++◌, ◌≤◌, List, ℕ, length, take, nat_lt, Result, Err, if◌then◌else◌}
 use Rattle.std.specs.Str.{IsUtf8, is_utf8}
 use Rattle.picky_layout.specs.Outcome.{map_err}
+use Rattle.picky_wire.specs.Puts.{Puts}
+use Rattle.picky_wire.specs.declared.error.WireError.{WireError}
+use Rattle.picky_wire.specs.declared.error.WireError.TheVariants as wire
 use Rattle.picky_convert.specs.declared.error.Status.{Status}
 use Rattle.picky_convert.specs.declared.error.Status.TheVariants as statuses
 use Rattle.picky_convert.specs.declared.command.Command.{Command}
 use Rattle.picky_convert.specs.declared.meaning.Meaning.{Meaning}
-use Rattle.picky_convert.specs.Memory.{wants_memory}
+use Rattle.picky_convert.specs.Memory.{WantsMemory}
 use Rattle.picky_convert.specs.Reading.{Reads}
 use Rattle.picky_convert.specs.Command.{answer, IsAnswer, CanWrite}
 
@@ -42,11 +45,10 @@ pub record WritesPrefix (command : Command) (input before after : List ℕ) : Ty
   pub len : ℕ
   pub written : after ≡ before ++ take len text
 
--- a front of the text was written, and all of it unless a fault was counted
-pub record WritesFront (text before after : List ℕ) (fault : Type 0) : Type 0 where
-  pub len : ℕ
-  pub written : after ≡ before ++ take len text
-  pub fault_if_cut : len < length text → fault
+-- the line was put: all of it and no fault was counted, or a front of it and one was
+abbrev pub Says : {S : Type 0} → (S → Type 0) → (S → List ℕ) → (S → ℕ) → List ℕ → S → S → Type 0
+Says tells written faults line old new =
+    (r : Result (Unit {0}) WireError) × Puts tells written faults wire.WriteFault line r old new
 
 -- the status says why no text is taken from a source: for these bytes, where they are told, by their outcome
 abbrev pub Explains : Status → Result (List ℕ) Status → Type 0
@@ -66,6 +68,6 @@ CanCome statuses.Usage fault = ⊥
 CanCome statuses.WriteFault fault = ⊥
 CanCome statuses.ReadFault fault = fault
 CanCome statuses.NoMemory fault = Unit {0}
-CanCome (statuses.Refused e) fault = wants_memory e ≡ false
+CanCome (statuses.Refused e) fault = WantsMemory e → ⊥
 CanCome statuses.InputTooLong fault = Unit {0}
 CanCome statuses.InputNotUtf8 fault = Unit {0}

@@ -3,7 +3,7 @@
 ghost use Rattle.std.specs.Prelude.{◌≡◌, ◌≤◌, length, string_bytes, MatchOption};
 ghost use Rattle.std.specs.Str.{IsUtf8};
 ghost use Rattle.picky_wire.specs.Gives.{Gives};
-ghost use Rattle.picky_convert.specs.Memory.{convert_no_memory, status_no_memory, refusal_status};
+ghost use Rattle.picky_convert.specs.Memory.{refusal_status};
 ghost use Rattle.picky_convert.specs.Command.{answer, command_of as command_named, command_of_word};
 ghost use Rattle.picky_convert.specs.Run.{input_limit, outcome};
 
@@ -65,7 +65,7 @@ pub fn perform<S: Suite>(
     input: &[u8],
 ) -> Result<String, Status>
     requires { length input.now ≤ input_limit }
-    ensures gives { Gives status_no_memory string_bytes result (outcome command.now input.now) }
+    ensures gives { Gives Status.NoMemory string_bytes result (outcome command.now input.now) }
     ensures unused { suite.new ≡ suite.old }
 {
     match as_text(input) {
@@ -78,7 +78,7 @@ pub fn perform<S: Suite>(
 }
 
 /// The status of a command that refuses.
-#[tactic(auto, using(crate::proofs::MemoryLemmas::known_convert))]
+#[tactic(auto, using(crate::proofs::OutcomeLemmas::other_status))]
 fn status_of(e: ConvertError) -> Status
     ensures { result ≡ refusal_status e }
 {
@@ -102,7 +102,7 @@ fn answer_to<S: Suite>(
     suite: &mut S,
     text: &str,
 ) -> Result<String, ConvertError>
-    ensures gives { Gives convert_no_memory string_bytes result (answer command.now text.now) }
+    ensures gives { Gives ConvertError.NoMemory string_bytes result (answer command.now text.now) }
     ensures unused { suite.new ≡ suite.old }
 {
     match command {
@@ -116,7 +116,7 @@ fn answer_to<S: Suite>(
 
 /// The fingerprints of the key that a text means.
 fn fingerprint<S: Suite>(alloc: Global, suite: &mut S, text: &str) -> Result<String, ConvertError>
-    ensures gives { Gives convert_no_memory string_bytes result (answer Command.Fingerprint text.now) }
+    ensures gives { Gives ConvertError.NoMemory string_bytes result (answer Command.Fingerprint text.now) }
     ensures unused { suite.new ≡ suite.old }
 {
     match read_text(alloc, suite, text) {

@@ -1,7 +1,8 @@
 //! A source read to its end.
 
-ghost use Rattle.std.specs.Prelude.{◌≡◌, ◌<◌, ◌≤◌, [], length, IfOk, OnOk, IsErrOf, vec_len};
+ghost use Rattle.std.specs.Prelude.{◌≡◌, ◌<◌, ◌≤◌, [], length, IfOk, OnOk, IsErrOf, IsSome, vec_len};
 ghost use Rattle.picky_wire.specs.Count.{Rose};
+ghost use Rattle.picky_wire.specs.Takes.{Calm};
 ghost use Rattle.picky_convert.specs.Run.{input_limit};
 
 use picky_wire::Source;
@@ -32,7 +33,8 @@ pub fn read_input<S: Source>(alloc: Global, source: &mut S) -> Result<Vec<u8>, I
     ensures read_fault_only_if_counted { IsErrOf result InputError.ReadFault → Rose (S.faults source.old) (S.faults source.new) }
     ensures too_long { S.tells source.old → IsErrOf result InputError.TooLong → input_limit < length (S.left source.old) }
     ensures told { S.tells source.old → S.tells source.new }
-    ensures never_falls { S.faults source.old ≤ S.faults source.new }
+    ensures knows_on { IsSome (S.known source.old) → IsSome (S.known source.new) }
+    ensures calm { Calm InputError.ReadFault result (S.faults source.old) (S.faults source.new) }
 {
     let mut chunk = [0u8; CHUNK];
     let mut input = Vec::new(alloc);

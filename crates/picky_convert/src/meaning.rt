@@ -2,7 +2,6 @@
 
 ghost use Rattle.std.specs.Prelude.{◌≡◌, ◌⊎◌, Ok, Err, IfOk};
 ghost use Rattle.picky_wire.specs.Gives.{Gives};
-ghost use Rattle.picky_convert.specs.Memory.{read_no_memory};
 ghost use Rattle.picky_convert.specs.Reading.{form_of as form_in, Reads, reading, reading_as};
 
 use crate::error::ReadError;
@@ -55,7 +54,7 @@ pub enum Form {
 /// with `SshPublicKey::from_str`'s refusals.
 #[tactic(auto, unfolding(crate::specs::Reading::reading))]
 pub fn read_text<S: Suite>(alloc: Global, suite: &mut S, input: &str) -> Result<Meaning, ReadError>
-    ensures gives { Gives read_no_memory (λ meaning. meaning) result (reading input.now) }
+    ensures gives { Gives ReadError.NoMemory (λ meaning. meaning) result (reading input.now) }
     ensures means { IfOk result (λ meaning. Reads input.now meaning) }
     ensures complete { (meaning : Meaning) → Reads input.now meaning
         → (result ≡ Ok meaning) ⊎ (result ≡ Err ReadError.NoMemory) }
@@ -75,7 +74,7 @@ fn form_of(_input: &str) -> Form
 
 /// The meaning of a public key line.
 fn read_public_line(alloc: Global, input: &str) -> Result<Meaning, ReadError>
-    ensures { Gives read_no_memory (λ meaning. meaning) result (reading_as Form.PublicLine input.now) }
+    ensures { Gives ReadError.NoMemory (λ meaning. meaning) result (reading_as Form.PublicLine input.now) }
 {
     match SshPublicKey::from_str(alloc, input) {
         Ok(line) => {

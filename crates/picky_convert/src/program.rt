@@ -1,12 +1,13 @@
 //! The run of the program over a source and two sinks.
 
-ghost use Rattle.std.specs.Prelude.{◌≡◌, ◌≢◌, ◌⊎◌, ◌<◌, ◌++◌, ℕ, List, [], length, take, Option, Some, None, false, Ok, Err, IfOk, OnOk, IfErr, string_bytes};
+ghost use Rattle.std.specs.Prelude.{◌≡◌, ◌≢◌, ◌⊎◌, ◌<◌, ◌++◌, ℕ, List, [], length, take, Option, Some, None, Ok, Err, IfOk, OnOk, IfErr, string_bytes};
 ghost use Rattle.std.specs.Str.{IsUtf8};
 ghost use Rattle.picky_wire.specs.Count.{Rose};
+ghost use Rattle.picky_wire.specs.Takes.{Calm};
 ghost use Rattle.picky_convert.specs.Command.{Names};
-ghost use Rattle.picky_convert.specs.Memory.{wants_memory};
+ghost use Rattle.picky_convert.specs.Memory.{WantsMemory};
 ghost use Rattle.picky_convert.specs.Report.{report as report_of};
-ghost use Rattle.picky_convert.specs.Run.{input_limit, outcome, CanCome, Explains, IsValid, Writes, WritesFront, WritesPrefix};
+ghost use Rattle.picky_convert.specs.Run.{input_limit, outcome, CanCome, Explains, IsValid, Says, Writes, WritesPrefix};
 
 use crate::command::{Command, command_of, perform};
 use crate::error::{ConvertError, Status};
@@ -48,12 +49,16 @@ pub fn run<S: Suite, I: Source, O: Sink, E: Sink>(
         → result ≡ Status.Refused e → I.tells source.old
         → outcome c (I.left source.old) ≡ Err (Status.Refused e) }
     ensures refused_is_no_want { (e : ConvertError) → result ≡ Status.Refused e
-        → wants_memory e ≡ false }
+        → WantsMemory e → ⊥ }
     ensures in_order { (c : Command) → Names words.now c → result ≢ Status.Done
         → result ≢ Status.WriteFault → result ≢ Status.Usage → I.tells source.old
         → Explains result (outcome c (I.left source.old)) }
     ensures write_fault_only_if_counted { result ≡ Status.WriteFault
         → Rose (O.faults out.old) (O.faults out.new) }
+
+    // A count is as it was but for the one fault that is answered; so Done moved neither.
+    ensures source_calm { result ≢ Status.ReadFault → I.faults source.new ≡ I.faults source.old }
+    ensures out_calm { result ≢ Status.WriteFault → O.faults out.new ≡ O.faults out.old }
 
     // Where nothing was counted, the status is the one that the bytes have, or memory ran out.
     ensures exact { (c : Command) → Names words.now c → I.tells source.old
@@ -76,9 +81,8 @@ pub fn run<S: Suite, I: Source, O: Sink, E: Sink>(
         → I.tells source.old → O.tells out.old
         → WritesPrefix c (I.left source.old) (O.written out.old) (O.written out.new) }
     ensures quiet { result ≡ Status.Done → err.new ≡ err.old }
-    ensures said { result ≢ Status.Done → E.tells err.old
-        → WritesFront (report_of result) (E.written err.old) (E.written err.new)
-        (Rose (E.faults err.old) (E.faults err.new)) }
+    ensures said { result ≢ Status.Done
+        → Says E.tells E.written E.faults (report_of result) err.old err.new }
 {
     let status = attempt(alloc, words, suite, source, out);
     tell(&status, err);
@@ -108,6 +112,8 @@ fn attempt<S: Suite, I: Source, O: Sink>(
     ensures taken { (c : Command) → Names words.now c → result ≢ Status.Done → result ≢ Status.WriteFault → result ≢ Status.Usage
         → I.tells source.old → Explains result (outcome c (I.left source.old)) }
     ensures unwritten { result ≢ Status.Done → result ≢ Status.WriteFault → out.new ≡ out.old }
+    ensures source_calm { result ≢ Status.ReadFault → I.faults source.new ≡ I.faults source.old }
+    ensures out_calm { result ≢ Status.WriteFault → O.faults out.new ≡ O.faults out.old }
 {
     let command = match command_of(words) {
         Some(command) => command,
@@ -133,6 +139,7 @@ fn take_text<S: Suite, I: Source>(
     ensures end { I.tells source.old → OnOk result (I.left source.new ≡ []) }
     ensures known { IfErr result (λ status. CanCome status (Rose (I.faults source.old) (I.faults source.new))) }
     ensures refused { I.tells source.old → IfErr result (λ status. Explains status (outcome command.now (I.left source.old))) }
+    ensures calm { Calm Status.ReadFault result (I.faults source.old) (I.faults source.new) }
     ensures unused { suite.new ≡ suite.old }
 {
     match read_input(alloc, source) {
@@ -146,8 +153,7 @@ fn take_text<S: Suite, I: Source>(
 /// Writes the line of a status but Done.
 fn tell<E: Sink>(status: &Status, err: &mut E)
     ensures quiet { status.now ≡ Status.Done → err.new ≡ err.old }
-    ensures said { status.now ≢ Status.Done → E.tells err.old → WritesFront (report_of status.now)
-        (E.written err.old) (E.written err.new) (Rose (E.faults err.old) (E.faults err.new)) }
+    ensures said { status.now ≢ Status.Done → Says E.tells E.written E.faults (report_of status.now) err.old err.new }
 {
     match status {
         Status::Done => {}

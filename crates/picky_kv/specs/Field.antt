@@ -5,7 +5,7 @@ use Rattle.std.specs.Prelude.{Option, Some, None, Result, Ok, Err}
 use Rattle.picky_wire.specs.declared.error.SizeError.{SizeError}
 use Rattle.picky_wire.specs.declared.error.SizeError.TheVariants as size
 use Rattle.picky_kv.specs.declared.error.PpkValueError.{PpkValueError}
-use Rattle.picky_kv.specs.declared.error.PpkValueError.TheVariants.{Parsing, TooLong, NoMemory}
+use Rattle.picky_kv.specs.declared.error.PpkValueError.TheVariants.{Parsing, TooLong}
 
 -- a type of keys or values: what its texts mean, which values are too big to be given, what a
 -- refusal says was expected, how values are written, and what is known of each value
@@ -32,17 +32,6 @@ judged is_big expected text None = Err (refusal expected text)
 -- the answer for a text
 abbrev pub outcome : {A : Type 0} → Field A → List ℕ → Result A PpkValueError
 outcome field text = judged field.is_big field.expected text (field.meaning text)
-
--- the refusal is this one, or memory ran out
-abbrev pub IsRefusal : {A : Type 0} → PpkValueError → Result A PpkValueError → Type 0
-IsRefusal (Parsing p) answer = answer ≡ Err (Parsing p)
-IsRefusal TooLong answer = answer ≡ Err TooLong
-IsRefusal NoMemory answer = Unit {0}
-
--- the result is this answer, or memory ran out
-abbrev pub Answers : {A : Type 0} → Result A PpkValueError → Result A PpkValueError → Type 0
-Answers (Ok v) answer = answer ≡ Ok v
-Answers (Err e) answer = IsRefusal e answer
 
 -- the text is what was asked for, which is too long exactly where it has 2^32 bytes or more
 abbrev pub Writes : Result (List ℕ) SizeError → List ℕ → Type 0

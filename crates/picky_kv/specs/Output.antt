@@ -1,12 +1,12 @@
 -- What a writer of lines holds, and what its calls append, after PuTTY's manual, Appendix C.
-use Rattle.std.specs.Prelude.{◌≡◌, ◌^◌, ℕ, Bool, List, ◌∷◌, ◌++◌, length, nat_lt}
+use Rattle.std.specs.Prelude.{◌^◌, ℕ, Bool, List, ◌∷◌, ◌++◌, length, nat_lt}
 use Rattle.std.specs.Prelude.{if◌then◌else◌, Result, Ok, Err}
 use Rattle.std.specs.Fmt.{decimal}
+use Rattle.picky_layout.specs.Outcome.{and_then}
 use Rattle.picky_text.specs.Lines.{text_of}
 use Rattle.picky_text.specs.Rows.{rows_of}
 use Rattle.picky_text.specs.declared.lines.LineEnd.{LineEnd}
 use Rattle.picky_text.specs.declared.lines.LineEnd.TheVariants.{Lf, CrLf}
-use Rattle.picky_kv.specs.Steps.{and_then, IsReason}
 use Rattle.picky_kv.specs.declared.error.KvError.{KvError}
 use Rattle.picky_kv.specs.declared.error.KvError.TheVariants.{TooLong, TooManyLines}
 use Rattle.picky_kv.specs.declared.literals.TheConstants.{SEPARATOR}
@@ -44,9 +44,3 @@ abbrev pub with_block : Output → List ℕ → List ℕ → Result Output KvErr
 with_block out key value =
     and_then (with_lines out (block_lines key value)) (λ new.
     if nat_lt 65535 (length (rows_of value)) then Err TooManyLines else Ok new)
-
--- a writer's call gave this answer: where it is refused, all stays as it was
-abbrev pub Leaves : {A : Type 0} → Result A KvError → Output → Output
-    → Result Output KvError → Type 0
-Leaves (Ok _) old new answer = answer ≡ Ok new
-Leaves (Err e) old new answer = (new ≡ old) × IsReason e answer

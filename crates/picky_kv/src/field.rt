@@ -1,9 +1,10 @@
 //! What a type of keys or values promises, and what the pairs of a key and a value do.
 
-ghost use Rattle.std.specs.Prelude.{◌≡◌, ◌^◌, ◌<◌, ℕ, true, List, length, string_bytes};
+ghost use Rattle.std.specs.Prelude.{◌≡◌, ◌⊎◌, ◌^◌, ◌<◌, ℕ, true, List, length, string_bytes};
 ghost use Rattle.std.specs.Str.{IsAscii};
+ghost use Rattle.picky_wire.specs.Gives.{Gives};
 ghost use Rattle.picky_kv.specs.Literal.{is_plain};
-ghost use Rattle.picky_kv.specs.Field.{Field, outcome, refusal, Answers, IsRefusal, Writes};
+ghost use Rattle.picky_kv.specs.Field.{Field, outcome, refusal, Writes};
 
 use crate::error::{PpkValueError, PpkValueParsingError};
 use picky_wire::{SizeError, Text};
@@ -16,7 +17,7 @@ pub trait PpkField: Sized + Drop {
 
     /// The value that the text stands for. Refuses, in order: `Parsing`, `TooLong`.
     fn read(alloc: Global, text: &str) -> Result<Self, PpkValueError>
-        ensures { Answers result (outcome field text.now) };
+        ensures { Gives PpkValueError.NoMemory (λ value. value) result (outcome field text.now) };
 
     /// The value's one written text. Refuses, in order: `TooLong`.
     fn write(&self, alloc: Global) -> Result<Text, SizeError>
@@ -82,7 +83,7 @@ pub trait PpkMultilineKeyValue {
 /// The refusal of a text that stands for no value.
 pub(crate) fn refused(alloc: Global, expected: &str, text: &str) -> PpkValueError
     requires { length expected.now < 2 ^ 32 }
-    ensures { IsRefusal {A = ℕ} result (Err (refusal expected.now text.now)) }
+    ensures { (result ≡ PpkValueError.NoMemory) ⊎ (result ≡ refusal expected.now text.now) }
 {
     match Text::new(alloc, text) {
         Ok(actual) => match Text::new(alloc, expected) {

@@ -1,7 +1,8 @@
 //! Numbers in decimal: Argon2's, and how many lines a block has.
 
 ghost use Rattle.std.specs.Prelude.{◌≡◌, ◌^◌, ◌<◌, ℕ};
-ghost use Rattle.picky_kv.specs.Field.{outcome, Answers, Writes};
+ghost use Rattle.picky_wire.specs.Gives.{Gives};
+ghost use Rattle.picky_kv.specs.Field.{outcome, Writes};
 ghost use Rattle.picky_kv.specs.Numbers.{u32_field, count_field};
 
 use crate::error::PpkValueError;
@@ -219,7 +220,7 @@ impl PpkField for LineCount {
 
 #[tactic(auto, unfolding(crate::specs::Numbers::u32_field))]
 fn read_u32(alloc: Global, text: &str) -> Result<u32, PpkValueError>
-    ensures { Answers result (outcome u32_field text.now) }
+    ensures { Gives PpkValueError.NoMemory (λ number. number) result (outcome u32_field text.now) }
 {
     match text.parse::<u32>() {
         Ok(number) => Ok(number),

@@ -1,11 +1,12 @@
 //! Reads the lines of a PuTTY private key file, typed.
 
-ghost use Rattle.std.specs.Prelude.{◌≡◌, ℕ, List, [], IfNone, IfSome, IfOk, IfErr, string_bytes};
+ghost use Rattle.std.specs.Prelude.{◌≡◌, ◌⊎◌, ℕ, List, [], IfNone, IfSome, IfOk, IfErr, OnErr, string_bytes};
 ghost use Rattle.picky_text.specs.Lines.{lines};
+ghost use Rattle.picky_wire.specs.Gives.{Gives};
 ghost use Rattle.picky_kv.specs.Field.{outcome};
 ghost use Rattle.picky_kv.specs.Lines.{next_pair, next_block, value_alone, first_joined};
 ghost use Rattle.picky_kv.specs.Lines.{key_and_value as cut};
-ghost use Rattle.picky_kv.specs.Steps.{in_context, need, Gives, IsReason, Reads, Takes};
+ghost use Rattle.picky_kv.specs.Steps.{in_context};
 
 use crate::error::{KvError, PpkValueError};
 use crate::field::{PpkField, PpkKeyValue, PpkLiteral, PpkMultilineKeyValue};
@@ -46,7 +47,9 @@ impl<'a> PuttyKvReader<'a> {
         &mut self,
         alloc: Global,
     ) -> Result<(T::Key, T::Value), KvError>
-        ensures { Takes result self.new (next_pair T.Key.field T.Value.field T.Key.name self.old) }
+        ensures gives { Gives KvError.NoMemory (λ pair. (pair, self.new)) result
+            (next_pair T.Key.field T.Value.field T.Key.name self.old) }
+        ensures ended { OnErr result (self.new ≡ []) }
     {
         match read_pair::<T::Key, T::Value>(&mut self.lines, alloc) {
             Ok(pair) => Ok(pair),
@@ -59,8 +62,9 @@ impl<'a> PuttyKvReader<'a> {
 
     /// The value of the next line, with the refusals of `next_key_value`.
     pub fn next_value<T: PpkKeyValue>(&mut self, alloc: Global) -> Result<T::Value, KvError>
-        ensures { Takes result self.new
+        ensures gives { Gives KvError.NoMemory (λ value. (value, self.new)) result
             (value_alone (next_pair T.Key.field T.Value.field T.Key.name self.old)) }
+        ensures ended { OnErr result (self.new ≡ []) }
     {
         let (_, value) = self.next_key_value::<T>(alloc)?;
         Ok(value)
@@ -75,7 +79,9 @@ impl<'a> PuttyKvReader<'a> {
         &mut self,
         alloc: Global,
     ) -> Result<(T::Key, T::Value), KvError>
-        ensures { Takes result self.new (next_block T.Key.field T.Value.field T.Key.name self.old) }
+        ensures gives { Gives KvError.NoMemory (λ pair. (pair, self.new)) result
+            (next_block T.Key.field T.Value.field T.Key.name self.old) }
+        ensures ended { OnErr result (self.new ≡ []) }
     {
         match read_block::<T::Key, T::Value>(&mut self.lines, alloc) {
             Ok(pair) => Ok(pair),
@@ -91,8 +97,9 @@ impl<'a> PuttyKvReader<'a> {
         &mut self,
         alloc: Global,
     ) -> Result<T::Value, KvError>
-        ensures { Takes result self.new
+        ensures gives { Gives KvError.NoMemory (λ value. (value, self.new)) result
             (value_alone (next_block T.Key.field T.Value.field T.Key.name self.old)) }
+        ensures ended { OnErr result (self.new ≡ []) }
     {
         let (_, value) = self.next_multiline_key_value::<T>(alloc)?;
         Ok(value)
@@ -109,7 +116,7 @@ fn read_pair<K: PpkField + PpkLiteral, V: PpkField>(
     lines: &mut LineReader<'_>,
     alloc: Global,
 ) -> Result<(K, V), KvError>
-    ensures { Reads result lines.new (next_pair K.field V.field K.name lines.old) }
+    ensures { Gives KvError.NoMemory (λ pair. (pair, lines.new)) result (next_pair K.field V.field K.name lines.old) }
 {
     match lines.next_line() {
         Some(line) => match key_and_value(line) {
@@ -128,7 +135,7 @@ fn read_block<K: PpkField + PpkLiteral, V: PpkField>(
     lines: &mut LineReader<'_>,
     alloc: Global,
 ) -> Result<(K, V), KvError>
-    ensures { Reads result lines.new (next_block K.field V.field K.name lines.old) }
+    ensures { Gives KvError.NoMemory (λ pair. (pair, lines.new)) result (next_block K.field V.field K.name lines.old) }
 {
     let (key, count) = read_pair::<K, LineCount>(lines, alloc)?;
     let text = joined(lines, alloc, count.number())?;
@@ -140,7 +147,7 @@ fn joined(lines: &mut LineReader<'_>, alloc: Global, count: u16) -> Result<Strin
     ensures ok { IfOk result (λ t.
         first_joined count lines.old ≡ Some (string_bytes t, lines.new)) }
     ensures err { IfErr result (λ e.
-        IsReason e (need KvError.EndOfInput (first_joined count lines.old) Ok)) }
+        (e ≡ KvError.NoMemory) ⊎ ((e ≡ KvError.EndOfInput) × (first_joined count lines.old ≡ None))) }
 {
     let mut text = String::new(alloc);
     'lines: for _ in 0..count {
@@ -163,7 +170,7 @@ fn key_and_value(line: &str) -> Option<(&str, &str)>
 }
 
 fn read_in<K: PpkLiteral, V: PpkField>(alloc: Global, text: &str) -> Result<V, KvError>
-    ensures { Gives result (in_context K.name (outcome V.field text.now)) }
+    ensures { Gives KvError.NoMemory (λ value. value) result (in_context K.name (outcome V.field text.now)) }
 {
     match V::read(alloc, text) {
         Ok(value) => Ok(value),

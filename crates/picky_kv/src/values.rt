@@ -90,7 +90,7 @@ impl PpkField for Base64PpkValue {
     ghost field = { base64_field };
 
     fn read(alloc: Global, text: &str) -> Result<Base64PpkValue, PpkValueError> {
-        match picky_text::decode(alloc, text) {
+        match picky_text::decode(alloc, text.as_bytes()) {
             Ok(bytes) => {
                 if bytes.len() < 1 << 32 {
                     Ok(Base64PpkValue {

@@ -1,12 +1,13 @@
 //! Writes the lines of a PuTTY private key file.
 
-ghost use Rattle.std.specs.Prelude.{◌≡◌, ◌^◌, ◌<◌, ◌++◌, [], ◌∷◌, length, nat_lt, IfOk};
+ghost use Rattle.std.specs.Prelude.{◌≡◌, ◌^◌, ◌<◌, ◌++◌, [], ◌∷◌, length, nat_lt, IfOk, OnErr};
 ghost use Rattle.std.specs.Prelude.{string_bytes, string_len};
 ghost use Rattle.std.specs.Str.{IsAscii};
 ghost use Rattle.picky_text.specs.Lines.{text_of};
 ghost use Rattle.picky_text.specs.Rows.{rows_of};
+ghost use Rattle.picky_wire.specs.Gives.{Gives};
 ghost use Rattle.picky_kv.specs.Output.{line_end, pair_line as line_of, block_lines, extended};
-ghost use Rattle.picky_kv.specs.Output.{with_lines, with_block, Leaves};
+ghost use Rattle.picky_kv.specs.Output.{with_lines, with_block};
 
 use crate::error::KvError;
 use crate::field::{PpkField, PpkKeyValue, PpkLiteral, PpkMultilineKeyValue, PpkSingle};
@@ -61,9 +62,10 @@ impl PuttyKvWriter {
         key: &T::Key,
         value: &T::Value,
     ) -> Result<(), KvError>
-        ensures answer { Leaves result self.old self.new
+        ensures gives { Gives KvError.NoMemory (λ _. self.new) result
             (with_lines self.old
             (line_of (T.Key.literal key.now) (T.Value.field.spelling value.now) ∷ [])) }
+        ensures unchanged { OnErr result (self.new ≡ self.old) }
         ensures fits { T.Value.field.fits value.now }
     {
         match value.write(self.alloc) {
@@ -80,9 +82,10 @@ impl PuttyKvWriter {
     pub fn write_value<T: PpkKeyValue>(&mut self, value: &T::Value) -> Result<(), KvError>
     where
         T::Key: PpkSingle,
-        ensures answer { Leaves result self.old self.new
+        ensures gives { Gives KvError.NoMemory (λ _. self.new) result
             (with_lines self.old
             (line_of (T.Key.literal T.Key.one) (T.Value.field.spelling value.now) ∷ [])) }
+        ensures unchanged { OnErr result (self.new ≡ self.old) }
         ensures fits { T.Value.field.fits value.now }
     {
         self.write_key_value::<T>(&T::Key::single(), value)
@@ -96,8 +99,9 @@ impl PuttyKvWriter {
         key: &T::Key,
         value: &T::Value,
     ) -> Result<(), KvError>
-        ensures answer { Leaves result self.old self.new
+        ensures gives { Gives KvError.NoMemory (λ _. self.new) result
             (with_block self.old (T.Key.literal key.now) (T.Value.field.spelling value.now)) }
+        ensures unchanged { OnErr result (self.new ≡ self.old) }
         ensures fits { T.Value.field.fits value.now }
     {
         match value.write(self.alloc) {
@@ -114,8 +118,9 @@ impl PuttyKvWriter {
     ) -> Result<(), KvError>
     where
         T::Key: PpkSingle,
-        ensures answer { Leaves result self.old self.new
+        ensures gives { Gives KvError.NoMemory (λ _. self.new) result
             (with_block self.old (T.Key.literal T.Key.one) (T.Value.field.spelling value.now)) }
+        ensures unchanged { OnErr result (self.new ≡ self.old) }
         ensures fits { T.Value.field.fits value.now }
     {
         self.write_multiline_key_value::<T>(&T::Key::single(), value)
@@ -130,7 +135,8 @@ impl PuttyKvWriter {
 
     fn append_block(&mut self, key: &str, text: &str) -> Result<(), KvError>
         requires { IsAscii text.now }
-        ensures { Leaves result self.old self.new (with_block self.old key.now text.now) }
+        ensures gives { Gives KvError.NoMemory (λ _. self.new) result (with_block self.old key.now text.now) }
+        ensures unchanged { OnErr result (self.new ≡ self.old) }
     {
         match block(self.alloc, key, text, self.end) {
             Ok(block) => {
@@ -144,7 +150,8 @@ impl PuttyKvWriter {
     }
 
     fn append(&mut self, piece: &str) -> Result<(), KvError>
-        ensures { Leaves result self.old self.new (extended self.old piece.now) }
+        ensures gives { Gives KvError.NoMemory (λ _. self.new) result (extended self.old piece.now) }
+        ensures unchanged { OnErr result (self.new ≡ self.old) }
     {
         if !self.has_room(piece) {
             return Err(KvError::TooLong);

@@ -7,6 +7,7 @@ pub mod Wire
 pub mod Numbers
 pub mod Strings
 pub mod Short
+pub mod When
 pub mod Fixed
 pub mod Table
 pub mod Names

@@ -13,6 +13,11 @@ abbrev pub map_err : {E F A : Type 0} → (E → F) → Result A E → Result A 
 map_err f (Ok x) = Ok x
 map_err f (Err e) = Err (f e)
 
+-- the same outcome, with its value seen by view
+abbrev pub map_ok : {E A B : Type 0} → (A → B) → Result A E → Result B E
+map_ok view (Ok x) = Ok (view x)
+map_ok view (Err e) = Err e
+
 -- Where both steps answer Ok, so did the first.
 pub and_then_ok : {E A B : Type 0} (r : Result A E) (next : A → Result B E) (y : B)
     → and_then r next ≡ Ok y → (x : A) × (r ≡ Ok x) × (next x ≡ Ok y)

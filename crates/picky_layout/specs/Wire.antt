@@ -1,12 +1,12 @@
 -- The fields of SSH's wire: numbers and strings (RFC 4251, section 5).
-use Rattle.std.specs.Prelude.{◌≡◌, List, ℕ, ◌++◌, ◌≤◌, nat_lt, length, take, drop, Result, Ok, Err, if◌then◌else◌, ◌==◌}
+use Rattle.std.specs.Prelude.{◌≡◌, List, ℕ, ◌+◌, ◌++◌, ◌≤◌, nat_lt, length, min, take, drop, Result, Ok, Err, if◌then◌else◌, ◌==◌}
 use Rattle.std.specs.Int.{Width, w32, byte_len, from_be_bytes, to_be_bytes}
 use Rattle.std.specs.Bool.{Decides}
 use Rattle.std.specs.Cmp.{unsigned_Decides}
 use Rattle.std.specs.Str.{IsUtf8, is_utf8, bytes_eq}
 use Rattle.std.proofs.Common.{sym, ◌∙◌, ap, refl, arith}
 use Rattle.std.proofs.lemmas.Bool.{ltb-false, le-ltb}
-use Rattle.std.proofs.lemmas.List.{length-take-le, take-append-drop, length-append, take_at, drop_at}
+use Rattle.std.proofs.lemmas.List.{length-take-le, length-drop, take-append-drop, length-append, take_at, drop_at}
 use Rattle.std.proofs.lemmas.Slice.Eq.{bytes_eq-Decides}
 use Rattle.std.proofs.lemmas.Str.{IsUtf8-from_is_utf8, is_utf8-from_IsUtf8}
 use Rattle.picky_layout.specs.Outcome.{guard_ok, pass_ok}
@@ -42,12 +42,21 @@ cells_complete n v front rest (len, is) =
     pass_ok (nat_lt (length (front ++ rest)) n) Short _ (v, rest) (le-ltb _ n enough)
     (ap (λ t. (t, drop n (front ++ rest))) whole ∙ ap (λ d. (v, d)) (drop_at front rest n long))
 
+pub cells_takes : (n : ℕ) (bytes v rest : List ℕ) → read_cells n bytes ≡ Ok (v, rest)
+    → length bytes ≡ min n (length bytes) + length rest
+cells_takes n bytes v rest same =
+    let passed = guard_ok (nat_lt (length bytes) n) Short (take n bytes, drop n bytes) (v, rest) same in
+    let enough : n ≤ length bytes = ltb-false (length bytes) n passed.0 in
+    omega (arith, length-drop n bytes, ap (λ p. length p.1) passed.1)
+
 unfoldable pub cells : ℕ → Grammar Flaw (List ℕ)
 cells n = record {
   piece = IsCells n;
   read = read_cells n;
+  used = λ bytes. min n (length bytes);
   sound = cells_sound n;
   complete = cells_complete n;
+  takes = cells_takes n;
 }
 
 -- ---- byte, uint32 and uint64: a number, most significant byte first

@@ -7,4 +7,3 @@ pub mod LineBytes
 pub mod PuttyLaws
 pub mod MeaningLaws
 pub mod KeyLaws
-pub mod Memory

@@ -2,7 +2,6 @@
 
 ghost use Rattle.std.specs.Prelude.{◌≡◌, ◌⊎◌, [], IfOk, IfNone, IfSome, string_bytes};
 ghost use Rattle.picky_wire.specs.Gives.{Gives};
-ghost use Rattle.picky_ppk.specs.Memory.{is_no_memory};
 ghost use Rattle.picky_ppk.specs.PuttyPublic.{putty_public as text_of};
 ghost use Rattle.picky_ppk.specs.PuttyRefusal.{quoted as quoted_in, after_header as after_header_of, after_comment as after_comment_of, body_from, of_parts as of_parts_of, putty_meaning, putty_text, is_hardware as is_hardware_of, of_openssh, inner_key_of, to_openssh as to_openssh_of, plain_key_of, plain as plain_of, no_hardware_keys as no_hardware_keys_of, commented};
 
@@ -42,7 +41,7 @@ impl PuttyPublicKey {
     /// line, `InvalidPublicKeyComment`, `EndOfInput` where no footer follows, `InvalidPublicKeyData`, `TooLong`.
     #[tactic(auto, unfolding(crate::specs::PuttyRefusal::putty_meaning))]
     pub fn from_str(alloc: Global, text: &str) -> Result<PuttyPublicKey, PuttyError>
-        ensures { Gives is_no_memory (λ key. key) result (putty_meaning text.now) }
+        ensures { Gives PuttyError.NoMemory (λ key. key) result (putty_meaning text.now) }
     {
         let mut lines = LineReader::new(text);
         match lines.next_line() {
@@ -55,7 +54,7 @@ impl PuttyPublicKey {
     /// The text, with CR LF. Refuses, in order: `TooLong`, where it has 2^32 bytes or more.
     #[tactic(auto, unfolding(crate::specs::PuttyRefusal::putty_text))]
     pub fn to_string(&self, alloc: Global) -> Result<Text, PuttyError>
-        ensures { Gives is_no_memory (λ text. text) result (putty_text self.now) }
+        ensures { Gives PuttyError.NoMemory (λ text. text) result (putty_text self.now) }
     {
         match text_string(alloc, self) {
             Ok(text) => {
@@ -71,7 +70,7 @@ impl PuttyPublicKey {
     /// The key in its one blob, and the comment. Refuses, in order: `NotSupported` (`SK keys`) for a key whose
     /// secret a device keeps; `TooLong`, where the blob has 2^32 bytes or more.
     pub fn from_openssh(alloc: Global, key: &SshPublicKey) -> Result<PuttyPublicKey, PuttyError>
-        ensures { Gives is_no_memory (λ key. key) result (of_openssh key.now) }
+        ensures { Gives PuttyError.NoMemory (λ key. key) result (of_openssh key.now) }
     {
         match key.comment.try_clone(alloc) {
             Ok(comment) => putty_key(alloc, &key.inner_key, comment),
@@ -81,7 +80,7 @@ impl PuttyPublicKey {
 
     /// The same of a key that is handed over, whose comment is moved and not copied. Refuses as `from_openssh`.
     pub fn take_openssh(alloc: Global, key: SshPublicKey) -> Result<PuttyPublicKey, PuttyError>
-        ensures { Gives is_no_memory (λ key. key) result (of_openssh key) }
+        ensures { Gives PuttyError.NoMemory (λ key. key) result (of_openssh key) }
     {
         let SshPublicKey { inner_key, comment } = key;
         putty_key(alloc, &inner_key, comment)
@@ -92,7 +91,7 @@ impl PuttyPublicKey {
     /// Refuses, in order: `SshPublicKey` with what is wrong with the blob.
     #[tactic(auto, unfolding(crate::specs::PuttyRefusal::to_openssh))]
     pub fn to_openssh(&self, alloc: Global) -> Result<SshPublicKey, PuttyError>
-        ensures { Gives is_no_memory (λ key. key) result (to_openssh_of self.now) }
+        ensures { Gives PuttyError.NoMemory (λ key. key) result (to_openssh_of self.now) }
     {
         match inner_key(alloc, self) {
             Ok(inner_key) => match self.comment.try_clone(alloc) {
@@ -113,7 +112,7 @@ impl PuttyPublicKey {
     /// The same blob with another comment. Refuses, in order: `TooLong`, where it has 2^32 bytes or more.
     #[tactic(auto, unfolding(crate::specs::PuttyRefusal::commented))]
     pub fn with_comment(&self, alloc: Global, comment: &str) -> Result<PuttyPublicKey, PuttyError>
-        ensures { Gives is_no_memory (λ key. key) result (commented self.now comment.now) }
+        ensures { Gives PuttyError.NoMemory (λ key. key) result (commented self.now comment.now) }
     {
         let comment = match Text::new(alloc, comment) {
             Ok(comment) => comment,
@@ -130,7 +129,7 @@ impl PuttyPublicKey {
     /// `NotSupported` (`SK keys`) for a key whose secret a device keeps.
     #[tactic(auto, unfolding(crate::specs::PuttyRefusal::plain_key_of))]
     pub fn to_inner_key(&self, alloc: Global) -> Result<PublicKey, PuttyError>
-        ensures { Gives is_no_memory (λ key. key) result (plain_key_of self.now) }
+        ensures { Gives PuttyError.NoMemory (λ key. key) result (plain_key_of self.now) }
     {
         match inner_key(alloc, self) {
             Ok(key) => plain_key(alloc, key),
@@ -149,7 +148,7 @@ impl TryClone for PuttyPublicKey {
 
 /// What a text says after its header.
 fn after_header(alloc: Global, lines: &mut LineReader<'_>) -> Result<PuttyPublicKey, PuttyError>
-    ensures { Gives is_no_memory (λ key. key) result (after_header_of lines.old) }
+    ensures { Gives PuttyError.NoMemory (λ key. key) result (after_header_of lines.old) }
 {
     match lines.next_line() {
         Some(line) => match quoted(line) {
@@ -177,7 +176,7 @@ fn after_comment(
     between: &str,
     lines: &mut LineReader<'_>,
 ) -> Result<PuttyPublicKey, PuttyError>
-    ensures { Gives is_no_memory (λ key. key) result (after_comment_of between.now lines.old) }
+    ensures { Gives PuttyError.NoMemory (λ key. key) result (after_comment_of between.now lines.old) }
 {
     match body(alloc, lines) {
         Ok(Some(body)) => of_parts(alloc, between, body.as_str()),
@@ -203,9 +202,9 @@ fn body(alloc: Global, lines: &mut LineReader<'_>) -> Result<Option<String>, All
 
 /// The key of a body and of what is quoted.
 fn of_parts(alloc: Global, between: &str, body: &str) -> Result<PuttyPublicKey, PuttyError>
-    ensures { Gives is_no_memory (λ key. key) result (of_parts_of between.now body.now) }
+    ensures { Gives PuttyError.NoMemory (λ key. key) result (of_parts_of between.now body.now) }
 {
-    match decode(alloc, body) {
+    match decode(alloc, body.as_bytes()) {
         Ok(blob) => match unquoted(alloc, between) {
             Ok(comment) => {
                 if blob.len() >= TOO_MANY || comment.len() >= TOO_MANY {
@@ -250,7 +249,7 @@ fn putty_key(
     inner_key: &SshBasePublicKey,
     comment: Text,
 ) -> Result<PuttyPublicKey, PuttyError>
-    ensures { Gives is_no_memory (λ key. key) result (of_openssh (record { inner_key = inner_key.now; comment = comment })) }
+    ensures { Gives PuttyError.NoMemory (λ key. key) result (of_openssh (record { inner_key = inner_key.now; comment = comment })) }
 {
     if is_hardware(inner_key) {
         return Err(no_hardware_keys(alloc));
@@ -294,7 +293,7 @@ fn no_hardware_keys(alloc: Global) -> PuttyError
 /// The key in the blob.
 #[tactic(auto, unfolding(crate::specs::PuttyRefusal::inner_key_of))]
 fn inner_key(alloc: Global, key: &PuttyPublicKey) -> Result<SshBasePublicKey, PuttyError>
-    ensures { Gives is_no_memory (λ key. key) result (inner_key_of key.now) }
+    ensures { Gives PuttyError.NoMemory (λ key. key) result (inner_key_of key.now) }
 {
     match SshBasePublicKey::from_blob(alloc, key.blob.as_slice()) {
         Ok(key) => Ok(key),
@@ -305,7 +304,7 @@ fn inner_key(alloc: Global, key: &PuttyPublicKey) -> Result<SshBasePublicKey, Pu
 
 /// The key without what is OpenSSH's alone.
 fn plain_key(alloc: Global, key: SshBasePublicKey) -> Result<PublicKey, PuttyError>
-    ensures { Gives is_no_memory (λ key. key) result (plain_of key) }
+    ensures { Gives PuttyError.NoMemory (λ key. key) result (plain_of key) }
 {
     match key {
         SshBasePublicKey::Rsa { e, n } => Ok(PublicKey::Rsa { e, n }),

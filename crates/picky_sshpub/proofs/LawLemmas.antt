@@ -1,4 +1,5 @@
 -- What the laws state.
+use Rattle.picky_text.specs.WordLaws.{comment_is_text}
 use Rattle.picky_sshpub.specs.BlobLaws.{blob_spells}
 use Rattle.picky_sshpub.specs.BlobExact.{blob_exact}
 use Rattle.picky_sshpub.specs.Element.{blob_sound, blob_complete, blob_is_read_back}
@@ -7,4 +8,12 @@ use Rattle.picky_sshpub.specs.SourceLaws.{source_reads_back, source_means}
 
 pub ruleset blob_laws = (blob_spells, blob_exact, blob_sound, blob_complete, blob_is_read_back)
 
-pub ruleset line_laws = (line_meaning_says, line_meaning_of, one_line_meaning, line_reads_back, source_reads_back, source_means)
+pub ruleset line_laws = (
+  line_meaning_says,
+  line_meaning_of,
+  one_line_meaning,
+  comment_is_text,
+  line_reads_back,
+  source_reads_back,
+  source_means,
+)

@@ -1,5 +1,5 @@
-pub mod ReadLemmas
-pub mod WriteLemmas
-pub mod FeedLemmas
+pub mod StopLemmas
+pub mod LineLemmas
 pub mod SourceLemmas
 pub mod LawLemmas
+pub mod ViewLemmas

@@ -1,78 +1,74 @@
 -- Lemmas on a line in front of a source's bytes.
-use Rattle.std.proofs.Common.{◌≡◌, ◌≤◌, ◌^◌, ℕ, List, [], ◌∷◌, ◌++◌, length, drop, Bool, true, false, Option, Some, None, refl, sym, ap, ◌∙◌, subst, arith, ◌-◌, ◌+◌, suc}
-use Rattle.std.proofs.lemmas.List.{append-nil, append_assoc, drop_at}
-use Rattle.std.proofs.lemmas.Str.{is_utf8-from_IsUtf8, IsUtf8-from_is_utf8, IsUtf8-from_ascii}
+use Rattle.std.proofs.Common.{◌≡◌, ◌≢◌, ◌≤◌, ◌<◌, ◌^◌, ◌+◌, ◌++◌, ◌∷◌, ℕ, List, [], length, drop, suc, true, false}
+use Rattle.std.proofs.Common.{refl, sym, ap, ◌∙◌, subst, arith, inl, inr, Result, Ok, Err}
+use Rattle.std.specs.Prelude.{Option, IsSome, IfErr}
 use Rattle.std.specs.List.{before_first, after_first, position_or_len}
-use Rattle.std.specs.Prelude.{is_some}
-use Rattle.std.specs.Str.{IsUtf8, is_utf8}
-use Rattle.picky_layout.specs.Numbers.{IsBytes}
-use Rattle.picky_layout.specs.Table.{none_is_found}
-use Rattle.picky_keys.specs.Names.{key_types, key_is_name, kind_name_utf8}
-use Rattle.picky_text.specs.Base64.{base64_of, decoded}
-use Rattle.picky_text.specs.Base64Laws.{base64_is_of_what_it_gives, base64_is_ascii}
-use Rattle.picky_text.specs.Words.{ends_line}
-use Rattle.picky_text.specs.ListLaws.{cut_at_first, all_append}
-use Rattle.picky_sshpub.specs.BlobRefusal.{LeavesRest}
-use Rattle.picky_sshpub.specs.LineRefusal.{is_key_type}
-use Rattle.picky_sshpub.specs.SourceLine.{line_in_front, IsLineTaken}
-use Rattle.picky_sshpub.specs.SourceLaws.{Stays, all_stays}
-
--- bytes that aren't UTF-8 are no name
-pub no_text_is_no_name : (word : List ℕ) → (IsUtf8 word → ⊥) → is_key_type word ≡ false
-no_text_is_no_name word other =
-    ap is_some (none_is_found key_types word (λ kind has.
-    other (subst IsUtf8 (sym (key_is_name kind) ∙ has) (kind_name_utf8 kind))))
-
--- nor are they base64
-pub no_text_is_no_base64 : (body : List ℕ) → IsBytes body → (IsUtf8 body → ⊥) → decoded body ≡ None
-no_text_is_no_base64 body small other = go (decoded body) refl
-  where
-    go : (o : Option (List ℕ)) → decoded body ≡ o → o ≡ None
-    go None is = refl
-    go (Some x) is =
-        let text = base64_is_of_what_it_gives body x small is in
-        absurd (other (subst IsUtf8 (sym text) (IsUtf8-from_ascii (base64_of x) (base64_is_ascii x))))
-
--- the test of UTF-8
-pub is_utf8_false : (bytes : List ℕ) → (IsUtf8 bytes → ⊥) → is_utf8 bytes ≡ false
-is_utf8_false bytes other = go (is_utf8 bytes) refl
-  where
-    go : (t : Bool) → is_utf8 bytes ≡ t → t ≡ false
-    go true is = absurd (other (IsUtf8-from_is_utf8 bytes is))
-    go false is = refl
-
-pub ruleset tests = (is_utf8_false, is_utf8-from_IsUtf8)
+use Rattle.std.proofs.lemmas.Bool.{lt-ltb, le-ltb, cases_lt}
+use Rattle.std.proofs.lemmas.List.{append-nil, append_assoc, drop_at, length-drop, length-take, length-append}
+use Rattle.picky_layout.specs.Outcome.{and_then, map_ok}
+use Rattle.picky_text.specs.Words.{ends_line, line_in_front}
+use Rattle.picky_text.specs.ListLaws.{cut_at_first, uncut, all_append}
+use Rattle.picky_wire.specs.declared.error.WireError.TheVariants as wire
+use Rattle.picky_wire.specs.Count.{Rose}
+use Rattle.picky_wire.specs.declared.error.IoKind.TheVariants as kinds
+use Rattle.picky_wire.specs.Gives.{Gives}
+use Rattle.picky_wire.proofs.ThenLemmas.{judged_takes, judged_cause}
+use Rattle.picky_wire.specs.Takes.{Takes, EndsIn, Refuses, HasCause, causes_of}
+use Rattle.picky_sshpub.specs.declared.error.SshPublicKeyError.{SshPublicKeyError}
+use Rattle.picky_sshpub.specs.declared.error.SshPublicKeyError.TheVariants as errors
+use Rattle.picky_sshpub.specs.FromWire.{public_key_error}
+use Rattle.picky_sshpub.specs.declared.key.SshPublicKey.{SshPublicKey}
+use Rattle.picky_sshpub.specs.LineRefusal.{is_short, line_meaning}
+use Rattle.picky_sshpub.specs.LineLaws.{chosen}
+use Rattle.picky_sshpub.specs.SourceLine.{after_line, line_used, read_line, source_meaning}
+use Rattle.picky_sshpub.specs.SourceLaws.{Stays}
 
 -- one more such byte
 pub stays_push : (bytes : List ℕ) (b : ℕ) → Stays bytes → ends_line b ≡ false → Stays (bytes ++ b ∷ [])
 stays_push bytes b stays other = all_append (λ c. ends_line c ≡ false) bytes (b ∷ []) stays (other, tt)
 
--- the line ends at the first byte that ends one
-pub line_ends : (line rest before after : List ℕ) (b : ℕ) → Stays line → ends_line b ≡ true → length line ≤ 2 ^ 32 - 1
-    → before ≡ line ++ rest → rest ≡ b ∷ after → IsLineTaken line before after
-line_ends line rest before after b stays ends short is more =
-    let cut = cut_at_first ends_line line b after stays ends in
-    let whole = is ∙ ap (λ r. line ++ r) more in
+-- ---- what is read of the bytes before and after
+
+-- what was answered for the line, and what was taken
+pub record IsLine (says : Result (List ℕ) SshPublicKeyError) (before after : List ℕ) : Type 0 where
+  pub read : read_line before ≡ map_ok (λ line. (line, after)) says
+  pub rest : after ≡ after_line before
+  pub front : EndsIn before after
+
+short_line : (line before after : List ℕ) → line_in_front before ≡ line → length line < 2 ^ 32
+    → after_first ends_line before ≡ after → EndsIn before after → IsLine (Ok line) before after
+unfolding read_line after_line
+short_line line before after is short rest front =
+    let passes : is_short (line_in_front before) ≡ true =
+    ap is_short is ∙ lt-ltb (length line) (2 ^ 32) short in
     record {
-      is = sym (ap (before_first ends_line) whole ∙ cut.before);
-      short = omega (arith, short);
-      rest = sym (ap (after_first ends_line) whole ∙ cut.after);
+      read = rw (passes, is, rest) refl;
+      rest = rw passes (sym rest);
+      front = front;
     }
+
+-- the line ends at the first byte that ends one
+pub line_ends : (line mid before after : List ℕ) (b : ℕ) → Stays line → ends_line b ≡ true
+    → length line < 2 ^ 32 → before ≡ line ++ mid → mid ≡ b ∷ after → IsLine (Ok line) before after
+line_ends line mid before after b stays ends short is more =
+    let cut = cut_at_first ends_line line b after stays ends in
+    let all = is ∙ ap (λ r. line ++ r) more in
+    short_line line before after (ap (before_first ends_line) all ∙ cut.before) short
+    (ap (after_first ends_line) all ∙ cut.after)
+    (record { taken = line ++ b ∷ []; are = all ∙ sym (append_assoc line (b ∷ []) after) })
 
 -- where none ends it, it is all that is left
-pub line_is_all : (line rest before after : List ℕ) → Stays line → length line ≤ 2 ^ 32 - 1
-    → before ≡ line ++ rest → rest ≡ [] → after ≡ [] → IsLineTaken line before after
-line_is_all line rest before after stays short is none left =
-    let whole = is ∙ ap (λ r. line ++ r) none ∙ append-nil line in
-    let all = all_stays line stays in
-    record {
-      is = sym (ap (before_first ends_line) whole ∙ all.0);
-      short = omega (arith, short);
-      rest = left ∙ sym (ap (after_first ends_line) whole ∙ all.1);
-    }
+pub line_is_all : (line mid before after : List ℕ) → Stays line → length line < 2 ^ 32
+    → before ≡ line ++ mid → (mid ≡ []) × (after ≡ []) → IsLine (Ok line) before after
+line_is_all line mid before after stays short is none =
+    let all = is ∙ ap (λ r. line ++ r) none.0 ∙ append-nil line in
+    let uncut_line = uncut ends_line line stays in
+    short_line line before after (ap (before_first ends_line) all ∙ uncut_line.0) short
+    (ap (after_first ends_line) all ∙ uncut_line.1 ∙ sym none.1)
+    (record { taken = line; are = all ∙ sym (append-nil line) ∙ ap (λ r. line ++ r) (sym none.1) })
 
 -- a line has at least the bytes that don't end it
-pub line_goes_on : (line rest : List ℕ) → Stays line → length line ≤ length (before_first ends_line (line ++ rest))
+line_goes_on : (line rest : List ℕ) → Stays line → length line ≤ length (before_first ends_line (line ++ rest))
 line_goes_on [] rest stays = omega arith
 line_goes_on (b ∷ line) rest stays =
     let n : ℕ = position_or_len ends_line (line ++ rest) in
@@ -80,22 +76,218 @@ line_goes_on (b ∷ line) rest stays =
     let next : 1 + n ≡ suc n = omega arith in
     rw (stays.0, next) (omega (arith, more))
 
-pub line_too_long : (line rest before : List ℕ) → Stays line → length line ≡ 2 ^ 32 → before ≡ line ++ rest
-    → (2 ^ 32 ≤ length (line_in_front before)) × (rest ≡ drop (2 ^ 32) before)
-line_too_long line rest before stays long is =
-    let more = line_goes_on line rest stays in (
-      subst (λ b. 2 ^ 32 ≤ length (before_first ends_line b)) (sym is) (omega (arith, more, long)),
-      sym (ap (drop (2 ^ 32)) is ∙ drop_at line rest (2 ^ 32) long),
-    )
+goes_on : (line rest before : List ℕ) → Stays line → before ≡ line ++ rest → length line ≤ length (line_in_front before)
+goes_on line rest before stays is =
+    subst (λ b. length line ≤ length (before_first ends_line b)) (sym is) (line_goes_on line rest stays)
 
--- what was taken so far is a front of the bytes
-pub taken_front : (before line after : List ℕ) → before ≡ line ++ after → LeavesRest before after
-taken_front before line after is = record { taken = line; are = is }
-
--- and so it is with the next byte
-pub taken_more : (before line rest after : List ℕ) (b : ℕ) → before ≡ line ++ rest → rest ≡ b ∷ after → LeavesRest before after
-taken_more before line rest after b is next =
+-- 2^32 bytes of which none ends a line are too many
+pub line_is_too_long : (line rest before : List ℕ) → Stays line → length line ≡ 2 ^ 32 → before ≡ line ++ rest
+    → IsLine (Err errors.TooLong) before rest
+unfolding read_line after_line
+line_is_too_long line rest before stays long is =
+    let more = goes_on line rest before stays is in
+    let fails : is_short (line_in_front before) ≡ false =
+    le-ltb (length (line_in_front before)) (2 ^ 32) (omega (arith, more, long)) in
     record {
-      taken = line ++ b ∷ [];
-      are = is ∙ ap (λ r. line ++ r) next ∙ sym (append_assoc line (b ∷ []) after);
+      read = rw fails refl;
+      rest = rw fails (sym (ap (drop (2 ^ 32)) is ∙ drop_at line rest (2 ^ 32) long));
+      front = record { taken = line; are = is };
     }
+
+-- so are they by themselves
+pub line_refused : (line : List ℕ) → Stays line → length line ≡ 2 ^ 32 → Refuses read_line errors.TooLong
+line_refused line stays long =
+    (line, (line_is_too_long line [] line stays long (sym (append-nil line))).read)
+
+-- those bytes are taken, whatever follows
+line_is_used : (line rest before : List ℕ) → Stays line → length line ≤ 2 ^ 32 → before ≡ line ++ rest
+    → length (after_line before) ≤ length rest
+unfolding after_line
+line_is_used line rest before stays short is =
+    let front = line_in_front before in
+    let more = goes_on line rest before stays is in
+    let whole = ap length is ∙ length-append line rest in
+    elim (cases_lt (length front) (2 ^ 32)) [
+      | inl less ↦ rw (lt-ltb (length front) (2 ^ 32) less) (omega (
+        arith,
+        more,
+        whole,
+        length-take (position_or_len ends_line before) before,
+        length-drop (position_or_len ends_line before + 1) before,
+      ))
+      | inr other ↦ rw (le-ltb (length front) (2 ^ 32) other) (omega (arith, whole, short, length-drop (2 ^ 32) before))
+    ]
+
+-- ---- what a call promises that takes a line
+
+ends_further : (bytes middle rest : List ℕ) → EndsIn bytes middle → EndsIn middle rest → EndsIn bytes rest
+ends_further bytes middle rest first second = record {
+  taken = first.taken ++ second.taken;
+  are = first.are ∙ ap (λ r. first.taken ++ r) second.are ∙ sym (append_assoc first.taken second.taken rest);
+}
+
+pub line_takes : {S : Type 0} (tells : S → Type 0) (left : S → List ℕ) (known : S → Option ℕ) (faults : S → ℕ)
+    (line : List ℕ) (old new : S) → (tells old → IsLine (Ok line) (left old) (left new)) → (tells old → tells new)
+    → (IsSome (known old) → IsSome (known new)) → faults new ≡ faults old
+    → Takes tells left known faults (causes_of public_key_error) read_line line_used (Ok line) old new
+unfolding line_used
+line_takes tells left known faults line old new is told knows calm = record {
+  answers = λ t. (is t).read;
+  within = λ t. let rest = ap length (is t).rest in omega (arith, rest);
+  whole = λ t.
+      let rest = ap length (is t).rest in
+      let all = ap length (is t).front.are ∙ length-append (is t).front.taken (left new) in
+      omega (arith, rest, all);
+  front = λ t bytes ends. ends_further bytes (left old) (left new) ends (is t).front;
+  told = told;
+  knows = knows;
+  fault = λ other. cc other;
+  calm = calm;
+  never_falls = omega (arith, calm);
+}
+
+pub too_long_takes : {S : Type 0} (tells : S → Type 0) (left : S → List ℕ) (known : S → Option ℕ) (faults : S → ℕ)
+    (old new : S) → (tells old → IsLine (Err errors.TooLong) (left old) (left new)) → (tells old → tells new)
+    → (IsSome (known old) → IsSome (known new)) → faults new ≡ faults old
+    → Takes {A = List ℕ} tells left known faults (causes_of public_key_error) read_line line_used (Err errors.TooLong) old new
+unfolding line_used
+too_long_takes tells left known faults old new is told knows calm = record {
+  answers = λ t other kept. (is t).read;
+  within = λ t. let rest = ap length (is t).rest in omega (arith, rest);
+  whole = λ t other kept no_end.
+      let rest = ap length (is t).rest in
+      let all = ap length (is t).front.are ∙ length-append (is t).front.taken (left new) in
+      omega (arith, rest, all);
+  front = λ t bytes ends. ends_further bytes (left old) (left new) ends (is t).front;
+  told = told;
+  knows = knows;
+  fault = λ other. cc other;
+  calm = λ other. calm;
+  never_falls = omega (arith, calm);
+}
+
+-- the bytes that were taken when the call stopped
+pub record IsPart (before after : List ℕ) : Type 0 where
+  pub line : List ℕ
+  pub stays : Stays line
+  pub short : length line ≤ 2 ^ 32
+  pub are : before ≡ line ++ after
+
+part_within : (before after : List ℕ) → IsPart before after → length before ≤ line_used before + length after
+unfolding line_used
+part_within before after part =
+    let used = line_is_used part.line after before part.stays part.short part.are in
+    omega (arith, used)
+
+part_front : (bytes before after : List ℕ) → EndsIn bytes before → IsPart before after → EndsIn bytes after
+part_front bytes before after ends part =
+    ends_further bytes before after ends (record { taken = part.line; are = part.are })
+
+-- a count that rose after it stood still
+pub rose_since : (a b c : ℕ) → b ≡ a → Rose b c → Rose a c
+rose_since a b c same rose = subst (λ n. Rose n c) same rose
+
+pub fault_takes : {S : Type 0} (tells : S → Type 0) (left : S → List ℕ) (known : S → Option ℕ) (faults : S → ℕ)
+    (old new : S) → (tells old → IsPart (left old) (left new)) → (tells old → tells new)
+    → (IsSome (known old) → IsSome (known new)) → Rose (faults old) (faults new) → faults old ≤ faults new
+    → Takes {A = List ℕ} tells left known faults (causes_of public_key_error) read_line line_used
+    (Err (public_key_error wire.ReadFault)) old new
+fault_takes tells left known faults old new part told knows rose never_falls = record {
+  answers = λ t other. absurd (other refl);
+  within = λ t. part_within (left old) (left new) (part t);
+  whole = λ t other. absurd (other refl);
+  front = λ t bytes ends. part_front bytes (left old) (left new) ends (part t);
+  told = told;
+  knows = knows;
+  fault = λ is. rose;
+  calm = λ other. absurd (other refl);
+  never_falls = never_falls;
+}
+
+pub want_takes : {S : Type 0} (tells : S → Type 0) (left : S → List ℕ) (known : S → Option ℕ) (faults : S → ℕ)
+    (old new : S) → (tells old → IsPart (left old) (left new)) → (tells old → tells new)
+    → (IsSome (known old) → IsSome (known new)) → faults new ≡ faults old
+    → Takes {A = List ℕ} tells left known faults (causes_of public_key_error) read_line line_used
+    (Err (public_key_error wire.NoMemory)) old new
+want_takes tells left known faults old new part told knows calm = record {
+  answers = λ t other kept. absurd (kept refl);
+  within = λ t. part_within (left old) (left new) (part t);
+  whole = λ t other kept. absurd (kept refl);
+  front = λ t bytes ends. part_front bytes (left old) (left new) ends (part t);
+  told = told;
+  knows = knows;
+  fault = λ other. cc other;
+  calm = λ other. calm;
+  never_falls = omega (arith, calm);
+}
+
+-- ---- a line that was taken is judged
+
+-- what stays in a line is read as the line
+line_reads_itself : (line : List ℕ) → Stays line → length line < 2 ^ 32 → read_line line ≡ Ok (line, [])
+line_reads_itself line stays short = (line_is_all line [] line [] stays short (sym (append-nil line)) (refl, refl)).read
+
+left_is_after : (before line after : List ℕ) → read_line before ≡ Ok (line, after) → after ≡ after_line before
+unfolding read_line
+left_is_after before line after is =
+    let passed = chosen (is_short (line_in_front before)) _ errors.TooLong (line, after) is in
+    let found : List ℕ × List ℕ = (line_in_front before, after_line before) in
+    let same : found ≡ (line, after) = cc passed.1 in
+    sym (ap (λ f. f.1) same)
+
+-- the key, or the line's refusal, is answered for the bytes
+pub line_judged : {S : Type 0} (tells : S → Type 0) (left : S → List ℕ) (known : S → Option ℕ) (faults : S → ℕ)
+    (line slice : List ℕ) (r : Result SshPublicKey SshPublicKeyError) (old new : S)
+    → Takes tells left known faults (causes_of public_key_error) read_line line_used (Ok line) old new
+    → slice ≡ line → Gives errors.NoMemory (λ key. key) r (line_meaning slice)
+    → IfErr r (λ e. e ≢ public_key_error wire.ReadFault)
+    → Takes tells left known faults (causes_of public_key_error) source_meaning line_used r old new
+unfolding source_meaning
+line_judged tells left known faults line slice r old new takes same gives no_fault =
+    judged_takes tells left known faults (causes_of public_key_error) read_line line_used line_meaning line r old new
+    takes (subst (λ l. Gives errors.NoMemory (λ key. key) r (line_meaning l)) same gives) no_fault
+
+-- and its refusal is one that some bytes have
+pub line_cause : (line slice : List ℕ) (r : Result SshPublicKey SshPublicKeyError) (fault : Type 0)
+    → Stays line × (length line < 2 ^ 32) → slice ≡ line → Gives errors.NoMemory (λ key. key) r (line_meaning slice)
+    → IfErr r (HasCause (causes_of public_key_error) source_meaning fault)
+unfolding source_meaning
+line_cause line slice r fault is same gives =
+    judged_cause (causes_of public_key_error) read_line line_meaning line r fault line []
+    (line_reads_itself line is.0 is.1) (subst (λ l. Gives errors.NoMemory (λ key. key) r (line_meaning l)) same gives)
+
+-- the line was taken
+pub line_left : (before line after : List ℕ) (r : Result SshPublicKey SshPublicKeyError)
+    → read_line before ≡ Ok (line, after)
+    → IfErr r (λ e. e ≢ errors.IoError kinds.ReadFault → e ≢ errors.NoMemory → after ≡ after_line before)
+line_left before line after (Ok key) is = tt
+line_left before line after (Err e) is = λ other kept. left_is_after before line after is
+
+-- no line was taken
+pub no_line_takes : {S : Type 0} (tells : S → Type 0) (left : S → List ℕ) (known : S → Option ℕ) (faults : S → ℕ)
+    (e : SshPublicKeyError) (old new : S)
+    → Takes {A = List ℕ} tells left known faults (causes_of public_key_error) read_line line_used (Err e) old new
+    → Takes {A = SshPublicKey} tells left known faults (causes_of public_key_error) source_meaning line_used (Err e) old new
+unfolding source_meaning
+no_line_takes tells left known faults e old new takes = record {
+  answers = λ t other kept. ap (λ found. and_then found (λ line.
+      and_then (line_meaning line.0) (λ key. Ok (key, line.1)))) (takes.answers t other kept);
+  within = takes.within;
+  whole = takes.whole;
+  front = takes.front;
+  told = takes.told;
+  knows = takes.knows;
+  fault = λ is. let same : e ≡ public_key_error wire.ReadFault = cc is in takes.fault (ap (λ x. Err x) same);
+  calm = takes.calm;
+  never_falls = takes.never_falls;
+}
+
+pub no_line_cause : (e : SshPublicKeyError) (fault : Type 0) → HasCause (causes_of public_key_error) read_line fault e
+    → HasCause (causes_of public_key_error) source_meaning fault e
+unfolding source_meaning
+no_line_cause e fault (inl counted) = inl counted
+no_line_cause e fault (inr (inl want)) = inr (inl want)
+no_line_cause e fault (inr (inr (bytes, refused))) = inr (inr (
+  bytes,
+  ap (λ found. and_then found (λ line. and_then (line_meaning line.0) (λ key. Ok (key, line.1)))) refused,
+))

@@ -1,7 +1,6 @@
 pub mod FromWire
 pub mod Key
 pub mod Blob
-pub mod SizeLaws
 pub mod BlobRefusal
 pub mod BlobLaws
 pub mod BlobExact
@@ -9,8 +8,10 @@ pub mod Element
 pub mod Line
 pub mod LineRefusal
 pub mod SourceLine
+pub mod LineOwn
 pub mod ByteLaws
 pub mod LineLaws
 pub mod SourceLaws
 pub mod KeyLaws
 pub mod CanonicalLaws
+pub mod View

@@ -1,9 +1,9 @@
 -- A public key line (sshd(8), "AUTHORIZED_KEYS FILE FORMAT"): a key type, the key's blob in base64, a comment.
-use Rattle.std.specs.Prelude.{◌≡◌, List, [], ◌∷◌, ◌++◌, ℕ, ◌<◌, ◌^◌, length}
+use Rattle.std.specs.Prelude.{◌≡◌, List, [], ◌∷◌, ◌++◌, ℕ, ◌<◌, ◌^◌, length, IsUtf8}
 use Rattle.picky_layout.specs.Numbers.{IsBytes}
 use Rattle.picky_layout.specs.Grammar.{Fits}
 use Rattle.picky_text.specs.Base64.{base64_of}
-use Rattle.picky_text.specs.Words.{first_word, body_word, comment_of}
+use Rattle.picky_text.specs.Words.{first_word, body_word, line_in_front, after_body, comment_of}
 use Rattle.picky_keys.specs.declared.kind.KeyKind.{KeyKind}
 use Rattle.picky_keys.specs.Names.{kind_name}
 use Rattle.picky_sshpub.specs.declared.key.SshPublicKey.{SshPublicKey}
@@ -11,7 +11,7 @@ use Rattle.picky_sshpub.specs.Key.{kind_of}
 use Rattle.picky_sshpub.specs.Blob.{blob, blob_of}
 
 -- line = name SP base64 [SP comment], where the name is one of the seven and says nothing more,
--- and bytes after the blob's last field say nothing
+-- and bytes after the blob's last field say nothing; of the text the comment alone need be UTF-8
 pub record IsPublicLine (text : List ℕ) (key : SshPublicKey) : Type 0 where
   pub kind : KeyKind
   pub name : first_word text ≡ kind_name kind
@@ -22,6 +22,7 @@ pub record IsPublicLine (text : List ℕ) (key : SshPublicKey) : Type 0 where
   pub rest : List ℕ
   pub fits : Fits blob.piece key.inner_key blob_bytes rest
   pub comment : key.comment ≡ comment_of text
+  pub comment_utf8 : IsUtf8 (line_in_front (after_body text))
   pub comment_short : length (comment_of text) < 2 ^ 32
 
 -- the parts of the line that is written, where the name is the blob's own

@@ -1,4 +1,4 @@
--- The laws of a line: its meaning is what it says, what is written is read back, and bytes mean what their text means.
+-- The laws of a line: its meaning is what it says, and what is written is read back.
 use Rattle.std.specs.Prelude.{◌≡◌, ◌&&◌, Bool, true, false, if◌then◌else◌, is_some, List, [], ◌∷◌, ℕ, ◌+◌, ◌++◌, ◌<◌, ◌^◌, length, Option, Some, None, Result, Ok, Err, IsUtf8}
 use Rattle.std.specs.Option.{ok_or}
 use Rattle.std.specs.Str.{trim_end}
@@ -16,8 +16,9 @@ use Rattle.picky_text.specs.Base64.{base64_of, decoded}
 use Rattle.picky_text.specs.Base64Laws.{base64_is_read_back, base64_is_of_what_it_gives, decoded_is_bytes}
 use Rattle.picky_text.specs.Lines.{HasNo}
 use Rattle.picky_text.specs.declared.lines.LineEnd.TheVariants.{CrLf}
-use Rattle.picky_text.specs.Words.{first_word, after_word, body_word, comment_of}
-use Rattle.picky_text.specs.WordLaws.{HasParts, base64_is_word, key_line_is_read_back}
+use Rattle.picky_text.specs.Words.{first_word, after_word, body_word, after_body, comment_of}
+use Rattle.picky_text.specs.WordLaws.{AreParts, HasParts, key_line_is_read_back, key_line_alone}
+use Rattle.picky_text.specs.WordLaws.{base64_is_word, rest_text_is, rest_text_says}
 use Rattle.picky_sshpub.specs.declared.error.SshPublicKeyError.TheVariants as errors
 use Rattle.picky_sshpub.specs.declared.key.SshBasePublicKey.{SshBasePublicKey}
 use Rattle.picky_sshpub.specs.declared.key.SshBasePublicKey.TheVariants as keys
@@ -28,6 +29,7 @@ use Rattle.picky_sshpub.specs.BlobRefusal.{blob_error, read_blob}
 use Rattle.picky_sshpub.specs.BlobLaws.{blob_spells}
 use Rattle.picky_sshpub.specs.Line.{IsPublicLine, line_of, line_name, line_body}
 use Rattle.picky_sshpub.specs.LineRefusal.{blob_key, body_key, is_key_type, is_short, line_meaning}
+use Rattle.picky_sshpub.specs.LineRefusal.{is_short_text, comment_text}
 use Rattle.picky_sshpub.specs.ByteLaws.{bytes_joined, string_bytes_each, mpint_bytes_each, no_bytes, word_bytes, after_bytes, name_is_word, name_bytes, identifier_bytes}
 
 -- ---- a blob and its key
@@ -118,23 +120,19 @@ body_key_says body key small has =
       fits = fits.1;
     }
 
--- the steps of a line that is read
-line_steps : (text : List ℕ) (key : SshBasePublicKey) → is_key_type (first_word text) ≡ true
-    → length (body_word text) < 2 ^ 32 → length (comment_of text) < 2 ^ 32 → body_key (body_word text) ≡ Ok key
-    → line_meaning text ≡ Ok (record { inner_key = key; comment = comment_of text })
-unfolding line_meaning
-line_steps text key named body comment has =
-    rw (named, lt-ltb (length (body_word text)) (2 ^ 32) body, lt-ltb (length (comment_of text)) (2 ^ 32) comment, has) refl
-
 pub named_of : (word : List ℕ) (kind : KeyKind) → word ≡ kind_name kind → is_key_type word ≡ true
 named_of word kind is = ap (λ w. is_some (find_entry key_types w)) is ∙ ap is_some (kind_of_name kind)
 
 -- A line means what it says.
 pub line_meaning_of : (text : List ℕ) (key : SshPublicKey) → IsPublicLine text key → line_meaning text ≡ Ok key
+unfolding line_meaning
 line_meaning_of text key line =
+    let named = named_of (first_word text) line.kind line.name in
     let body = body_key_of (body_word text) line.blob_bytes line.rest key.inner_key line.are_bytes line.body line.fits in
-    line_steps text key.inner_key (named_of (first_word text) line.kind line.name) line.body_short line.comment_short body
-    ∙ ap (λ c. Ok (record { inner_key = key.inner_key; comment = c })) (sym line.comment)
+    let body_fits = lt-ltb (length (body_word text)) (2 ^ 32) line.body_short in
+    let comment = rest_text_is (after_body text) line.comment_utf8 in
+    let comment_fits = lt-ltb (length (comment_of text)) (2 ^ 32) line.comment_short in
+    rw (named, comment, body_fits, comment_fits, body, ← line.comment) refl
 
 -- It says what it means.
 pub line_meaning_says : (text : List ℕ) (key : SshPublicKey) → IsBytes text → line_meaning text ≡ Ok key
@@ -142,12 +140,18 @@ pub line_meaning_says : (text : List ℕ) (key : SshPublicKey) → IsBytes text 
 unfolding line_meaning
 line_meaning_says text key small means =
     let named = chosen (is_key_type (first_word text)) _ errors.UnknownKeyType key means in
-    let short = chosen (is_short (body_word text) && is_short (comment_of text)) _ errors.TooLong key named.1 in
-    let both = and_parts (is_short (body_word text)) (is_short (comment_of text)) short.0 in
+    let body_fits = is_short (body_word text) in
+    let fits = is_short_text (comment_text text) in
+    let short = chosen (body_fits && fits) _ errors.TooLong key named.1 in
+    let both = and_parts body_fits fits short.0 in
     let step = and_then_ok (body_key (body_word text)) _ key short.1 in
+    let last = and_then_ok (ok_or (comment_text text) errors.InvalidUtf8) _ key step.2 in
+    let some = some_of (comment_text text) errors.InvalidUtf8 last.0 last.1 in
+    let comment = rest_text_says (after_body text) last.0 some in
+    let comment_fits = ap is_short_text (ap Some comment.1 ∙ sym some) ∙ both.1 in
     let kind = found (find_entry key_types (first_word text)) named.0 in
     let body = body_key_says (body_word text) step.0 (word_bytes (after_word text) (after_bytes text small)) step.1 in
-    let is : record { inner_key = step.0; comment = comment_of text } ≡ key = cc step.2 in
+    let is : record { inner_key = step.0; comment = last.0 } ≡ key = cc last.2 in
     record {
       kind = kind.0;
       name = sym (name_of_kind (first_word text) kind.0 kind.1);
@@ -157,8 +161,9 @@ line_meaning_says text key small means =
       body_short = ltb-true (length (body_word text)) (2 ^ 32) both.0;
       rest = body.rest;
       fits = subst (λ k. Fits blob.piece k body.blob_bytes body.rest) (ap (λ k. k.inner_key) is) body.fits;
-      comment = sym (ap (λ k. k.comment) is);
-      comment_short = ltb-true (length (comment_of text)) (2 ^ 32) both.1;
+      comment = sym (ap (λ k. k.comment) is) ∙ sym comment.1;
+      comment_utf8 = comment.0;
+      comment_short = ltb-true (length (comment_of text)) (2 ^ 32) comment_fits;
     }
 
 -- A line has one meaning.
@@ -189,36 +194,55 @@ part_lengths key =
       length-append (line_name key) (32 ∷ line_body key),
     )
 
--- The line that is written says the key, whatever follows it.
-pub line_says : (key : SshPublicKey) (more : List ℕ) → IsKept key → IsPublicLine (line_of key ++ more) key
-unfolding line_of
-line_says key more kept =
-    let small = blob_bytes key.inner_key kept.is_key in
-    let front = line_name key ++ 32 ∷ line_body key ++ 32 ∷ key.comment in
-    let parts = key_line_is_read_back (line_name key) (line_body key) key.comment (record {
-      name_word = name_is_word (kind_of key.inner_key);
-      body_word = base64_is_word (blob_of key.inner_key) small;
-      no_cr = kept.no_cr;
-      no_lf = kept.no_lf;
-      trimmed = kept.trimmed;
-    }) CrLf more in
-    let is = subst (λ line. HasParts line (line_name key) (line_body key) key.comment)
-    (sym (append_assoc front (13 ∷ 10 ∷ []) more)) parts in
+-- the line without its end
+abbrev pub line_front : SshPublicKey → List ℕ
+line_front key = line_name key ++ 32 ∷ line_body key ++ 32 ∷ key.comment
+
+line_parts : (key : SshPublicKey) → IsKept key
+    → AreParts (line_name key) (line_body key) key.comment
+line_parts key kept = record {
+  name_word = name_is_word (kind_of key.inner_key);
+  body_word = base64_is_word (blob_of key.inner_key) (blob_bytes key.inner_key kept.is_key);
+  no_cr = kept.no_cr;
+  no_lf = kept.no_lf;
+  trimmed = kept.trimmed;
+}
+
+-- a line of a key's parts says the key
+parts_say : (key : SshPublicKey) (line : List ℕ) → IsKept key
+    → HasParts line (line_name key) (line_body key) key.comment → IsPublicLine line key
+parts_say key line kept is =
     let len = part_lengths key in
     record {
       kind = kind_of key.inner_key;
       name = is.name_is;
       blob_bytes = blob_of key.inner_key;
-      are_bytes = small;
+      are_bytes = blob_bytes key.inner_key kept.is_key;
       body = is.body_is;
       body_short = subst (λ w. length w < 2 ^ 32) (sym is.body_is) (omega (arith, kept.short, len));
       rest = [];
       fits = (blob_of key.inner_key, blob_spells key.inner_key kept.is_key, sym (append-nil (blob_of key.inner_key)));
       comment = sym is.comment_is;
+      comment_utf8 = subst IsUtf8 (sym is.line_is) kept.utf8;
       comment_short = subst (λ w. length w < 2 ^ 32) (sym is.comment_is) (omega (arith, kept.short, len));
     }
+
+-- The line that is written says the key, whatever follows it.
+pub line_says : (key : SshPublicKey) (more : List ℕ) → IsKept key
+    → IsPublicLine (line_of key ++ more) key
+unfolding line_of
+line_says key more kept =
+    let parts = line_parts key kept in
+    let is = key_line_is_read_back (line_name key) (line_body key) key.comment parts CrLf more in
+    rw (append_assoc (line_front key) (13 ∷ 10 ∷ []) more) (parts_say key _ kept is)
 
 -- It is read back whatever follows.
 pub line_reads_back : (key : SshPublicKey) (more : List ℕ) → IsKept key
     → line_meaning (line_of key ++ more) ≡ Ok key
 line_reads_back key more kept = line_meaning_of (line_of key ++ more) key (line_says key more kept)
+
+-- It is so without its end.
+pub front_reads_back : (key : SshPublicKey) → IsKept key → line_meaning (line_front key) ≡ Ok key
+front_reads_back key kept =
+    let is = key_line_alone (line_name key) (line_body key) key.comment (line_parts key kept) in
+    line_meaning_of (line_front key) key (parts_say key (line_front key) kept is)

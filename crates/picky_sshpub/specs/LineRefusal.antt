@@ -1,12 +1,12 @@
 -- The order in which a public key line is refused: its name, its lengths, its body, its blob by field.
-use Rattle.std.specs.Prelude.{◌<◌, ◌≤◌, ◌^◌, ◌&&◌, Bool, List, ℕ, length, nat_lt, Result, Ok, Err, if◌then◌else◌, is_some}
+use Rattle.std.specs.Prelude.{◌^◌, ◌&&◌, Bool, true, List, ℕ, length, nat_lt}
+use Rattle.std.specs.Prelude.{Option, Some, None, Result, Ok, Err, if◌then◌else◌, is_some}
 use Rattle.std.specs.Option.{ok_or}
 use Rattle.picky_layout.specs.Outcome.{and_then}
 use Rattle.picky_layout.specs.Table.{find_entry}
 use Rattle.picky_text.specs.Base64.{decoded}
-use Rattle.picky_text.specs.Words.{first_word, body_word, comment_of}
+use Rattle.picky_text.specs.Words.{first_word, body_word, after_body, rest_text}
 use Rattle.picky_keys.specs.Names.{key_types}
-use Rattle.picky_wire.specs.declared.error.IoKind.TheVariants as kinds
 use Rattle.picky_sshpub.specs.declared.error.SshPublicKeyError.{SshPublicKeyError}
 use Rattle.picky_sshpub.specs.declared.error.SshPublicKeyError.TheVariants as errors
 use Rattle.picky_sshpub.specs.declared.key.SshBasePublicKey.{SshBasePublicKey}
@@ -31,13 +31,23 @@ is_key_type word = is_some (find_entry key_types word)
 abbrev pub is_short : List ℕ → Bool
 is_short bytes = nat_lt (length bytes) (2 ^ 32)
 
--- what a line means, or the first reason why it means nothing
+-- so does the text, where there is one
+abbrev pub is_short_text : Option (List ℕ) → Bool
+is_short_text None = true
+is_short_text (Some text) = is_short text
+
+-- the comment, where it is UTF-8
+abbrev pub comment_text : List ℕ → Option (List ℕ)
+comment_text line = rest_text (after_body line)
+
+-- what a line means, or the first reason why it means nothing; its bytes need not be UTF-8
 unfoldable pub line_meaning : List ℕ → Result SshPublicKey SshPublicKeyError
-line_meaning text =
-    if is_key_type (first_word text)
-    then if is_short (body_word text) && is_short (comment_of text)
-    then and_then (body_key (body_word text)) (λ key.
-    Ok (record { inner_key = key; comment = comment_of text }))
+line_meaning line =
+    if is_key_type (first_word line)
+    then if is_short (body_word line) && is_short_text (comment_text line)
+    then and_then (body_key (body_word line)) (λ key.
+    and_then (ok_or (comment_text line) errors.InvalidUtf8) (λ comment.
+    Ok (record { inner_key = key; comment = comment })))
     else Err errors.TooLong
     else Err errors.UnknownKeyType
 
@@ -48,27 +58,3 @@ blob_bytes key = if is_short (blob_of key) then Ok (blob_of key) else Err errors
 -- the text of the line, where a length of the wire can say its length
 unfoldable pub line_text : SshPublicKey → Result (List ℕ) SshPublicKeyError
 line_text key = if is_short (line_of key) then Ok (line_of key) else Err errors.TooLong
-
--- why no line is read: a fault was counted, the bytes are refused, or memory ran out
-abbrev pub StopsReadingLine : SshPublicKeyError → Type 0 → Type 0
-StopsReadingLine (errors.IoError kinds.ReadFault) fault = fault
-StopsReadingLine (errors.IoError kinds.WriteFault) fault = ⊥
-StopsReadingLine (errors.IoError kinds.UnexpectedEnd) fault = Unit {0}
-StopsReadingLine errors.InvalidUtf8 fault = Unit {0}
-StopsReadingLine errors.Base64DecodeError fault = Unit {0}
-StopsReadingLine errors.UnknownKeyType fault = Unit {0}
-StopsReadingLine errors.KeyError fault = Unit {0}
-StopsReadingLine errors.TooLong fault = Unit {0}
-StopsReadingLine errors.NoMemory fault = Unit {0}
-
--- why a line of so many bytes is not written whole: a fault was counted, or it is too long
-abbrev pub StopsLine : SshPublicKeyError → ℕ → Type 0 → Type 0
-StopsLine (errors.IoError kinds.WriteFault) len fault = (len < 2 ^ 32) × fault
-StopsLine (errors.IoError kinds.ReadFault) len fault = ⊥
-StopsLine (errors.IoError kinds.UnexpectedEnd) len fault = ⊥
-StopsLine errors.InvalidUtf8 len fault = ⊥
-StopsLine errors.Base64DecodeError len fault = ⊥
-StopsLine errors.UnknownKeyType len fault = ⊥
-StopsLine errors.KeyError len fault = ⊥
-StopsLine errors.TooLong len fault = 2 ^ 32 ≤ len
-StopsLine errors.NoMemory len fault = Unit {0}

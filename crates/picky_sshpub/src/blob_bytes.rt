@@ -1,15 +1,15 @@
 //! A public key's blob alone, as bytes.
 
-ghost use Rattle.std.specs.Prelude.{◌≡◌, IfOk, IfErr};
+ghost use Rattle.std.specs.Prelude.{◌≡◌, ◌≢◌, IfOk, IfErr};
 ghost use Rattle.picky_wire.specs.Gives.{Gives};
-ghost use Rattle.picky_sshpub.specs.FromWire.{no_memory};
+ghost use Rattle.picky_wire.specs.declared.error.IoKind.TheVariants as io_kinds;
 ghost use Rattle.picky_sshpub.specs.Blob.{blob_of};
-ghost use Rattle.picky_sshpub.specs.BlobRefusal.{StopsReading};
 ghost use Rattle.picky_sshpub.specs.LineRefusal.{blob_key, blob_bytes};
 
 use crate::error::SshPublicKeyError;
 use crate::growing::Growing;
 use crate::key::SshBasePublicKey;
+use crate::view::PublicView;
 use picky_wire::{Bytes, NoMemory, SliceSource, SshComplexTypeDecode, SshComplexTypeEncode};
 use std::alloc::Global;
 
@@ -20,22 +20,28 @@ impl SshBasePublicKey {
     /// The key of a blob (RFC 4253, section 6.6). What follows the blob's last field says nothing.
     ///
     /// Refuses, in order, by field: `IoError(UnexpectedEnd)`, `InvalidUtf8`, `UnknownKeyType`, `KeyError`, `TooLong`.
-    #[tactic(auto, unfolding(crate::specs::LineRefusal::blob_key))]
+    #[tactic(auto, using(crate::proofs::ViewLemmas::blob_keys))]
     pub fn from_blob(alloc: Global, blob: &[u8]) -> Result<SshBasePublicKey, SshPublicKeyError>
-        ensures gives { Gives no_memory (λ key. key) result (blob_key blob.now) }
-        ensures cause { IfErr result (λ e. StopsReading e ⊥) }
+        ensures gives { Gives SshPublicKeyError.NoMemory (λ key. key) result (blob_key blob.now) }
+        ensures no_fault { IfErr result (λ e. e ≢ SshPublicKeyError.IoError io_kinds.ReadFault) }
     {
-        let mut source = SliceSource::new(blob);
-        match SshBasePublicKey::decode(alloc, &mut source) {
+        if blob.len() >= TOO_MANY {
+            return key_of_long(alloc, blob);
+        }
+        let view = match PublicView::read(blob) {
+            Ok((view, _)) => view,
+            Err(stuck) => return Err(SshPublicKeyError::from(stuck)),
+        };
+        match view.to_key(alloc) {
             Ok(key) => Ok(key),
-            Err(e) => Err(e),
+            Err(NoMemory) => Err(SshPublicKeyError::NoMemory),
         }
     }
 
     /// The key's one blob. Refuses, in order: `TooLong`, where it has 2^32 bytes or more.
     #[tactic(auto, unfolding(crate::specs::LineRefusal::blob_bytes))]
     pub fn to_blob(&self, alloc: Global) -> Result<Bytes, SshPublicKeyError>
-        ensures { Gives no_memory (λ bytes. bytes) result (blob_bytes self.now) }
+        ensures { Gives SshPublicKeyError.NoMemory (λ bytes. bytes) result (blob_bytes self.now) }
     {
         match bytes_of(alloc, self) {
             Ok(bytes) => {
@@ -46,6 +52,19 @@ impl SshBasePublicKey {
             }
             Err(NoMemory) => Err(SshPublicKeyError::NoMemory),
         }
+    }
+}
+
+/// The key of a blob that is too long to be seen at its places.
+#[tactic(auto, unfolding(crate::specs::LineRefusal::blob_key))]
+fn key_of_long(alloc: Global, blob: &[u8]) -> Result<SshBasePublicKey, SshPublicKeyError>
+    ensures gives { Gives SshPublicKeyError.NoMemory (λ key. key) result (blob_key blob.now) }
+    ensures no_fault { IfErr result (λ e. e ≢ SshPublicKeyError.IoError io_kinds.ReadFault) }
+{
+    let mut source = SliceSource::new(blob);
+    match SshBasePublicKey::decode(alloc, &mut source) {
+        Ok(key) => Ok(key),
+        Err(e) => Err(e),
     }
 }
 
@@ -62,6 +81,3 @@ pub fn bytes_of(alloc: Global, key: &SshBasePublicKey) -> Result<Vec<u8>, NoMemo
         Err(_) => Err(NoMemory),
     }
 }
-
-#[cfg(test)]
-mod tests;

@@ -1,6 +1,6 @@
 //! Why a public key is not read or written.
 
-use picky_wire::{IoKind, WireError};
+use picky_wire::{CodecError, IoKind, Stop, Stuck, WireError};
 use thiserror::Error;
 
 /// Why a public key, or its line, is not read or written.
@@ -43,6 +43,62 @@ impl From<WireError> for SshPublicKeyError {
             WireError::InvalidUtf8 => SshPublicKeyError::InvalidUtf8,
             WireError::TooLong => SshPublicKeyError::TooLong,
             WireError::NoMemory => SshPublicKeyError::NoMemory,
+        }
+    }
+}
+
+impl CodecError for SshPublicKeyError {
+    ghost use Rattle.std.specs.Prelude.{◌≡◌};
+    ghost use Rattle.picky_sshpub.specs.FromWire.{public_key_error, errors_stay_apart};
+
+    ghost of_wire = { public_key_error };
+
+    ghost from_alike = { λ e x same. same };
+
+    ghost apart = { errors_stay_apart };
+
+    fn is_no_memory(&self) -> bool {
+        matches!(self, SshPublicKeyError::NoMemory)
+    }
+
+    fn from_wire(e: WireError) -> SshPublicKeyError {
+        SshPublicKeyError::from(e)
+    }
+}
+
+impl From<Stop> for SshPublicKeyError {
+    ghost use Rattle.std.specs.Prelude.{◌≡◌};
+    ghost use Rattle.picky_sshpub.specs.BlobRefusal.{stop_error};
+
+    ghost from_gives = { λ stop result. result ≡ stop_error stop };
+
+    fn from(stop: Stop) -> SshPublicKeyError {
+        match stop {
+            Stop::Fault => SshPublicKeyError::IoError(IoKind::ReadFault),
+            Stop::NoMemory => SshPublicKeyError::NoMemory,
+            Stop::Short => SshPublicKeyError::IoError(IoKind::UnexpectedEnd),
+            Stop::NotUtf8 => SshPublicKeyError::InvalidUtf8,
+            Stop::TooLong => SshPublicKeyError::TooLong,
+            Stop::Name => SshPublicKeyError::UnknownKeyType,
+            Stop::Length | Stop::Magic | Stop::Number => SshPublicKeyError::KeyError,
+        }
+    }
+}
+
+impl From<Stuck<'_>> for SshPublicKeyError {
+    ghost use Rattle.std.specs.Prelude.{◌≡◌};
+    ghost use Rattle.picky_wire.specs.View.{why_of};
+    ghost use Rattle.picky_sshpub.specs.BlobRefusal.{why_error};
+
+    ghost from_gives = { λ stuck result. result ≡ why_error (why_of stuck) };
+
+    fn from(stuck: Stuck<'_>) -> SshPublicKeyError {
+        match stuck {
+            Stuck::Short => SshPublicKeyError::IoError(IoKind::UnexpectedEnd),
+            Stuck::NotUtf8 => SshPublicKeyError::InvalidUtf8,
+            Stuck::Name(_) => SshPublicKeyError::UnknownKeyType,
+            Stuck::Length => SshPublicKeyError::KeyError,
+            Stuck::Number(_) => SshPublicKeyError::KeyError,
         }
     }
 }

@@ -1,19 +1,17 @@
 //! The fingerprints of a public key: digests of its blob.
 
-ghost use Rattle.std.specs.Prelude.{◌≡◌, ◌^◌, ◌<◌, ◌++◌, [], ◌∷◌, length, List, ℕ};
+ghost use Rattle.std.specs.Prelude.{◌≡◌, ◌++◌, List, ℕ};
 ghost use Rattle.std.specs.List.{concat};
 ghost use Rattle.md5.specs.Md5.{md5, Holds as HoldsMd5};
 ghost use Rattle.sha1.specs.Sha1.{sha1, Holds as HoldsSha1};
 ghost use Rattle.sha2.specs.Sha256.{sha256};
 ghost use Rattle.sha2.specs.Hashers.{Holds256};
-ghost use Rattle.picky_layout.specs.Wire.{string_of};
-ghost use Rattle.picky_layout.specs.Mpint.{mpint_of};
-ghost use Rattle.picky_sshpub.specs.Blob.{fields_spelled, blob_of};
+ghost use Rattle.picky_sshpub.specs.Blob.{blob_of};
 
+use crate::blob::pieces;
 use crate::key::{SshBasePublicKey, SshPublicKey};
 use md5::{Digest as Md5Digest, Md5};
-use picky_keys::{EcCurve, EcCurveSshExt};
-use picky_wire::Mpint;
+use picky_wire::Piece;
 use sha1::Sha1;
 use sha2::{Digest as Sha2Digest, Sha256};
 
@@ -81,64 +79,19 @@ impl SshPublicKey {
 }
 
 /// Feeds the blob of a key.
-#[tactic(auto, unfolding(crate::specs::Blob::blob_of), using(crate::proofs::FeedLemmas::in_order))]
 fn feed_blob<H: Hasher>(hasher: &mut H, key: &SshBasePublicKey)
     ensures { (m : List ℕ) → H.held hasher.old m → H.held hasher.new (m ++ blob_of key.now) }
 {
-    feed_string(hasher, key.kind().name().as_bytes());
-    feed_fields(hasher, key);
+    feed_pieces(hasher, &pieces(key));
 }
 
-#[tactic(auto, unfolding(crate::specs::Blob::fields_spelled), using(crate::proofs::FeedLemmas::in_order))]
-fn feed_fields<H: Hasher>(hasher: &mut H, key: &SshBasePublicKey)
-    ensures { (m : List ℕ) → H.held hasher.old m → H.held hasher.new (m ++ fields_spelled key.now) }
+/// Feeds one piece after another.
+fn feed_pieces<H: Hasher>(hasher: &mut H, pieces: &[Piece<'_>])
+    ensures { (m : List ℕ) → H.held hasher.old m → H.held hasher.new (m ++ concat pieces.now) }
 {
-    match key {
-        SshBasePublicKey::Rsa { e, n } => {
-            feed_mpint(hasher, e);
-            feed_mpint(hasher, n);
-        }
-        SshBasePublicKey::Ec { curve, point } => {
-            let identifier = curve.to_ecdsa_ssh_key_identifier();
-            feed_string(hasher, identifier.as_bytes());
-            feed_string(hasher, point.as_slice());
-        }
-        SshBasePublicKey::Ed { key } => feed_string(hasher, key),
-        SshBasePublicKey::SkEcdsaSha2NistP256 { point, application } => {
-            let identifier = EcCurve::NistP256.to_ecdsa_ssh_key_identifier();
-            feed_string(hasher, identifier.as_bytes());
-            feed_string(hasher, point.as_slice());
-            feed_string(hasher, application.as_str().as_bytes());
-        }
-        SshBasePublicKey::SkEd25519 { key, application } => {
-            feed_string(hasher, key);
-            feed_string(hasher, application.as_str().as_bytes());
-        }
-    }
-}
-
-/// Feeds a string.
-#[tactic(auto, unfolding(picky_layout::specs::Wire::string_of), using(crate::proofs::FeedLemmas::in_order))]
-fn feed_string<H: Hasher>(hasher: &mut H, bytes: &[u8])
-    requires { length bytes.now < 2 ^ 32 }
-    ensures { (m : List ℕ) → H.held hasher.old m → H.held hasher.new (m ++ string_of bytes.now) }
-{
-    hasher.feed(&(bytes.len() as u32).to_be_bytes());
-    hasher.feed(bytes);
-}
-
-/// Feeds a number, with one zero byte before a first byte of 128 or more.
-#[tactic(auto, using(crate::proofs::FeedLemmas::numbers))]
-fn feed_mpint<H: Hasher>(hasher: &mut H, number: &Mpint)
-    ensures { (m : List ℕ) → H.held hasher.old m → H.held hasher.new (m ++ mpint_of number.now) }
-{
-    let bytes = number.bytes();
-    match bytes.first() {
-        Some(first) if *first >= 128 => {
-            let [a, b, c, d] = (bytes.len() as u32 + 1).to_be_bytes();
-            hasher.feed(&[a, b, c, d, 0]);
-            hasher.feed(bytes);
-        }
-        Some(_) | None => feed_string(hasher, bytes),
+    'pieces: for piece in pieces {
+        let (head, body) = piece.parts();
+        hasher.feed(head);
+        hasher.feed(body);
     }
 }

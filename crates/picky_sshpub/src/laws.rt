@@ -4,6 +4,7 @@ ghost use Rattle.std.specs.Prelude.{◌≡◌, ◌++◌, ◌∷◌, ◌<◌, ◌
 ghost use Rattle.picky_layout.specs.Numbers.{IsBytes};
 ghost use Rattle.picky_layout.specs.Outcome.{and_then};
 ghost use Rattle.picky_layout.specs.Grammar.{Fits};
+ghost use Rattle.picky_text.specs.Words.{after_body, line_in_front};
 ghost use Rattle.picky_sshpub.specs.declared.key.SshBasePublicKey.{SshBasePublicKey as BaseKey};
 ghost use Rattle.picky_sshpub.specs.declared.key.SshPublicKey.{SshPublicKey as Key};
 ghost use Rattle.picky_sshpub.specs.Key.{IsKey};
@@ -13,7 +14,7 @@ ghost use Rattle.picky_sshpub.specs.BlobRefusal.{read_blob};
 ghost use Rattle.picky_sshpub.specs.Line.{IsPublicLine, line_of};
 ghost use Rattle.picky_sshpub.specs.LineRefusal.{line_meaning, line_text};
 ghost use Rattle.picky_sshpub.specs.LineLaws.{IsKept};
-ghost use Rattle.picky_sshpub.specs.SourceLine.{line_in_front, after_line, source_meaning};
+ghost use Rattle.picky_sshpub.specs.SourceLine.{after_line, source_meaning};
 
 use crate::key::{SshBasePublicKey, SshPublicKey};
 
@@ -32,12 +33,13 @@ pub fn blob_is_read_where_it_is_spelled()
     ensures canonical { (key : BaseKey) → IsKey key → blob.piece key (blob_of key) }
 {}
 
-/// A line means a key exactly where it says it, and it says one.
+/// A line means a key exactly where it says it, and it says one. The comment of a text is UTF-8.
 #[tactic(auto, using(crate::proofs::LawLemmas::line_laws))]
 pub fn line_means_what_it_says()
     ensures says { (text : List ℕ) (key : Key) → IsBytes text → line_meaning text ≡ Ok key → IsPublicLine text key }
     ensures means { (text : List ℕ) (key : Key) → IsPublicLine text key → line_meaning text ≡ Ok key }
     ensures one { (text : List ℕ) (k l : Key) → IsPublicLine text k → IsPublicLine text l → k ≡ l }
+    ensures comment { (text : List ℕ) → IsUtf8 text → IsUtf8 (line_in_front (after_body text)) }
 {}
 
 /// A line that is written is read back: as a text, and from a source, where LF and what follows are left.
@@ -57,17 +59,17 @@ pub fn blob_is_written_canonically()
 
 /// So is a line, from a text and from a source, where LF and what follows are left.
 pub fn line_is_written_canonically()
-    ensures text { (text : List ℕ) (key : Key) (line more : List ℕ) → IsBytes text → IsUtf8 text
+    ensures text { (text : List ℕ) (key : Key) (line more : List ℕ) → IsBytes text
         → line_meaning text ≡ Ok key → line_text key ≡ Ok line → line_meaning (line ++ more) ≡ Ok key }
     ensures source { (bytes : List ℕ) (key : Key) (rest line more : List ℕ) → IsBytes bytes
         → source_meaning bytes ≡ Ok (key, rest) → line_text key ≡ Ok line
         → source_meaning (line ++ more) ≡ Ok (key, 10 ∷ more) }
 {}
 
-/// A line of UTF-8 in front of a source is answered as its text is.
+/// A source is answered as the line in front of it is.
 #[tactic(auto, using(crate::proofs::LawLemmas::line_laws))]
 pub fn source_is_answered_as_its_line()
-    ensures { (bytes : List ℕ) → IsUtf8 (line_in_front bytes) → length (line_in_front bytes) < 2 ^ 32
+    ensures { (bytes : List ℕ) → length (line_in_front bytes) < 2 ^ 32
         → source_meaning bytes ≡ and_then (line_meaning (line_in_front bytes)) (λ key. Ok (key, after_line bytes)) }
 {}
 

@@ -10,12 +10,11 @@ mod key;
 pub mod laws;
 mod line;
 mod read;
-mod size;
 mod source_line;
 #[cfg(test)]
 mod tests;
-mod words;
-mod write;
+mod view;
 
 pub use error::SshPublicKeyError;
 pub use key::{SshBasePublicKey, SshPublicKey};
+pub use view::PublicView;

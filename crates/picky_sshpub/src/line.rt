@@ -1,15 +1,14 @@
 //! A public key line (sshd(8)), read and written.
 
-ghost use Rattle.std.specs.Prelude.{◌≡◌, ◌^◌, ◌<◌, ◌≤◌, length, string_bytes, vec_len, IfOk, IfErr, OnOk, IsErrOf};
-ghost use Rattle.picky_layout.specs.Table.{find_entry};
-ghost use Rattle.picky_keys.specs.Names.{key_types};
-ghost use Rattle.picky_wire.specs.Count.{Rose};
+ghost use Rattle.std.specs.Prelude.{◌≡◌, ◌≢◌, ◌⊎◌, ◌^◌, ◌<◌, ◌≤◌, Err, IfErr, IfOk, length, not, string_bytes};
+ghost use Rattle.std.specs.Option.{option_copied};
 ghost use Rattle.picky_wire.specs.Gives.{Gives};
-ghost use Rattle.picky_wire.specs.Written.{Writes};
-ghost use Rattle.picky_sshpub.specs.FromWire.{no_memory};
+ghost use Rattle.picky_wire.specs.Puts.{Puts};
+ghost use Rattle.picky_wire.specs.declared.error.IoKind.TheVariants as io_kinds;
 ghost use Rattle.picky_sshpub.specs.Blob.{blob_of};
 ghost use Rattle.picky_sshpub.specs.Line.{line_of};
-ghost use Rattle.picky_sshpub.specs.LineRefusal.{blob_key, body_key, is_key_type, line_meaning, line_text, StopsLine, StopsReadingLine};
+ghost use Rattle.picky_sshpub.specs.LineRefusal.{body_key, is_key_type, is_short_text, line_meaning};
+ghost use Rattle.picky_sshpub.specs.LineRefusal.{line_text};
 
 use crate::blob_bytes::bytes_of;
 use crate::error::SshPublicKeyError;
@@ -17,11 +16,9 @@ use crate::key::{SshBasePublicKey, SshPublicKey};
 use base64::engine::general_purpose::STANDARD;
 use picky_keys::KeyKind;
 use picky_text::{Base64Error, after_word, decode, first_word, rest_of_line};
-use picky_wire::{
-    IoKind, NoMemory, Sink, SizeError, SliceSource, SshComplexTypeDecode, SshComplexTypeEncode,
-    Text, write_all,
-};
+use picky_wire::{NoMemory, Sink, Text, write_all};
 use std::alloc::{AllocError, Global};
+use std::str;
 
 /// How many bytes a length of the wire can't say.
 const TOO_MANY: usize = 1 << 32;
@@ -31,35 +28,16 @@ impl SshPublicKey {
     ///
     /// `name SP base64 [SP comment]`, and what follows the line is ignored. The blob decides the kind.
     /// Refuses, in order: `UnknownKeyType`, `TooLong`, `Base64DecodeError`, the blob's.
-    #[tactic(auto, unfolding(crate::specs::LineRefusal::line_meaning))]
     pub fn from_str(alloc: Global, text: &str) -> Result<SshPublicKey, SshPublicKeyError>
-        ensures { Gives no_memory (λ key. key) result (line_meaning text.now) }
+        ensures { Gives SshPublicKeyError.NoMemory (λ key. key) result (line_meaning text.now) }
     {
-        if !names_key_type(first_word(text)) {
-            return Err(SshPublicKeyError::UnknownKeyType);
-        }
-        let after = after_word(text);
-        let body = first_word(after);
-        let comment = rest_of_line(after_word(after));
-        if body.len() >= TOO_MANY {
-            return Err(SshPublicKeyError::TooLong);
-        }
-        if comment.len() >= TOO_MANY {
-            return Err(SshPublicKeyError::TooLong);
-        }
-        match key_of_body(alloc, body) {
-            Ok(inner_key) => match Text::new(alloc, comment) {
-                Ok(comment) => Ok(SshPublicKey { inner_key, comment }),
-                Err(_) => Err(SshPublicKeyError::NoMemory),
-            },
-            Err(e) => Err(e),
-        }
+        key_of_line(alloc, text.as_bytes())
     }
 
     /// The line, with CR LF. Refuses, in order: `TooLong`, where it has 2^32 bytes or more.
     #[tactic(auto, unfolding(crate::specs::LineRefusal::line_text))]
     pub fn to_string(&self, alloc: Global) -> Result<Text, SshPublicKeyError>
-        ensures { Gives no_memory (λ text. text) result (line_text self.now) }
+        ensures { Gives SshPublicKeyError.NoMemory (λ text. text) result (line_text self.now) }
     {
         match line_string(alloc, self) {
             Ok(line) => {
@@ -75,37 +53,77 @@ impl SshPublicKey {
     /// Writes the line. Refuses, in order: `TooLong`, as `to_string`, and `IoError(WriteFault)`.
     #[tactic(auto, unfolding(crate::specs::LineRefusal::line_text))]
     pub fn encode<S: Sink>(&self, alloc: Global, stream: &mut S) -> Result<(), SshPublicKeyError>
-        ensures written { S.tells stream.old → Writes result (line_of self.now) (S.written stream.old) (S.written stream.new) }
-        ensures short { OnOk result (length (line_of self.now) < 2 ^ 32) }
-        ensures cause { IfErr result (λ e. StopsLine e (length (line_of self.now)) (Rose (S.faults stream.old) (S.faults stream.new))) }
-        ensures unwritten { IsErrOf result SshPublicKeyError.TooLong → stream.new ≡ stream.old }
-        ensures untouched { IsErrOf result SshPublicKeyError.NoMemory → stream.new ≡ stream.old }
-        ensures told { S.tells stream.old → S.tells stream.new }
-        ensures never_falls { S.faults stream.old ≤ S.faults stream.new }
+        ensures puts { length (line_of self.now) < 2 ^ 32
+            → ((result ≡ Err SshPublicKeyError.NoMemory) × (stream.new ≡ stream.old))
+            ⊎ Puts S.tells S.written S.faults (SshPublicKeyError.IoError io_kinds.WriteFault) (line_of self.now)
+            result stream.old stream.new }
+        ensures too_long { 2 ^ 32 ≤ length (line_of self.now)
+            → ((result ≡ Err SshPublicKeyError.TooLong) ⊎ (result ≡ Err SshPublicKeyError.NoMemory))
+            × (stream.new ≡ stream.old) }
     {
         match self.to_string(alloc) {
             Ok(line) => match write_all(stream, line.as_str().as_bytes()) {
                 Ok(()) => Ok(()),
-                Err(_) => Err(SshPublicKeyError::IoError(IoKind::WriteFault)),
+                Err(e) => Err(SshPublicKeyError::from(e)),
             },
-            Err(SshPublicKeyError::TooLong) => Err(SshPublicKeyError::TooLong),
-            Err(_) => Err(SshPublicKeyError::NoMemory),
+            Err(e) => Err(e),
         }
     }
 }
 
+/// What a line means. Its bytes need not be UTF-8.
+#[tactic(auto, unfolding(crate::specs::LineRefusal::line_meaning))]
+pub fn key_of_line(alloc: Global, line: &[u8]) -> Result<SshPublicKey, SshPublicKeyError>
+    ensures gives { Gives SshPublicKeyError.NoMemory (λ key. key) result (line_meaning line.now) }
+    ensures no_fault { IfErr result (λ e. e ≢ SshPublicKeyError.IoError io_kinds.ReadFault) }
+{
+    if !names_key_type(first_word(line)) {
+        return Err(SshPublicKeyError::UnknownKeyType);
+    }
+    let after = after_word(line);
+    let body = first_word(after);
+    let comment = rest_of_line(after_word(after));
+    if body.len() >= TOO_MANY || is_too_long(comment) {
+        return Err(SshPublicKeyError::TooLong);
+    }
+    match key_of_body(alloc, body) {
+        Ok(inner_key) => match comment {
+            Some(comment) => match Text::new(alloc, comment) {
+                Ok(comment) => Ok(SshPublicKey { inner_key, comment }),
+                Err(_) => Err(SshPublicKeyError::NoMemory),
+            },
+            None => Err(SshPublicKeyError::InvalidUtf8),
+        },
+        Err(e) => Err(e),
+    }
+}
+
 /// Whether the word is the name of a key type.
-pub fn names_key_type(word: &str) -> bool
+#[tactic(auto, using(crate::proofs::LineLemmas::no_text_is_no_name))]
+fn names_key_type(word: &[u8]) -> bool
     ensures { result ≡ is_key_type word.now }
 {
-    KeyKind::of_name(word).is_some()
+    match str::from_utf8(word) {
+        Ok(word) => KeyKind::of_name(word).is_some(),
+        Err(_) => false,
+    }
+}
+
+/// Whether there is a text that a length of the wire can't say.
+fn is_too_long(text: Option<&str>) -> bool
+    ensures { result ≡ not (is_short_text (option_copied text.entry)) }
+{
+    match text {
+        Some(text) => text.len() >= TOO_MANY,
+        None => false,
+    }
 }
 
 /// The key of a body.
 #[tactic(auto, unfolding(crate::specs::LineRefusal::body_key))]
-pub fn key_of_body(alloc: Global, body: &str) -> Result<SshBasePublicKey, SshPublicKeyError>
-    ensures gives { Gives no_memory (λ key. key) result (body_key body.now) }
-    ensures cause { IfErr result (λ e. StopsReadingLine e ⊥) }
+fn key_of_body(alloc: Global, body: &[u8]) -> Result<SshBasePublicKey, SshPublicKeyError>
+    ensures gives { Gives SshPublicKeyError.NoMemory (λ key. key) result (body_key body.now) }
+    ensures no_fault { IfErr result (λ e. e ≢ SshPublicKeyError.IoError io_kinds.ReadFault) }
 {
     match decode(alloc, body) {
         Ok(blob) => SshBasePublicKey::from_blob(alloc, blob.as_slice()),

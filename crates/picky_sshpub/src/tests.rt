@@ -1,10 +1,10 @@
 //! Lines of `ssh-keygen`, refusals one by one, and sources and sinks that fail.
 
-use crate::{SshBasePublicKey, SshPublicKey, SshPublicKeyError};
+use crate::{PublicView, SshBasePublicKey, SshPublicKey, SshPublicKeyError};
 use picky_text::encode;
 use picky_wire::{
-    IoKind, List, MemorySink, MemorySource, SliceSource, SshComplexTypeDecode,
-    SshComplexTypeEncode, Text, TryClone, decode_list, encode_list,
+    IoKind, List, MemorySink, MemorySource, Part, SliceSource, SshComplexTypeDecode,
+    SshComplexTypeEncode, Stuck, Text, TryClone, decode_list, encode_list,
 };
 use std::alloc::Global;
 use std::test::Fail;
@@ -473,5 +473,51 @@ fn makes_lists_of_keys(rt: HostRuntime) -> Result<(), Fail> {
     for row in &KEY_ROWS {
         assert!(rt; lists(rt.alloc(), row)?, "{}", row.name);
     }
+    Ok(())
+}
+
+// ssh-keygen -q -t ed25519 -N '' -C k -f key; cat key.pub
+const LINE: &str =
+    "ssh-ed25519 AAAAC3NzaC1lZDI1NTE5AAAAIPaSiDKIdwa2ceSmAajZPTAKx5U9jncB9LlE67abXQ2F k";
+
+// cut -d' ' -f2 key.pub | base64 -d | od -An -v -tu1
+const BLOB: [u8; 51] = [
+    0, 0, 0, 11, 115, 115, 104, 45, 101, 100, 50, 53, 53, 49, 57, 0, 0, 0, 32, 246, 146, 136, 50,
+    136, 119, 6, 182, 113, 228, 166, 1, 168, 217, 61, 48, 10, 199, 149, 61, 142, 119, 1, 244, 185,
+    68, 235, 182, 155, 93, 13, 133,
+];
+
+#[test]
+fn reads_and_writes_the_blob_of_a_line(rt: HostRuntime) -> Result<(), Fail> {
+    let key = SshPublicKey::from_str(rt.alloc(), LINE)?.inner_key;
+    assert_eq!(rt; key.to_blob(rt.alloc())?.as_slice(), BLOB.as_slice());
+    assert!(rt; SshBasePublicKey::from_blob(rt.alloc(), &BLOB)? == key);
+    let cut = SshBasePublicKey::from_blob(rt.alloc(), &BLOB[..50]);
+    assert!(rt; cut == Err(SshPublicKeyError::IoError(IoKind::UnexpectedEnd)));
+    Ok(())
+}
+
+// printf 'AAAAC3NzaC1lZDI1NTE5AAAAI%043d' 0 | tr 0 A | base64 -d, and one byte more.
+const ZEROS: &[u8; 52] =
+    b"\0\0\0\x0bssh-ed25519\0\0\0 \0\0\0\0\0\0\0\0\0\0\0\0\0\0\0\0\0\0\0\0\0\0\0\0\0\0\0\0\0\0\0\0\x07";
+
+/// A copy of the key that the bytes begin with.
+fn copied(alloc: Global, blob: &[u8; 52]) -> Option<SshBasePublicKey> {
+    match PublicView::read(blob) {
+        Ok((view, _)) => view.to_key(alloc).ok(),
+        Err(_) => None,
+    }
+}
+
+#[test]
+fn sees_the_parts_of_a_blob_at_their_places(rt: HostRuntime) -> Result<(), Fail> {
+    let key = Part {
+        at: 19,
+        bytes: &[0; 32],
+    };
+    assert!(rt; PublicView::read(ZEROS) == Ok((PublicView::Ed { key }, 51)));
+    assert!(rt; PublicView::read(&ZEROS[..50]) == Err(Stuck::Short));
+    let copy = copied(rt.alloc(), ZEROS);
+    assert!(rt; copy == Some(SshBasePublicKey::Ed { key: [0; 32] }));
     Ok(())
 }

@@ -1,7 +1,6 @@
-pub mod WordLemmas
+pub mod SearchLemmas
 pub mod FrontLemmas
 pub mod QuoteLemmas
 pub mod RowLemmas
 pub mod UnquoteLemmas
 pub mod LineLemmas
-pub mod SearchLemmas

@@ -12,7 +12,7 @@ use Rattle.std.specs.declared.option.Option.TheVariants.{None, Some}
 use Rattle.picky_text.specs.ListLaws.{none_before_first}
 use Rattle.picky_text.specs.Quote.{is_special, quote}
 use Rattle.picky_text.specs.QuoteLaws.{quote_at_special}
-use Rattle.picky_text.proofs.WordLemmas.{boundary_at_first, all_before_first}
+use Rattle.picky_text.proofs.SearchLemmas.{boundary_at_first, all_before_first}
 
 -- a backslash or a quote is ASCII
 pub is_special_ascii : (b : ℕ) → is_special b ≡ true → b < 128

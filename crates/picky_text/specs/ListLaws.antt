@@ -67,3 +67,14 @@ cut_at_first ends (c ∷ front) b rest none passes =
       after = rw (none.0, next, past) more.after;
       at = rw (none.0, next) more.at;
     }
+
+-- a list in which none passes is not cut
+pub uncut : (ends : ℕ → Bool) (line : List ℕ) → AllByRecursion (λ b. ends b ≡ false) line
+    → (before_first ends line ≡ line) × (after_first ends line ≡ [])
+uncut ends [] none = (refl, refl)
+uncut ends (b ∷ line) none =
+    let n : ℕ = position_or_len ends line in
+    let more = uncut ends line none.1 in
+    let next : 1 + n ≡ suc n = omega arith in
+    let past : suc n + 1 ≡ suc (n + 1) = omega arith in
+    (rw (none.0, next) (ap (λ l. b ∷ l) more.0), rw (none.0, next, past) more.1)

@@ -1,24 +1,26 @@
 -- The laws of a key line's words.
 use Rattle.std.proofs.Common.{◌≡◌, ◌≢◌, ℕ, ◌<◌, ◌+◌, ◌==◌, ◌&&◌, Bool, true, false, not, List, []}
 use Rattle.std.proofs.Common.{◌∷◌, ◌++◌, length, slice_index, refl, sym, ◌∙◌, ap, arith, inl, inr}
-use Rattle.std.proofs.Common.{subst}
+use Rattle.std.proofs.Common.{subst, ◌≤◌, Some, None}
 use Rattle.std.proofs.lemmas.Bool.{cases_Bool, cases_lt, and_parts, and_from, eqb-true, eq-eqb}
 use Rattle.std.proofs.lemmas.Bool.Decides.{nat_tests}
 use Rattle.std.proofs.lemmas.List.{append_assoc, get_or_past}
+use Rattle.std.proofs.lemmas.List.{length-append, length-drop, length-take}
 use Rattle.std.proofs.lemmas.List.Sums.{prefix_len-le-length, passes_at_first}
 use Rattle.std.proofs.lemmas.Str.{encodes-append, encodes-chars, scalars-chars, chars-encodes}
 use Rattle.std.proofs.lemmas.Str.{IsUtf8-nil, IsUtf8-take, IsUtf8-drop, IsCharBoundary-before_ascii}
 use Rattle.std.proofs.lemmas.Str.{IsCharBoundary-after_ascii, IsCharBoundary-end}
+use Rattle.std.proofs.lemmas.Str.{is_utf8-from_IsUtf8, IsUtf8-from_is_utf8}
 use Rattle.std.specs.Char.{is_whitespace}
-use Rattle.std.specs.List.{AllByRecursion, before_first, position_or_len}
+use Rattle.std.specs.List.{AllByRecursion, position_or_len}
 use Rattle.std.specs.Str.{IsUtf8, IsCharBoundary, chars, trim_end, drop_trailing_whitespace}
-use Rattle.std.specs.Str.{encode_utf8_all, all_scalars}
+use Rattle.std.specs.Str.{is_utf8, encode_utf8_all, all_scalars}
 use Rattle.picky_text.specs.Words.{ends_word, ends_line, first_word, after_word, body_word}
-use Rattle.picky_text.specs.Words.{rest_of_line, comment_of}
+use Rattle.picky_text.specs.Words.{line_in_front, rest_of_line, rest_text, after_body, comment_of}
 use Rattle.base64.specs.GeneralPurpose.{IsBytes}
 use Rattle.picky_text.specs.Base64.{base64_of}
 use Rattle.picky_text.specs.Base64Laws.{base64_has_no}
-use Rattle.picky_text.specs.ListLaws.{all_front, all_weaker, none_before_first, cut_at_first}
+use Rattle.picky_text.specs.ListLaws.{all_front, all_weaker, none_before_first, cut_at_first, uncut}
 use Rattle.picky_text.specs.Lines.{HasNo, end_of}
 use Rattle.picky_text.specs.declared.lines.LineEnd.{LineEnd}
 use Rattle.picky_text.specs.declared.lines.LineEnd.TheVariants.{Lf, CrLf}
@@ -115,7 +117,7 @@ stays_word [] word = tt
 stays_word (b ∷ bytes) word =
     (goes_on b word.0.0 word.1.0 word.2.0, stays_word bytes (word.0.1, word.1.1, word.2.1))
 
-stays_line : (bytes : List ℕ) → HasNo 13 bytes → HasNo 10 bytes
+pub stays_line : (bytes : List ℕ) → HasNo 13 bytes → HasNo 10 bytes
     → AllByRecursion (λ b. ends_line b ≡ false) bytes
 stays_line [] cr lf = tt
 stays_line (b ∷ bytes) cr lf = (line_goes_on b cr.0 lf.0, stays_line bytes cr.1 lf.1)
@@ -165,40 +167,102 @@ after_word_is_text text utf8 =
       | inr other ↦ rw other IsUtf8-nil
     ]
 
-IsUtf8-first_line : (text : List ℕ) → IsUtf8 text → IsUtf8 (before_first ends_line text)
-IsUtf8-first_line text utf8 = IsUtf8-take text _ utf8
+-- the line in front of a text is a text
+pub line_is_text : (text : List ℕ) → IsUtf8 text → IsUtf8 (line_in_front text)
+line_is_text text utf8 = IsUtf8-take text _ utf8
     (boundary_of_first ends_line text ends_line_ascii)
 
--- and the rest of its line
-pub rest_of_line_is_text : (text : List ℕ) → IsUtf8 text → IsUtf8 (rest_of_line text)
+-- so is what stands in it after the second word
+pub comment_is_text : (text : List ℕ) → IsUtf8 text → IsUtf8 (line_in_front (after_body text))
+comment_is_text text utf8 =
+    let body = after_word_is_text text utf8 in
+    line_is_text (after_body text) (after_word_is_text (after_word text) body)
+
+-- the rest of a line of UTF-8 is a text
+pub rest_of_line_is_text : (text : List ℕ) → IsUtf8 (line_in_front text)
+    → IsUtf8 (rest_of_line text)
 unfolding rest_of_line
-rest_of_line_is_text text utf8 = IsUtf8-trim_end _ (IsUtf8-first_line text utf8)
+rest_of_line_is_text text utf8 = IsUtf8-trim_end _ utf8
 
 -- ---- the rest of a line
 
+-- where the line is UTF-8, its rest is a text
+pub rest_text_is : (text : List ℕ) → IsUtf8 (line_in_front text)
+    → rest_text text ≡ Some (rest_of_line text)
+unfolding rest_text
+rest_text_is text utf8 = rw (is_utf8-from_IsUtf8 _ utf8) refl
+
+-- and of another line there is none
+pub rest_text_none : (text : List ℕ) → (IsUtf8 (line_in_front text) → ⊥) → rest_text text ≡ None
+unfolding rest_text
+rest_text_none text other = elim (cases_Bool (is_utf8 (line_in_front text))) [
+  | inl is ↦ absurd (other (IsUtf8-from_is_utf8 _ is))
+  | inr not ↦ rw not refl
+]
+
+pub ruleset rest_texts = (rest_text_is, rest_text_none)
+
+-- so where there is one, the line is UTF-8
+pub rest_text_says : (text rest : List ℕ) → rest_text text ≡ Some rest
+    → IsUtf8 (line_in_front text) × (rest_of_line text ≡ rest)
+unfolding rest_text
+rest_text_says text rest says = elim (cases_Bool (is_utf8 (line_in_front text))) [
+  | inl is ↦
+      let same : Some (rest_of_line text) ≡ Some rest = rw is at says in
+      (IsUtf8-from_is_utf8 _ is, cc same)
+  | inr not ↦ let none : None ≡ Some rest = rw not at says in cc none
+]
+
 -- no byte of the rest of a line ends a line
-rest_stays : (text : List ℕ) → IsUtf8 text
+rest_stays : (text : List ℕ) → IsUtf8 (line_in_front text)
     → AllByRecursion (λ b. ends_line b ≡ false) (rest_of_line text)
 unfolding rest_of_line
 rest_stays text utf8 =
-    let front = trim_end_front (before_first ends_line text) (IsUtf8-first_line text utf8) in
+    let front = trim_end_front (line_in_front text) utf8 in
     let P : ℕ → Type 0 = λ b. ends_line b ≡ false in
     let Q : List ℕ → Type 0 = AllByRecursion P in
     all_front P _ front.0 (subst Q (sym front.1) (none_before_first ends_line text))
 
 -- the rest of a line has no LF
-pub rest_has_no_lf : (text : List ℕ) → IsUtf8 text → HasNo 10 (rest_of_line text)
+pub rest_has_no_lf : (text : List ℕ) → IsUtf8 (line_in_front text) → HasNo 10 (rest_of_line text)
 rest_has_no_lf text utf8 = all_weaker _ (λ b. b ≢ 10) no_lf _ (rest_stays text utf8)
 
 -- the rest of a line has no CR
-pub rest_has_no_cr : (text : List ℕ) → IsUtf8 text → HasNo 13 (rest_of_line text)
+pub rest_has_no_cr : (text : List ℕ) → IsUtf8 (line_in_front text) → HasNo 13 (rest_of_line text)
 rest_has_no_cr text utf8 = all_weaker _ (λ b. b ≢ 13) no_cr _ (rest_stays text utf8)
 
 -- the rest of a line ends in no white space
-pub rest_is_trimmed : (text : List ℕ) → IsUtf8 text
+pub rest_is_trimmed : (text : List ℕ) → IsUtf8 (line_in_front text)
     → trim_end (rest_of_line text) ≡ rest_of_line text
 unfolding rest_of_line
-rest_is_trimmed text utf8 = trim_end-trim_end _ (IsUtf8-first_line text utf8)
+rest_is_trimmed text utf8 = trim_end-trim_end _ utf8
+
+-- ---- parts are no longer than the whole
+
+pub word_len : (text : List ℕ) → length (first_word text) ≤ length text
+unfolding first_word
+word_len text = omega (arith, length-take (position_or_len ends_word text) text)
+
+pub after_len : (text : List ℕ) → length (after_word text) ≤ length text
+unfolding after_word
+after_len text = elim (cases_Bool (slice_index text (position_or_len ends_word text) == 32)) [
+  | inl space ↦ rw space (omega (arith, length-drop (position_or_len ends_word text + 1) text))
+  | inr other ↦ rw other (omega arith)
+]
+
+pub comment_len : (text : List ℕ) → IsUtf8 text → length (comment_of text) ≤ length text
+unfolding rest_of_line
+comment_len text utf8 =
+    let rest : List ℕ = after_body text in
+    let front = trim_end_front (line_in_front rest) (comment_is_text text utf8) in
+    omega (
+      arith,
+      ap length front.1,
+      length-append (trim_end (line_in_front rest)) front.0,
+      length-take (position_or_len ends_line rest) rest,
+      after_len (after_word text),
+      after_len text,
+    )
 
 -- ---- a line of three parts
 
@@ -210,17 +274,17 @@ words_at_space word rest is =
     let parts = cut_at_first ends_word word 32 rest (stays_word word is) refl in
     (parts.before, rw (eq-eqb _ _ parts.at) parts.after)
 
--- the rest of a line that ends in LF or CRLF
-pub rest_at_end : (comment more : List ℕ) (end : LineEnd) → HasNo 13 comment → HasNo 10 comment
-    → trim_end comment ≡ comment
-    → rest_of_line (comment ++ (end_of end ++ more)) ≡ comment
-unfolding rest_of_line
-rest_at_end comment more Lf cr lf trimmed =
-    ap trim_end (cut_at_first ends_line comment 10 more (stays_line comment cr lf) refl).before
-    ∙ trimmed
-rest_at_end comment more CrLf cr lf trimmed =
-    ap trim_end (cut_at_first ends_line comment 13 (10 ∷ more) (stays_line comment cr lf)
-    refl).before ∙ trimmed
+-- a line that ends in LF or CRLF
+line_at_end : (line more : List ℕ) (end : LineEnd) → HasNo 13 line → HasNo 10 line
+    → line_in_front (line ++ (end_of end ++ more)) ≡ line
+line_at_end line more Lf cr lf =
+    (cut_at_first ends_line line 10 more (stays_line line cr lf) refl).before
+line_at_end line more CrLf cr lf =
+    (cut_at_first ends_line line 13 (10 ∷ more) (stays_line line cr lf) refl).before
+
+-- or with the text
+line_alone : (line : List ℕ) → HasNo 13 line → HasNo 10 line → line_in_front line ≡ line
+line_alone line cr lf = (uncut ends_line line (stays_line line cr lf)).0
 
 -- what a key line is made of: two words, and a comment with no CR, LF and white space at its end
 pub record AreParts (name body comment : List ℕ) : Type 0 where
@@ -234,6 +298,7 @@ pub record AreParts (name body comment : List ℕ) : Type 0 where
 pub record HasParts (line name body comment : List ℕ) : Type 0 where
   pub name_is : first_word line ≡ name
   pub body_is : body_word line ≡ body
+  pub line_is : line_in_front (after_body line) ≡ comment
   pub comment_is : comment_of line ≡ comment
 
 -- the line of these parts, a space between them, is read as them, whatever ends and follows it
@@ -242,22 +307,37 @@ IsRead name body comment =
     (end : LineEnd) (more : List ℕ)
     → HasParts (name ++ 32 ∷ body ++ 32 ∷ comment ++ (end_of end ++ more)) name body comment
 
+-- a line of such parts has them, whatever ends it
+parts_before : (name body comment rest : List ℕ) → AreParts name body comment
+    → line_in_front rest ≡ comment
+    → HasParts (name ++ 32 ∷ body ++ 32 ∷ rest) name body comment
+unfolding rest_of_line
+parts_before name body comment rest parts is =
+    let first = words_at_space name (body ++ 32 ∷ rest) parts.name_word in
+    let second = words_at_space body rest parts.body_word in
+    let whole = append_assoc name (32 ∷ body) (32 ∷ rest) in
+    let line = ap line_in_front (ap after_word first.1 ∙ second.1) ∙ is in
+    rw whole (record {
+      name_is = first.0;
+      body_is = ap first_word first.1 ∙ second.0;
+      line_is = line;
+      comment_is = ap trim_end line ∙ parts.trimmed;
+    })
+
 -- each line of such parts is read back
 pub key_line_is_read_back : (name body comment : List ℕ) → AreParts name body comment
     → IsRead name body comment
 key_line_is_read_back name body comment parts end more =
-    let rest : List ℕ = comment ++ (end_of end ++ more) in
-    let first = words_at_space name (body ++ 32 ∷ rest) parts.name_word in
-    let second = words_at_space body rest parts.body_word in
-    let last = rest_at_end comment more end parts.no_cr parts.no_lf parts.trimmed in
-    let line :
-    name ++ 32 ∷ body ++ 32 ∷ comment ++ (end_of end ++ more) ≡ name ++ 32 ∷ (body ++ 32 ∷ rest) =
-    simp append_assoc in
-    rw line (record {
-      name_is = first.0;
-      body_is = ap first_word first.1 ∙ second.0;
-      comment_is = ap rest_of_line (ap after_word first.1 ∙ second.1) ∙ last;
-    })
+    let rest : List ℕ = end_of end ++ more in
+    let is = line_at_end comment more end parts.no_cr parts.no_lf in
+    let whole = append_assoc (name ++ 32 ∷ body) (32 ∷ comment) rest in
+    rw whole (parts_before name body comment (comment ++ rest) parts is)
+
+-- and so is one that nothing ends
+pub key_line_alone : (name body comment : List ℕ) → AreParts name body comment
+    → HasParts (name ++ 32 ∷ body ++ 32 ∷ comment) name body comment
+key_line_alone name body comment parts =
+    parts_before name body comment comment parts (line_alone comment parts.no_cr parts.no_lf)
 
 -- a base64 text may stand as a word
 pub base64_is_word : (bytes : List ℕ) → IsBytes bytes → IsWord (base64_of bytes)
@@ -276,5 +356,6 @@ pub ruleset word_laws = (
   rest_is_trimmed,
   first_word_is_text,
   after_word_is_text,
+  line_is_text,
   rest_of_line_is_text,
 )

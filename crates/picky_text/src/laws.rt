@@ -11,7 +11,7 @@ ghost use Rattle.picky_text.specs.LineLaws.{AreLines, AreReadFirst};
 ghost use Rattle.picky_text.specs.Quote.{quote, unquote};
 ghost use Rattle.picky_text.specs.Rows.{IsRowsOf, rows_of};
 ghost use Rattle.picky_text.specs.declared.lines.LineEnd.{LineEnd as End};
-ghost use Rattle.picky_text.specs.Words.{first_word, after_word, rest_of_line};
+ghost use Rattle.picky_text.specs.Words.{first_word, after_word, line_in_front, rest_of_line};
 ghost use Rattle.picky_text.specs.WordLaws.{AreParts, IsRead, IsWord};
 
 /// Bytes are read back from their base64 text.
@@ -47,12 +47,13 @@ pub fn base64_is_a_word()
     ensures { (x : List ℕ) → IsBytes x → IsWord (base64_of x) }
 {}
 
-/// The rest of a line of text has no LF and no CR, and no white space is left at its end.
+/// The rest of a line of UTF-8 has no LF and no CR, and no white space is left at its end.
 #[tactic(auto, using(crate::specs::WordLaws::word_laws))]
 pub fn rest_of_line_is_one_line()
-    ensures no_lf { (text : List ℕ) → IsUtf8 text → HasNo 10 (rest_of_line text) }
-    ensures no_cr { (text : List ℕ) → IsUtf8 text → HasNo 13 (rest_of_line text) }
-    ensures trimmed { (t : List ℕ) → IsUtf8 t → trim_end (rest_of_line t) ≡ rest_of_line t }
+    ensures no_lf { (t : List ℕ) → IsUtf8 (line_in_front t) → HasNo 10 (rest_of_line t) }
+    ensures no_cr { (t : List ℕ) → IsUtf8 (line_in_front t) → HasNo 13 (rest_of_line t) }
+    ensures trimmed { (t : List ℕ) → IsUtf8 (line_in_front t)
+        → trim_end (rest_of_line t) ≡ rest_of_line t }
 {}
 
 /// Each part of a text is a text.
@@ -60,7 +61,8 @@ pub fn rest_of_line_is_one_line()
 pub fn words_are_text()
     ensures first { (text : List ℕ) → IsUtf8 text → IsUtf8 (first_word text) }
     ensures after { (text : List ℕ) → IsUtf8 text → IsUtf8 (after_word text) }
-    ensures rest { (text : List ℕ) → IsUtf8 text → IsUtf8 (rest_of_line text) }
+    ensures line { (text : List ℕ) → IsUtf8 text → IsUtf8 (line_in_front text) }
+    ensures rest { (text : List ℕ) → IsUtf8 (line_in_front text) → IsUtf8 (rest_of_line text) }
 {}
 
 /// A line of a name, a body and a comment, with a space between them, is read as these three.

@@ -19,7 +19,7 @@ fn agrees_with_the_vectors_of_rfc_4648(rt: HostRuntime) -> Result<(), Fail> {
     for (plain, body) in vectors {
         let text = encode(rt.alloc(), plain.as_bytes())?;
         assert_eq!(rt; text.as_str(), body, "the text of {plain}");
-        let bytes = decode(rt.alloc(), body)?;
+        let bytes = decode(rt.alloc(), body.as_bytes())?;
         assert_eq!(rt; bytes.as_slice(), plain.as_bytes(), "the bytes of {plain}");
     }
     Ok(())
@@ -29,7 +29,7 @@ fn agrees_with_the_vectors_of_rfc_4648(rt: HostRuntime) -> Result<(), Fail> {
 #[test]
 fn refuses_what_is_not_canonical(rt: HostRuntime) {
     for body in ["Zg", "Zg==\n", "Zh=="] {
-        match decode(rt.alloc(), body) {
+        match decode(rt.alloc(), body.as_bytes()) {
             Ok(_) => assert!(rt; false, "{body} was read"),
             Err(why) => assert_eq!(rt; why, Base64Error::NotBase64, "{body}"),
         }
@@ -67,11 +67,11 @@ fn breaks_base64_as_coreutils_does(rt: HostRuntime) -> Result<(), Fail> {
 // 'ssh-ed25519 AAAAC3Nz my key \t\r\n'.split(' ', 2) of Python, the last part by its rstrip
 #[test]
 fn reads_the_words_of_a_line(rt: HostRuntime) {
-    let line = "ssh-ed25519 AAAAC3Nz my key \t\r\nssh-rsa";
-    assert_eq!(rt; first_word(line), "ssh-ed25519");
+    let line = b"ssh-ed25519 AAAAC3Nz my key \t\r\nssh-rsa";
+    assert_eq!(rt; first_word(line), b"ssh-ed25519".as_slice());
     let body = after_word(line);
-    assert_eq!(rt; first_word(body), "AAAAC3Nz");
-    assert_eq!(rt; rest_of_line(after_word(body)), "my key");
+    assert_eq!(rt; first_word(body), b"AAAAC3Nz".as_slice());
+    assert_eq!(rt; rest_of_line(after_word(body)), Some("my key"));
 }
 
 // ssh-keygen -t ed25519 -C 'a "b" c:\d', then the comment that puttygen -p shows of the key

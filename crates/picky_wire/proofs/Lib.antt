@@ -1,6 +1,12 @@
 pub mod MemoryLemmas
-pub mod FieldLemmas
 pub mod ReadLemmas
+pub mod CellsLemmas
+pub mod CauseLemmas
+mod UnreadLemmas
+pub mod TextLemmas
+pub mod StopLemmas
 mod MpintLemmas
+pub mod ViewLemmas
 pub mod WriteLemmas
+pub mod ThenLemmas
 pub mod ListLemmas

@@ -1,16 +1,27 @@
 -- Lemmas on lists of elements: their spellings joined, and their values read one after another.
-use Rattle.std.proofs.Common.{◌≡◌, ℕ, ◌+◌, ◌≤◌, ◌<◌, ◌^◌, List, [], ◌∷◌, ◌++◌, length, take, drop, get_or, min, sym, ap, ◌∙◌, arith, refl, add-one, Result, Ok, Err}
-use Rattle.std.proofs.Math.Seq.{drop-cons}
-use Rattle.std.proofs.lemmas.List.{take-append-drop}
+use Rattle.std.proofs.Common.{◌≡◌, ◌≢◌, ◌⊎◌, inl, inr, ℕ, ◌+◌, ◌≤◌, ◌<◌, ◌^◌, List, [], ◌∷◌, ◌++◌, length, take, drop, get_or, min, sym, ap, ◌∙◌, arith, refl, add-one, Result, Ok, Err}
+use Rattle.std.proofs.Math.Seq.{drop-cons, take-suc}
+use Rattle.std.proofs.lemmas.List.{take-append-drop, append-nil, append_assoc, length-append}
 use Rattle.std.proofs.lemmas.Grind.{flat_map-append}
 use Rattle.std.proofs.lemmas.List.Concat.{flat_map-cons}
 use Rattle.std.proofs.lemmas.List.Folds.{length-flat_map-take}
-use Rattle.std.specs.List.{All, flat_map}
-use Rattle.std.specs.Prelude.{OnErr}
+use Rattle.std.specs.List.{All, concat, flat_map}
+use Rattle.std.specs.Prelude.{Option, Some, None, IfErr, MatchOption}
 use Rattle.picky_layout.specs.Grammar.{Grammar}
-use Rattle.picky_layout.specs.Row.{Solid, Row, row_spells}
-use Rattle.picky_layout.specs.Steps.{following, taking_more, taking_ends, taking_refused}
-use Rattle.picky_wire.specs.ListOf.{items_of, items_of-read_all}
+use Rattle.picky_layout.specs.Row.{Row, row_spells, read_all}
+use Rattle.picky_layout.specs.Steps.{following, taking_refused}
+use Rattle.picky_layout.specs.Outcome.{map_err, map_err_ok}
+use Rattle.picky_layout.specs.Many.{read_many}
+use Rattle.picky_layout.specs.Strings.{string_reads_back}
+use Rattle.picky_layout.specs.Wire.{string, string_of}
+use Rattle.picky_wire.specs.declared.error.WireError.{WireError}
+use Rattle.picky_wire.specs.declared.error.WireError.TheVariants as errors
+use Rattle.picky_wire.specs.Count.{Rose}
+use Rattle.picky_wire.specs.Flaws.{TakesField, wire_error}
+use Rattle.picky_wire.specs.Gives.{Gives}
+use Rattle.picky_wire.specs.Puts.{Puts}
+use Rattle.picky_wire.specs.Takes.{Takes, HasCause, causes_of}
+use Rattle.picky_wire.proofs.ThenLemmas.{judged_takes, judged_cause}
 use Rattle.picky_wire.proofs.WriteLemmas.{front_of_both, writes_second}
 
 -- ---- spellings joined
@@ -47,46 +58,105 @@ pub spellings_too_long : {X : Type 0} (f : X → List ℕ) (xs : List X) (i : �
 spellings_too_long f xs i x len next within is so_far more long =
     omega (arith, length-flat_map-take f xs i x within, ap (λ y. length (f y)) is)
 
+-- a write that stopped in the next spelling, of a list that is written item by item
+pub list_stopped : {S X A E : Type 0} (tells : S → Type 0) (written : S → List ℕ) (faults : S → ℕ) (fault : E)
+    (f : X → List ℕ) (xs : List X) (i : ℕ) (x : X) (e : E) (old mid new : S) → i < length xs
+    → x ≡ get_or xs i x → (tells old → written mid ≡ written old ++ flat_map f (take i xs))
+    → (tells old → tells mid) → faults mid ≡ faults old
+    → Puts {A = A} tells written faults fault (f x) (Err e) mid new
+    → Puts {A = A} tells written faults fault (flat_map f xs) (Err e) old new
+list_stopped tells written faults fault f xs i x e old mid new within is so_far told calm stopped = record {
+  writes = λ t.
+      let front = stopped.writes (told t) in
+      spelling_stopped f xs i x front.0 (written old) (written mid) (written new) within is (so_far t) front.1;
+  cause = (stopped.cause.0, omega (arith, stopped.cause.1, calm));
+  calm = tt;
+  told = λ t. stopped.told (told t);
+  never_falls = omega (arith, stopped.never_falls, calm);
+}
+
+-- what an item that is written promises
+pub puts_taken : {E : Type 0} (reason : Option E) (P : Type 0) (Q : E → Type 0) → reason ≡ None
+    → MatchOption reason P Q → P
+puts_taken None P Q is holds = holds
+puts_taken (Some e) P Q is holds = cc is
+
+-- the pieces of a table, joined
+pub pieces_joined : (xs : List (List ℕ)) → concat xs ≡ flat_map (λ x. x) xs
+pieces_joined [] = refl
+pieces_joined (x ∷ xs) = ap (λ r. x ++ r) (pieces_joined xs)
+
+next_piece : (xs : List (List ℕ)) (i : ℕ) (x : List ℕ) → i < length xs → x ≡ get_or xs i x
+    → concat (take (i + 1) xs) ≡ concat (take i xs) ++ x
+next_piece xs i x within is =
+    pieces_joined (take (i + 1) xs)
+    ∙ ap (flat_map (λ y. y)) (ap (λ k. take k xs) (add-one i) ∙ take-suc xs i x within ∙ ap (λ y. take i xs ++ y ∷ []) (sym is))
+    ∙ flat_map-append (λ y. y) (take i xs) (x ∷ [])
+    ∙ ap (λ r. flat_map (λ y. y) (take i xs) ++ r) (append-nil x)
+    ∙ ap (λ r. r ++ x) (sym (pieces_joined (take i xs)))
+
+-- one more piece
+pub one_more_piece : (xs : List (List ℕ)) (i : ℕ) (x before : List ℕ) → i < length xs → x ≡ get_or xs i x
+    → (before ++ concat (take i xs)) ++ x ≡ before ++ concat (take (i + 1) xs)
+one_more_piece xs i x before within is =
+    append_assoc before (concat (take i xs)) x ∙ ap (λ r. before ++ r) (sym (next_piece xs i x within is))
+
+pub one_more_len : (xs : List (List ℕ)) (i : ℕ) (x : List ℕ) → i < length xs → x ≡ get_or xs i x
+    → length (concat (take (i + 1) xs)) ≡ length (concat (take i xs)) + length x
+one_more_len xs i x within is = ap length (next_piece xs i x within is) ∙ length-append (concat (take i xs)) x
+
 -- ---- values read one after another
 
--- one more value is read
-pub items_more : {E A : Type 0} (G : Grammar E A) → Solid G.piece
-    → (taken now : List A) (bytes : List ℕ) (v : A)
-    (rest : List ℕ) → 0 < length bytes → G.read bytes ≡ Ok (v, rest) → now ≡ taken ++ v ∷ []
-    → following now (items_of G.read rest) ≡ following taken (items_of G.read bytes)
-items_more G solid taken now bytes v rest some is next =
-    ap (λ t. following t (items_of G.read rest)) next
-    ∙ ap (following (taken ++ v ∷ [])) (items_of-read_all G G.read (λ b. refl) rest)
-    ∙ sym (taking_more G solid taken bytes v rest some is)
-    ∙ sym (ap (following taken) (items_of-read_all G G.read (λ b. refl) bytes))
+-- where the next value of a block is refused, so is the block; a slice doesn't fail
+pub refused_or_want : {E A : Type 0} (G : Grammar E A) (reads : List ℕ → Result (A × List ℕ) E)
+    → ((bytes : List ℕ) → reads bytes ≡ G.read bytes) → (of : WireError → E)
+    → ((bytes : List ℕ) (e : E) → reads bytes ≡ Err e → (e ≢ of errors.ReadFault) × (e ≢ of errors.NoMemory))
+    → (taken : List A) (rest block : List ℕ) (e : E) → 0 < length rest
+    → following taken (read_all G rest) ≡ read_all G block
+    → HasCause (causes_of of) reads (Rose 0 0) e
+    → (e ≢ of errors.ReadFault → e ≢ of errors.NoMemory → reads rest ≡ Err e)
+    → (e ≡ of errors.NoMemory) ⊎ (read_all G block ≡ Err e)
+refused_or_want G reads same of own taken rest block e some so_far (inl counted) answers = absurd (omega (arith, counted.1))
+refused_or_want G reads same of own taken rest block e some so_far (inr (inl want)) answers = inl want
+refused_or_want G reads same of own taken rest block e some so_far (inr (inr (bytes, refused))) answers =
+    let kept = own bytes e refused in
+    inr (sym so_far ∙ taking_refused G taken rest e some (sym (same rest) ∙ answers kept.0 kept.1))
 
-none_taken : {E A : Type 0} (r : Result (List A) E) → following [] r ≡ r
-none_taken (Ok vs) = refl
-none_taken (Err e) = refl
+-- a string, with the layer's errors
+string_takes : {S E : Type 0} (tells : S → Type 0) (left : S → List ℕ) (known : S → Option ℕ) (faults : S → ℕ)
+    (of : WireError → E) (block : List ℕ) (old new : S) → TakesField tells left known faults string (Ok block) old new
+    → Takes tells left known faults (causes_of of) (λ bytes. map_err (λ flaw. of (wire_error flaw)) (string.read bytes))
+    string.used (Ok block) old new
+string_takes tells left known faults of block old new takes = record {
+  answers = λ t. ap (map_err (λ flaw. of (wire_error flaw))) (map_err_ok wire_error (string.read (left old)) (block, left new) (takes.answers t));
+  within = takes.within;
+  whole = takes.whole;
+  front = takes.front;
+  told = takes.told;
+  knows = takes.knows;
+  fault = λ other. cc other;
+  calm = takes.calm;
+  never_falls = takes.never_falls;
+}
 
--- the values begin with none taken
-pub items_begin : {E A : Type 0} (reads : List ℕ → Result (A × List ℕ) E) (bytes : List ℕ)
-    → following [] (items_of reads bytes) ≡ items_of reads bytes
-items_begin reads bytes = none_taken (items_of reads bytes)
+-- a list is taken where its string is
+pub list_takes : {S A E : Type 0} (tells : S → Type 0) (left : S → List ℕ) (known : S → Option ℕ) (faults : S → ℕ)
+    (of : WireError → E) (G : Grammar E A) (block : List ℕ) (r : Result (List A) E) (old new : S)
+    → TakesField tells left known faults string (Ok block) old new
+    → Gives (of errors.NoMemory) (λ items. items) r (read_all G block)
+    → IfErr r (λ e. e ≢ of errors.ReadFault)
+    → Takes tells left known faults (causes_of of) (read_many (λ flaw. of (wire_error flaw)) G) string.used r old new
+list_takes tells left known faults of G block r old new takes gives no_fault =
+    judged_takes tells left known faults (causes_of of) (λ bytes. map_err (λ flaw. of (wire_error flaw)) (string.read bytes))
+    string.used (read_all G) block r old new (string_takes tells left known faults of block old new takes) gives no_fault
 
--- no byte is left
-pub items_end : {E A : Type 0} (G : Grammar E A) (taken : List A) (bytes : List ℕ)
-    → length bytes ≡ 0
-    → following taken (items_of G.read bytes) ≡ Ok taken
-items_end G taken bytes none =
-    ap (following taken) (items_of-read_all G G.read (λ b. refl) bytes) ∙ taking_ends G taken bytes none
-
--- no value is spelled in front
-pub items_refused : {E A : Type 0} (G : Grammar E A) (taken : List A) (bytes : List ℕ) (e : E)
-    → 0 < length bytes
-    → G.read bytes ≡ Err e → following taken (items_of G.read bytes) ≡ Err e
-items_refused G taken bytes e some refused =
-    ap (following taken) (items_of-read_all G G.read (λ b. refl) bytes) ∙ taking_refused G taken bytes e some refused
-
--- a fact that holds whatever is answered
-pub OnErr_always : {A E : Type 0} (r : Result A E) (P : Type 0) → P → OnErr r P
-OnErr_always (Ok x) P have = tt
-OnErr_always (Err e) P have = have
+-- and its error is one that some bytes have
+pub list_cause : {A E : Type 0} (of : WireError → E) (G : Grammar E A) (block : List ℕ) (r : Result (List A) E)
+    (fault : Type 0) → length block < 2 ^ 32 → Gives (of errors.NoMemory) (λ items. items) r (read_all G block)
+    → IfErr r (HasCause (causes_of of) (read_many (λ flaw. of (wire_error flaw)) G) fault)
+list_cause of G block r fault short gives =
+    judged_cause (causes_of of) (λ bytes. map_err (λ flaw. of (wire_error flaw)) (string.read bytes)) (read_all G) block r fault
+    (string_of block ++ []) [] (ap (map_err (λ flaw. of (wire_error flaw))) (string_reads_back block [] short)) gives
 
 -- the canonical spellings, joined, are a row of pieces
 pub spellings_are_row : {A : Type 0} (piece : A → List ℕ → Type 0) (spelling : A → List ℕ)

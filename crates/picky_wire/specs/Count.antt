@@ -1,5 +1,5 @@
 -- Counts of faults: numbers that never fall and stay at 2^64 - 1.
-use Rattle.std.specs.Prelude.{ℕ, ◌+◌, ◌-◌, ◌^◌, ◌≤◌, ◌==◌, Bool, List, min}
+use Rattle.std.specs.Prelude.{◌≡◌, ℕ, ◌+◌, ◌-◌, ◌^◌, ◌≤◌, ◌==◌, Bool, List, min, Result, OnOk, OnErr}
 use Rattle.std.specs.List.{list_any}
 
 -- the count after one more
@@ -9,6 +9,12 @@ count_one n = min (n + 1) (2 ^ 64 - 1)
 -- in a call a fault was counted: the count is greater than before, or stands at its last value
 abbrev pub Rose : ℕ → ℕ → Type 0
 Rose before after = count_one before ≤ after
+
+-- what a step of a stream keeps: it goes on telling its bytes, and a fault is counted exactly where the step fails
+pub record Keeps {S A E : Type 0} (tells : S → Type 0) (faults : S → ℕ) (result : Result A E) (old new : S) : Type 0 where
+  pub told : tells old → tells new
+  pub counted : OnErr result (Rose (faults old) (faults new))
+  pub calm : OnOk result (faults new ≡ faults old)
 
 -- the calls of which some fail by their number: which ones, how many were made, how many failed
 pub record Calls : Type 0 where

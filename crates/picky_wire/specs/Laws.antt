@@ -1,20 +1,11 @@
 -- What the laws of the wire say: which bytes are read as which value, and which are refused.
-use Rattle.std.specs.Prelude.{◌≡◌, List, [], ◌∷◌, ℕ, zero, suc, ◌++◌, ◌<◌, ◌^◌, length, Result, Ok, Err}
-use Rattle.std.specs.List.{flat_map}
+use Rattle.std.specs.Prelude.{◌≡◌, List, [], ◌∷◌, ℕ, zero, suc, ◌++◌, length, Result, Ok, Err}
 use Rattle.std.proofs.Common.{refl, sym, ◌∙◌, ap, subst, append_assoc}
-use Rattle.picky_layout.specs.Outcome.{and_then, map_err}
+use Rattle.picky_layout.specs.Outcome.{and_then}
 use Rattle.picky_layout.specs.Grammar.{Grammar, Fits, OneFront, one_front, refused_has_none}
-use Rattle.picky_layout.specs.Combine.{narrow, tag, meant}
 use Rattle.picky_layout.specs.Refused.{one_reason, Answer, Found, Refused, fits_or_refused}
-use Rattle.picky_layout.specs.Row.{Solid, Row, after, read_all}
-use Rattle.picky_layout.specs.Many.{row}
+use Rattle.picky_layout.specs.Row.{Row, after, read_within, read_all}
 use Rattle.picky_layout.specs.Numbers.{IsBytes, bytes_in_front}
-use Rattle.picky_layout.specs.Inside.{begins}
-use Rattle.picky_layout.specs.Wire.{string, string_of}
-use Rattle.picky_layout.specs.Strings.{string_spells}
-use Rattle.picky_wire.specs.declared.error.WireError.{WireError}
-use Rattle.picky_wire.specs.Field.{wire_error}
-use Rattle.picky_wire.specs.ListOf.{ListPiece, InsidePiece, items_within, items_of, list_of, inside_of, items_of-read_all}
 
 -- the bytes are read one way, or refused for one reason
 pub record IsReading {E A : Type 0} (read : List ℕ → Result (A × List ℕ) E)
@@ -52,6 +43,18 @@ layout_is_read G = record {
   one_reason = one_reason G;
 }
 
+-- So is what is read alike.
+pub read_alike : {E A : Type 0} (G : Grammar E A) (reads : List ℕ → Result (A × List ℕ) E)
+    → ((bytes : List ℕ) → reads bytes ≡ G.read bytes) → IsReading reads G.piece
+read_alike G reads same = record {
+  found = λ bytes v rest is. G.sound bytes v rest (sym (same bytes) ∙ is);
+  finds = λ v front rest spells. same (front ++ rest) ∙ G.complete v front rest spells;
+  one_front = one_front G;
+  refused = λ bytes e is. refused_has_none G bytes e (sym (same bytes) ∙ is);
+  reason = λ bytes none. let why = has_reason G bytes (fits_or_refused G bytes) none in (why.0, same bytes ∙ why.1);
+  one_reason = λ bytes e f first second. one_reason G bytes e f (sym (same bytes) ∙ first) (sym (same bytes) ∙ second);
+}
+
 -- ---- what is taken where the bytes are bytes
 
 -- What is read in front is spelled there by bytes.
@@ -73,55 +76,7 @@ spelling_of_bytes G spelling keeps one bytes v rest each is =
     let fits = fits_of_bytes G (λ w piece. (piece ≡ spelling w) × keeps w) one bytes v rest each is in
     (fits.2 ∙ ap (λ f. f ++ rest) fits.1.0, fits.1.1)
 
--- ---- lists
-
--- a list of a layout's values inside a string
-abbrev pub list_grammar : {E A : Type 0} → (WireError → E) → (G : Grammar E A) → Solid G.piece
-    → Grammar E (List A)
-list_grammar refuses G solid =
-    narrow (tag (λ flaw. refuses (wire_error flaw)) string) (row (λ e. e) G solid)
-
-same_err : {E A : Type 0} (r : Result A E) → r ≡ map_err (λ e. e) r
-same_err (Ok x) = refl
-same_err (Err e) = refl
-
-same_list : {E A : Type 0} (G : Grammar E A) (solid : Solid G.piece)
-    (r : Result (List ℕ × List ℕ) E)
-    → and_then r (λ block. and_then (items_of G.read block.0) (λ values. Ok (values, block.1)))
-    ≡ and_then r (meant (row (λ e. e) G solid))
-same_list G solid (Ok block) =
-    ap (λ s. and_then s (λ values. Ok (values, block.1)))
-    (items_of-read_all G G.read (λ b. refl) block.0 ∙ same_err (read_all G block.0))
-same_list G solid (Err e) = refl
-
-pub list_reads : {E A : Type 0} (refuses : WireError → E) (G : Grammar E A)
-    (solid : Solid G.piece) (bytes : List ℕ)
-    → list_of refuses G.read bytes ≡ (list_grammar refuses G solid).read bytes
-list_reads refuses G solid bytes =
-    same_list G solid (map_err (λ flaw. refuses (wire_error flaw)) (string.read bytes))
-
--- the same, as lists are read
-abbrev pub list_layout : {E A : Type 0} → (WireError → E) → (G : Grammar E A) → Solid G.piece
-    → Grammar E (List A)
-list_layout refuses G solid = record {
-  piece = ListPiece G.piece;
-  read = list_of refuses G.read;
-  sound = λ bytes vs rest is. (list_grammar refuses G solid).sound bytes vs rest (sym (list_reads refuses G solid bytes) ∙ is);
-  complete = λ vs front rest spells.
-      list_reads refuses G solid (front ++ rest)
-      ∙ (list_grammar refuses G solid).complete vs front rest spells;
-}
-
--- A list's canonical spelling is read back, whatever follows.
-pub list_reads_back : {E A : Type 0} (refuses : WireError → E) (G : Grammar E A)
-    (solid : Solid G.piece)
-    (spelling : A → List ℕ) (vs : List A) (rest : List ℕ) → Row G.piece vs (flat_map spelling vs)
-    → length (flat_map spelling vs) < 2 ^ 32
-    → list_of refuses G.read (string_of (flat_map spelling vs) ++ rest) ≡ Ok (vs, rest)
-list_reads_back refuses G solid spelling vs rest pieces short =
-    let block = flat_map spelling vs in
-    (list_layout refuses G solid).complete vs (string_of block) rest
-    (block, string_spells block short, pieces)
+-- ---- where a list is refused
 
 -- the bytes are spellings of these values, and what follows them, where the type's error stands
 pub record IsStuck {E A : Type 0} (reads : List ℕ → Result (A × List ℕ) E)
@@ -150,13 +105,13 @@ after_err v (Ok vs) e same = cc same
 after_err v (Err f) e same = ap Err (cc same)
 
 stuck_next : {E A : Type 0} (G : Grammar E A) (bytes : List ℕ) (e : E) (most : ℕ)
-    → ((rest : List ℕ) → items_within G.read most rest ≡ Err e → IsStuck G.read G.piece rest e)
+    → ((rest : List ℕ) → read_within G most rest ≡ Err e → IsStuck G.read G.piece rest e)
     → (r : Result (A × List ℕ) E) → G.read bytes ≡ r
-    → and_then r (λ first. after first.0 (items_within G.read most first.1)) ≡ Err e
+    → and_then r (λ first. after first.0 (read_within G most first.1)) ≡ Err e
     → IsStuck G.read G.piece bytes e
 stuck_next G bytes e most more (Ok (v, rest)) is same =
     stuck_later G bytes e v rest (G.sound bytes v rest is)
-    (more rest (after_err v (items_within G.read most rest) e same))
+    (more rest (after_err v (read_within G most rest) e same))
 stuck_next G bytes e most more (Err f) is same =
     record {
       values = [];
@@ -168,7 +123,7 @@ stuck_next G bytes e most more (Err f) is same =
     }
 
 within_stuck : {E A : Type 0} (G : Grammar E A) (most : ℕ) (bytes : List ℕ) (e : E)
-    → items_within G.read most bytes ≡ Err e → IsStuck G.read G.piece bytes e
+    → read_within G most bytes ≡ Err e → IsStuck G.read G.piece bytes e
 within_stuck G zero bytes e same = cc same
 within_stuck G (suc most) [] e same = cc same
 within_stuck G (suc most) (b ∷ bytes) e same =
@@ -176,40 +131,7 @@ within_stuck G (suc most) (b ∷ bytes) e same =
     (G.read (b ∷ bytes)) refl same
 
 -- A block that is no list has the error of the place after which no value is spelled.
-pub items_stuck : {E A : Type 0} (G : Grammar E A) (block : List ℕ) (e : E)
-    → items_of G.read block ≡ Err e → IsStuck G.read G.piece block e
-unfolding items_of
-items_stuck G block e same = within_stuck G (length block) block e same
-
--- ---- one value inside a string
-
-abbrev pub inside_grammar : {E A : Type 0} → (WireError → E) → Grammar E A → Grammar E A
-inside_grammar refuses G = narrow (tag (λ flaw. refuses (wire_error flaw)) string) (begins (λ e. e) G)
-
-same_front : {E A : Type 0} (r : Result (A × List ℕ) E) (rest : List ℕ)
-    → and_then {B = A × List ℕ} r (λ first. Ok (first.0, rest))
-    ≡ and_then (and_then (map_err (λ e. e) r) (λ first. Ok first.0)) (λ v. Ok (v, rest))
-same_front (Ok first) rest = refl
-same_front (Err e) rest = refl
-
-same_inside : {E A : Type 0} (G : Grammar E A) (r : Result (List ℕ × List ℕ) E)
-    → and_then r (λ block. and_then (G.read block.0) (λ first. Ok (first.0, block.1)))
-    ≡ and_then r (meant (begins (λ e. e) G))
-same_inside G (Ok block) = same_front (G.read block.0) block.1
-same_inside G (Err e) = refl
-
-pub inside_reads : {E A : Type 0} (refuses : WireError → E) (G : Grammar E A) (bytes : List ℕ)
-    → inside_of refuses G.read bytes ≡ (inside_grammar refuses G).read bytes
-inside_reads refuses G bytes =
-    same_inside G (map_err (λ flaw. refuses (wire_error flaw)) (string.read bytes))
-
--- the layout of a value inside a string, where what follows it there is ignored
-abbrev pub inside_layout : {E A : Type 0} → (WireError → E) → Grammar E A → Grammar E A
-inside_layout refuses G = record {
-  piece = InsidePiece G.piece;
-  read = inside_of refuses G.read;
-  sound = λ bytes v rest is. (inside_grammar refuses G).sound bytes v rest (sym (inside_reads refuses G bytes) ∙ is);
-  complete = λ v front rest spells.
-      inside_reads refuses G (front ++ rest)
-      ∙ (inside_grammar refuses G).complete v front rest spells;
-}
+pub values_stuck : {E A : Type 0} (G : Grammar E A) (block : List ℕ) (e : E)
+    → read_all G block ≡ Err e → IsStuck G.read G.piece block e
+unfolding read_all
+values_stuck G block e same = within_stuck G (length block) block e same

@@ -2,10 +2,11 @@ pub mod Count
 pub mod Known
 pub mod Memory
 pub mod Gives
-pub mod Field
-pub mod Written
-pub mod Element
+pub mod Takes
+pub mod Puts
+pub mod Flaws
+pub mod Unread
 pub mod Moment
-pub mod ListOf
 pub mod Principals
 pub mod Laws
+pub mod View

@@ -1,121 +1,127 @@
 //! Values that have a spelling of their own on the wire.
 
-ghost use Rattle.std.specs.Prelude.{◌≡◌, ◌≢◌, ◌^◌, ◌<◌, ◌≤◌, ◌++◌, ℕ, List, Bool, false, Result, Ok, Err, length, min, IfOk, IfErr, OnOk};
-ghost use Rattle.picky_layout.specs.Grammar.{Fits};
+ghost use Rattle.std.specs.Prelude.{◌≡◌, ◌≢◌, ◌^◌, ◌↔◌, ℕ, List, Option, Some, None, Result, Err, length, min, IsTrue, IfErr, MatchOption};
+ghost use Rattle.picky_layout.specs.Grammar.{Grammar};
 ghost use Rattle.picky_layout.specs.Row.{Solid};
 ghost use Rattle.picky_wire.specs.declared.error.WireError.{WireError};
 ghost use Rattle.picky_wire.specs.declared.error.WireError.TheVariants as errors;
 ghost use Rattle.picky_wire.specs.Count.{Rose};
-ghost use Rattle.picky_wire.specs.Written.{Writes};
-ghost use Rattle.picky_wire.specs.Element.{is_no_memory};
+ghost use Rattle.picky_wire.specs.Takes.{Takes, HasCause, causes_of};
+ghost use Rattle.picky_wire.specs.Puts.{Puts};
 
 use crate::error::WireError;
 use crate::sink::Sink;
 use crate::source::Source;
 use std::alloc::Global;
 
+/// An error in which each of the wire's errors has a place of its own.
+pub trait CodecError: From<WireError> + Drop {
+    // the error that says what the wire's error says
+    ghost of_wire: { WireError → Self };
+
+    /// Whether it is want of memory.
+    fn is_no_memory(&self) -> bool
+        ensures { IsTrue result ↔ (self.now ≡ of_wire errors.NoMemory) };
+
+    /// The error that says what the wire's error says.
+    fn from_wire(e: WireError) -> Self
+        ensures { result ≡ of_wire e };
+
+    ghost from_alike: { (e : WireError) (x : Self) → Self.from_gives e x → x ≡ of_wire e };
+
+    ghost apart: { (d e : WireError) → of_wire d ≡ of_wire e → d ≡ e };
+}
+
 /// A value that is written as one spelling.
 pub trait SshComplexTypeEncode {
-    type Error: From<WireError>;
+    type Error: CodecError;
 
     // the value's canonical spelling
     ghost spelling: { Self → List ℕ };
 
-    // the values that are written; each other one is refused
-    ghost takes: { Self → Type 0 };
+    // why the value isn't written, where it isn't
+    ghost write_reason: { Self → Option Self.Error };
 
     // what each value of the type keeps: the ranges of its numbers, and what its parts keep
     ghost keeps: { Self → Type 0 };
 
-    // the error in place of the wire's
-    ghost write_refuses: { WireError → Self.Error };
-
     /// Writes the value's spelling. Where the type refuses the value, nothing is written.
     fn encode<S: Sink>(&self, stream: &mut S) -> Result<(), Self::Error>
-        ensures written { S.tells stream.old
-            → Writes result (spelling self.now) (S.written stream.old) (S.written stream.new) }
-        ensures taken { OnOk result (takes self.now) }
-        ensures cause { takes self.now → IfErr result (λ e. (e ≡ write_refuses errors.WriteFault)
-            × Rose (S.faults stream.old) (S.faults stream.new)) }
-        ensures unwritten { (takes self.now → ⊥) → stream.new ≡ stream.old }
-        ensures told { S.tells stream.old → S.tells stream.new }
-        ensures never_falls { S.faults stream.old ≤ S.faults stream.new };
+        ensures { MatchOption (write_reason self.now)
+            (Puts S.tells S.written S.faults (Self.Error.of_wire errors.WriteFault) (spelling self.now)
+            result stream.old stream.new)
+            (λ e. (result ≡ Err e) × (stream.new ≡ stream.old)) };
 
     /// The length of the spelling, or 2^40 where it is longer.
     fn spelling_len(&self) -> u64
         ensures len { result ≡ min (length (spelling self.now)) (2 ^ 40) }
         ensures keeps { keeps self.now };
 
-    ghost write_from: { (e : WireError) (x : Self.Error) → Self.Error.from_gives e x → x ≡ write_refuses e };
+    /// The error of writing that says what the wire's error says.
+    final fn write_refusal(error: WireError) -> Self::Error
+    where
+        Self: Sized,
+        ensures { result ≡ Self.Error.of_wire error }
+    {
+        Self::Error::from_wire(error)
+    }
+
+    // a value is not refused for want of memory, since writing takes none
+    ghost reason_is_no_want: { (v : Self) → write_reason v ≡ Some (Self.Error.of_wire errors.NoMemory) → ⊥ };
 }
 
 /// A value that is read from its spelling.
 pub trait SshComplexTypeDecode: Sized {
-    type Error: From<WireError>;
+    type Error: CodecError;
 
     // the value that the bytes begin with and what follows it, or why they begin with none
     ghost reads: { List ℕ → Result (Self × List ℕ) Self.Error };
 
-    // the error is want of memory
-    ghost free: { Self.Error → Bool };
-
-    // the error in place of the wire's
-    ghost refuses: { WireError → Self.Error };
+    // how many bytes it takes, or how many there are up to the end of the field that is refused
+    ghost used: { List ℕ → ℕ };
 
     /// The value that the source's bytes begin with. Exactly what follows it is left.
     fn decode<S: Source>(alloc: Global, stream: &mut S) -> Result<Self, Self::Error>
-        ensures ok { S.tells stream.old
-            → IfOk result (λ v. reads (S.left stream.old) ≡ Ok (v, S.left stream.new)) }
+        ensures takes { Takes S.tells S.left S.known S.faults (causes_of Self.Error.of_wire) reads used
+            result stream.old stream.new }
 
-        // An error is want of memory, a fault that was counted, or the bytes' own.
-        ensures err { S.tells stream.old → IfErr result (λ e. e ≢ refuses errors.ReadFault
-            → free e ≡ false → reads (S.left stream.old) ≡ Err e) }
-        ensures read_fault_only_if_counted { IfErr result (λ e. e ≡ refuses errors.ReadFault
-            → Rose (S.faults stream.old) (S.faults stream.new)) }
-
-        ensures front { S.tells stream.old
-            → ((taken : List ℕ) × (S.left stream.old ≡ taken ++ S.left stream.new)) }
-        ensures told { S.tells stream.old → S.tells stream.new }
-        ensures never_falls { S.faults stream.old ≤ S.faults stream.new };
-
-    ghost read_from: { (e : WireError) (x : Self.Error) → Self.Error.from_gives e x → x ≡ refuses e };
-}
-
-/// A value whose spelling says where it ends, so that a list can be made of them.
-pub trait SshElement: SshComplexTypeEncode + SshComplexTypeDecode + Drop {
-    // the bytes spell the value
-    ghost piece: { Self → List ℕ → Type 0 };
+        // Over a source that doesn't tell its bytes, too, each error is one that some bytes have.
+        ensures cause { IfErr result (HasCause (causes_of Self.Error.of_wire) reads
+            (Rose (S.faults stream.old) (S.faults stream.new))) };
 
     /// Whether the error is want of memory.
-    fn no_memory(error: &<Self as SshComplexTypeDecode>::Error) -> bool
-        ensures { result ≡ Self.free error.now };
+    final fn no_memory(error: &Self::Error) -> bool
+        ensures { IsTrue result ↔ (error.now ≡ Self.Error.of_wire errors.NoMemory) }
+    {
+        error.is_no_memory()
+    }
 
-    /// The error that says what the wire's error says.
-    fn refusal(error: WireError) -> <Self as SshComplexTypeDecode>::Error
-        ensures { result ≡ Self.refuses error };
+    // no bytes are refused for a fault or for want of memory
+    ghost own: { (bytes : List ℕ) (e : Self.Error) → reads bytes ≡ Err e
+        → (e ≢ Self.Error.of_wire errors.ReadFault) × (e ≢ Self.Error.of_wire errors.NoMemory) };
+}
 
-    /// The same of writing.
-    fn write_refusal(error: WireError) -> <Self as SshComplexTypeEncode>::Error
-        ensures { result ≡ Self.write_refuses error };
+/// A value that is read by a layout, which says where its spelling ends.
+pub trait SshLayout: SshComplexTypeDecode + Drop {
+    // which bytes spell which value, and how the value in front is read
+    ghost layout: { Grammar Self.Error Self };
 
-    // what is read in front is spelled there, and exactly what follows it is left
-    ghost sound: { (bytes : List ℕ) (v : Self) (rest : List ℕ)
-        → Self.reads bytes ≡ Ok (v, rest) → Fits piece v bytes rest };
+    /// The error of reading that says what the wire's error says.
+    fn refusal(error: WireError) -> Self::Error
+        ensures { result ≡ Self.Error.of_wire error };
 
-    // at most one front of the bytes is a spelling, and it spells one value: the one that is read
-    ghost complete: { (v : Self) (front rest : List ℕ)
-        → piece v front → Self.reads (front ++ rest) ≡ Ok (v, rest) };
+    // `decode` reads the layout
+    ghost reads_layout: { (bytes : List ℕ) → Self.reads bytes ≡ layout.read bytes };
 
-    // the canonical spelling of a value that is written is one of its spellings
-    ghost spelled: { (v : Self) → Self.keeps v → Self.takes v → piece v (Self.spelling v) };
+    ghost used_layout: { (bytes : List ℕ) → Self.used bytes ≡ layout.used bytes };
 
     // a spelling has at least one byte
-    ghost solid: { Solid piece };
+    ghost solid: { Solid layout.piece };
+}
 
-    // no other error of the wire is taken for a fault of the source
-    ghost fault_apart: { (e : WireError) → Self.refuses e ≡ Self.refuses errors.ReadFault
-        → e ≡ errors.ReadFault };
-
-    // of the wire's errors want of memory alone is free
-    ghost frees: { (e : WireError) → Self.free (Self.refuses e) ≡ is_no_memory e };
+/// A value that is read and written, so that a list can be made of them.
+pub trait SshElement: SshComplexTypeEncode + SshLayout {
+    // the canonical spelling of a value that is written is one of its spellings
+    ghost spelled: { (v : Self) → Self.keeps v → Self.write_reason v ≡ None
+        → Self.layout.piece v (Self.spelling v) };
 }

@@ -1,5 +1,6 @@
 //! What the calls of this crate can refuse.
 
+use crate::element::CodecError;
 use thiserror::Error;
 
 /// Memory ran out.
@@ -58,4 +59,22 @@ pub enum WireError {
     /// Memory ran out.
     #[error("NoMemory")]
     NoMemory = 6,
+}
+
+impl CodecError for WireError {
+    ghost use Rattle.std.specs.Prelude.{◌≡◌};
+
+    ghost of_wire = { λ e. e };
+
+    ghost from_alike = { λ e x same. same };
+
+    ghost apart = { λ d e same. same };
+
+    fn is_no_memory(&self) -> bool {
+        matches!(self, WireError::NoMemory)
+    }
+
+    fn from_wire(e: WireError) -> WireError {
+        e
+    }
 }

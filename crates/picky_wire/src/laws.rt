@@ -1,15 +1,27 @@
 //! The laws of the wire's layouts, each as the contract of a function that does nothing.
 
-ghost use Rattle.std.specs.Prelude.{◌≡◌, ◌^◌, ◌<◌, ◌≤◌, ◌++◌, ◌∷◌, ◌↔◌, ℕ, List, All, Ok, Err, length, slice_index, IsUtf8};
-ghost use Rattle.std.specs.Int.{w8, w32, w64, to_be_bytes};
+ghost use Rattle.std.specs.Prelude.{◌≡◌, ◌≢◌, ◌^◌, ◌-◌, ◌<◌, ◌≤◌, ◌++◌, ◌∷◌, ◌↔◌, ◌⊎◌, ℕ, List, All, None, Ok, Err, length, take, drop, slice_index, IsUtf8};
+ghost use Rattle.std.specs.Int.{w8, w32, w64, from_be_bytes, to_be_bytes};
 ghost use Rattle.std.specs.List.{flat_map};
-ghost use Rattle.picky_layout.specs.Wire.{uint32, string, string_of, text};
+ghost use Rattle.picky_layout.specs.Flaw.{Flaw, Short, NotUtf8, Big, Flawed, Length, Magic, Name, Number, Reason};
+ghost use Rattle.picky_layout.specs.Grammar.{Grammar, Fits};
+ghost use Rattle.picky_layout.specs.Combine.{Meaning, narrow};
+ghost use Rattle.picky_layout.specs.Wire.{cells, uint32, string, string_of, text};
 ghost use Rattle.picky_layout.specs.Numbers.{IsBytes, byte, uint64};
+ghost use Rattle.picky_layout.specs.Short.{EndsInString};
+ghost use Rattle.picky_layout.specs.Fixed.{raw, sized, fixed_uint32};
+ghost use Rattle.picky_layout.specs.Table.{Table};
+ghost use Rattle.picky_layout.specs.Names.{named};
+ghost use Rattle.picky_layout.specs.Zeros.{without_zeros};
 ghost use Rattle.picky_layout.specs.Mpint.{IsMpint, IsMpintPiece, mpint, mpint_of};
+ghost use Rattle.picky_layout.specs.When.{IsShortWhere, HoldsString, HasOneFront, followed_by};
 ghost use Rattle.picky_wire.specs.Laws.{IsReading, IsStuck};
-ghost use Rattle.picky_wire.specs.ListOf.{ListPiece, InsidePiece, items_of, list_of, inside_of};
+ghost use Rattle.picky_layout.specs.Inside.{SubPiece, sub};
+ghost use Rattle.picky_layout.specs.Many.{ManyPiece, read_many};
+ghost use Rattle.picky_layout.specs.Row.{read_all};
+ghost use Rattle.picky_wire.specs.Flaws.{wire_error};
 
-use crate::element::SshElement;
+use crate::element::{SshElement, SshLayout};
 use crate::source::Source;
 
 /// Each field is read one way or refused for one reason, and no piece is a proper front of another.
@@ -23,10 +35,12 @@ pub fn fields_are_read_one_way()
 {}
 
 /// So is each element, each list of one kind of elements, and each element inside a string.
-pub fn elements_are_read_one_way<T: SshElement>()
-    ensures element { IsReading T.reads T.piece }
-    ensures list { IsReading (list_of T.refuses T.reads) (ListPiece T.piece) }
-    ensures inside { IsReading (inside_of T.refuses T.reads) (InsidePiece T.piece) }
+pub fn elements_are_read_one_way<T: SshLayout>()
+    ensures element { IsReading T.reads T.layout.piece }
+    ensures list { IsReading (read_many (λ flaw. T.Error.of_wire (wire_error flaw)) T.layout)
+        (ManyPiece T.layout.piece) }
+    ensures inside { IsReading (sub (λ flaw. T.Error.of_wire (wire_error flaw)) T.layout).read
+        (SubPiece T.layout.piece) }
 {}
 
 /// The canonical piece is read back, whatever follows it.
@@ -45,18 +59,18 @@ pub fn fields_are_read_back()
 
 /// So is the canonical spelling of an element, and of a list.
 pub fn elements_are_read_back<T: SshElement>()
-    ensures element { (v : T) (rest : List ℕ) → T.keeps v → T.takes v
+    ensures element { (v : T) (rest : List ℕ) → T.keeps v → T.write_reason v ≡ None
         → T.reads (T.spelling v ++ rest) ≡ Ok (v, rest) }
-    ensures list { (vs : List T) (rest : List ℕ) → All T.keeps vs → All T.takes vs
-        → length (flat_map T.spelling vs) < 2 ^ 32
-        → list_of T.refuses T.reads (string_of (flat_map T.spelling vs) ++ rest) ≡ Ok (vs, rest) }
+    ensures list { (vs : List T) (rest : List ℕ) → All T.keeps vs
+        → All (λ v. T.write_reason v ≡ None) vs → length (flat_map T.spelling vs) < 2 ^ 32
+        → (cut : _) → read_many cut T.layout (string_of (flat_map T.spelling vs) ++ rest) ≡ Ok (vs, rest) }
 {}
 
 /// A block that is no list of elements begins with spellings of some, after which none is spelled: its
 /// error is the element's there.
-pub fn blocks_are_refused_at_one_place<T: SshElement>()
-    ensures { (block : List ℕ) (e : _) → items_of T.reads block ≡ Err e
-        → IsStuck T.reads T.piece block e }
+pub fn blocks_are_refused_at_one_place<T: SshLayout>()
+    ensures { (block : List ℕ) (e : _) → read_all T.layout block ≡ Err e
+        → IsStuck T.layout.read T.layout.piece block e }
 {}
 
 /// A string's pieces are its four bytes of length and then its bytes (RFC 4251, section 5).
@@ -100,4 +114,182 @@ pub fn fields_take_the_standards_pieces<S: Source>()
     ensures mpint { (before after : S) (v : List ℕ) → S.tells before
         → mpint.read (S.left before) ≡ Ok (v, S.left after)
         → (piece : List ℕ) × IsMpintPiece v piece × (S.left before ≡ piece ++ S.left after) }
+{}
+
+/// A number is refused exactly where fewer bytes are left than it has, and always as short.
+pub fn numbers_are_refused_exactly()
+    ensures byte { IsShortWhere byte.read (λ bytes. length bytes < 1) }
+    ensures uint32 { IsShortWhere uint32.read (λ bytes. length bytes < 4) }
+    ensures uint64 { IsShortWhere uint64.read (λ bytes. length bytes < 8) }
+    ensures cells { (n : ℕ) → IsShortWhere (cells n).read (λ bytes. length bytes < n) }
+{}
+
+/// A string is refused exactly where the bytes end inside it; a text also where its whole string
+/// isn't UTF-8 (RFC 4251, section 5).
+pub fn strings_are_refused_exactly()
+    ensures string { IsShortWhere string.read EndsInString }
+    ensures text_short { (bytes : List ℕ) → text.read bytes ≡ Err Short ↔ EndsInString bytes }
+    ensures text_not_utf8 { (bytes : List ℕ) → text.read bytes ≡ Err NotUtf8
+        ↔ HoldsString bytes (λ v. IsUtf8 v → ⊥) }
+    ensures text_only { (bytes : List ℕ) (e : Flaw) → text.read bytes ≡ Err e
+        → (e ≡ Short) ⊎ (e ≡ NotUtf8) }
+{}
+
+/// An mpint is refused exactly where the bytes end inside its string, or where its whole string has
+/// 2^32 - 1 bytes or more after its zeros; fewer than 2^32 bytes hold none of those.
+pub fn mpints_are_refused_exactly()
+    ensures short { (bytes : List ℕ) → mpint.read bytes ≡ Err Short ↔ EndsInString bytes }
+    ensures big { (bytes : List ℕ) → mpint.read bytes ≡ Err Big
+        ↔ HoldsString bytes (λ v. 2 ^ 32 - 1 ≤ length (without_zeros v)) }
+    ensures only { (bytes : List ℕ) (e : Flaw) → mpint.read bytes ≡ Err e
+        → (e ≡ Short) ⊎ (e ≡ Big) }
+    ensures not_big { (bytes : List ℕ) → length bytes < 2 ^ 32 → mpint.read bytes ≢ Err Big }
+{}
+
+/// Where the bytes don't end inside a field, it is read; a text and an mpint where what their
+/// string holds is allowed.
+pub fn whole_fields_are_read()
+    ensures byte { (bytes : List ℕ) → 1 ≤ length bytes
+        → byte.read bytes ≡ Ok (from_be_bytes w8 (take 1 bytes), drop 1 bytes) }
+    ensures uint32 { (bytes : List ℕ) → 4 ≤ length bytes
+        → uint32.read bytes ≡ Ok (from_be_bytes w32 (take 4 bytes), drop 4 bytes) }
+    ensures uint64 { (bytes : List ℕ) → 8 ≤ length bytes
+        → uint64.read bytes ≡ Ok (from_be_bytes w64 (take 8 bytes), drop 8 bytes) }
+    ensures cells { (n : ℕ) (bytes : List ℕ) → n ≤ length bytes
+        → (cells n).read bytes ≡ Ok (take n bytes, drop n bytes) }
+    ensures string { (bytes : List ℕ) → (EndsInString bytes → ⊥)
+        → string.read bytes ≡ Ok (
+          take (from_be_bytes w32 (take 4 bytes)) (drop 4 bytes),
+          drop (from_be_bytes w32 (take 4 bytes)) (drop 4 bytes),
+        ) }
+    ensures text { (bytes v rest : List ℕ) → string.read bytes ≡ Ok (v, rest) → IsUtf8 v
+        → text.read bytes ≡ Ok (v, rest) }
+    ensures mpint { (bytes v rest : List ℕ) → string.read bytes ≡ Ok (v, rest)
+        → length (without_zeros v) < 2 ^ 32 - 1 → mpint.read bytes ≡ Ok (without_zeros v, rest) }
+{}
+
+/// Bytes that a layout fixes are refused as short where fewer are left, and else exactly where they
+/// differ.
+pub fn fixed_bytes_are_refused_exactly()
+    ensures short { (i : ℕ) (fixed bytes : List ℕ)
+        → (raw i fixed).read bytes ≡ Err (i, Flawed Short) ↔ length bytes < length fixed }
+    ensures magic { (i : ℕ) (fixed bytes : List ℕ)
+        → (raw i fixed).read bytes ≡ Err (i, Magic)
+        ↔ ((length fixed ≤ length bytes) × (take (length fixed) bytes ≢ fixed)) }
+    ensures only { (i : ℕ) (fixed bytes : List ℕ) (r : Reason)
+        → (raw i fixed).read bytes ≡ Err r
+        → (r ≡ (i, Flawed Short)) ⊎ (r ≡ (i, Magic)) }
+{}
+
+/// So is a number that a layout fixes, with the number that stands in its place.
+pub fn fixed_numbers_are_refused_exactly()
+    ensures short { (i n : ℕ) (bytes : List ℕ)
+        → (fixed_uint32 i n).read bytes ≡ Err (i, Flawed Short) ↔ length bytes < 4 }
+    ensures number { (i n m : ℕ) (bytes : List ℕ)
+        → (fixed_uint32 i n).read bytes ≡ Err (i, Number m)
+        ↔ ((4 ≤ length bytes) × (from_be_bytes w32 (take 4 bytes) ≡ m) × (m ≢ n)) }
+    ensures only { (i n : ℕ) (bytes : List ℕ) (r : Reason)
+        → (fixed_uint32 i n).read bytes ≡ Err r
+        → (r ≡ (i, Flawed Short)) ⊎ ((m : ℕ) × (r ≡ (i, Number m))) }
+{}
+
+/// A string whose length a layout fixes is refused as short where the bytes end inside it, and else
+/// exactly where it has another length.
+pub fn sized_strings_are_refused_exactly()
+    ensures short { (i n : ℕ) (bytes : List ℕ)
+        → (sized i n).read bytes ≡ Err (i, Flawed Short) ↔ EndsInString bytes }
+    ensures length { (i n : ℕ) (bytes : List ℕ)
+        → (sized i n).read bytes ≡ Err (i, Length) ↔ HoldsString bytes (λ v. length v ≢ n) }
+    ensures only { (i n : ℕ) (bytes : List ℕ) (r : Reason) → (sized i n).read bytes ≡ Err r
+        → (r ≡ (i, Flawed Short)) ⊎ (r ≡ (i, Length)) }
+{}
+
+/// A name of a table is refused as a text is, and else exactly where no entry has it.
+pub fn names_are_refused_exactly<A>()
+    ensures short { (i : ℕ) (table : Table (List ℕ) A) (bytes : List ℕ)
+        → (named i table).read bytes ≡ Err (i, Flawed Short) ↔ EndsInString bytes }
+    ensures not_utf8 { (i : ℕ) (table : Table (List ℕ) A) (bytes : List ℕ)
+        → (named i table).read bytes ≡ Err (i, Flawed NotUtf8)
+        ↔ HoldsString bytes (λ v. IsUtf8 v → ⊥) }
+    ensures name { (i : ℕ) (table : Table (List ℕ) A) (n bytes : List ℕ)
+        → (named i table).read bytes ≡ Err (i, Name n)
+        ↔ HoldsString bytes (λ v. (v ≡ n) × IsUtf8 v × ((a : A) → table.key a ≢ v)) }
+    ensures only { (i : ℕ) (table : Table (List ℕ) A) (bytes : List ℕ) (r : Reason)
+        → (named i table).read bytes ≡ Err r
+        → (r ≡ (i, Flawed Short)) ⊎ (r ≡ (i, Flawed NotUtf8))
+        ⊎ ((n : List ℕ) × (r ≡ (i, Name n))) }
+{}
+
+/// Any layout, and the layout that its value decides.
+pub trait TwoLayouts {
+    type Error;
+
+    type First;
+
+    type Second;
+
+    ghost first: { Grammar Self.Error Self.First };
+
+    ghost second: { Self.First → Grammar Self.Error Self.Second };
+}
+
+/// One layout and then another is read exactly where the first is and then the second. It is
+/// refused exactly where the first is, or where a piece of the first stands in front and what
+/// follows it is refused by the second; and with the same error.
+pub fn layouts_are_refused_at_one_field<L: TwoLayouts>()
+    ensures read { (bytes : List ℕ) (w : L.Second) (rest : List ℕ)
+        → (followed_by L.first L.second).read bytes ≡ Ok (w, rest)
+        ↔ ((v : L.First) × (mid : List ℕ) × (L.first.read bytes ≡ Ok (v, mid))
+        × ((L.second v).read mid ≡ Ok (w, rest))) }
+    ensures refused { (bytes : List ℕ) (e : L.Error)
+        → (followed_by L.first L.second).read bytes ≡ Err e
+        ↔ ((L.first.read bytes ≡ Err e)
+        ⊎ ((v : L.First) × (rest : List ℕ) × Fits L.first.piece v bytes rest
+        × ((L.second v).read rest ≡ Err e))) }
+{}
+
+/// Any layout, and what its values stand for where they stand for something.
+pub trait NarrowedLayout {
+    type Error;
+
+    type Field;
+
+    type Value;
+
+    ghost field: { Grammar Self.Error Self.Field };
+
+    ghost meaning: { Meaning Self.Error Self.Field Self.Value };
+}
+
+/// A layout that may say less is read exactly where its value stands for something. It is refused
+/// exactly where it is by itself, or where a piece of it stands in front whose value is refused;
+/// and with the same error.
+pub fn narrowed_layouts_are_refused_at_one_place<L: NarrowedLayout>()
+    ensures read { (bytes : List ℕ) (w : L.Value) (rest : List ℕ)
+        → (narrow L.field L.meaning).read bytes ≡ Ok (w, rest)
+        ↔ ((v : L.Field) × (L.field.read bytes ≡ Ok (v, rest)) × L.meaning.means v w) }
+    ensures refused { (bytes : List ℕ) (e : L.Error) → (narrow L.field L.meaning).read bytes ≡ Err e
+        ↔ ((L.field.read bytes ≡ Err e)
+        ⊎ ((v : L.Field) × (rest : List ℕ) × Fits L.field.piece v bytes rest
+        × (L.meaning.decide v ≡ Err e))) }
+{}
+
+/// A string that stands in front of what another string begins is that string.
+pub fn no_string_is_a_front_of_another()
+    ensures { (a b x y z : List ℕ) → length a < 2 ^ 32 → length b < 2 ^ 32
+        → string_of b ++ y ≡ string_of a ++ x ++ z → a ≡ b }
+{}
+
+/// No piece is a proper front of another, and one front spells one value: of a field, of an
+/// element, of a list of elements, and of an element inside a string.
+pub fn no_piece_is_a_front_of_another<T: SshLayout>()
+    ensures byte { HasOneFront byte.piece }
+    ensures uint32 { HasOneFront uint32.piece }
+    ensures uint64 { HasOneFront uint64.piece }
+    ensures string { HasOneFront string.piece }
+    ensures text { HasOneFront text.piece }
+    ensures mpint { HasOneFront mpint.piece }
+    ensures element { HasOneFront T.layout.piece }
+    ensures list { HasOneFront (ManyPiece T.layout.piece) }
+    ensures inside { HasOneFront (SubPiece T.layout.piece) }
 {}

@@ -1,15 +1,18 @@
 //! Lists of elements, inside a string.
 
-ghost use Rattle.std.specs.Prelude.{◌≡◌, ◌≢◌, ◌^◌, ◌<◌, ◌≤◌, false, Ok, Err, All, length, IfOk, IfErr, OnOk, OnErr, OnSome, MatchOption};
+ghost use Rattle.std.specs.Prelude.{◌≡◌, ◌≢◌, ◌^◌, ◌<◌, ◌≤◌, None, Err, All, length, IfErr, OnOk, OnSome, MatchOption};
 ghost use Rattle.std.specs.List.{flat_map};
+ghost use Rattle.picky_layout.specs.Many.{read_many};
+ghost use Rattle.picky_layout.specs.Row.{read_all};
 ghost use Rattle.picky_layout.specs.Wire.{string, string_of};
 ghost use Rattle.picky_wire.specs.declared.error.WireError.TheVariants as errors;
 ghost use Rattle.picky_wire.specs.Count.{Rose};
-ghost use Rattle.picky_wire.specs.Field.{TakesFront};
-ghost use Rattle.picky_wire.specs.ListOf.{items_of, list_of};
-ghost use Rattle.picky_wire.specs.Written.{Writes};
+ghost use Rattle.picky_wire.specs.Flaws.{wire_error};
+ghost use Rattle.picky_wire.specs.Gives.{Gives};
+ghost use Rattle.picky_wire.specs.Puts.{Puts};
+ghost use Rattle.picky_wire.specs.Takes.{Takes, HasCause, causes_of};
 
-use crate::element::{SshComplexTypeDecode, SshComplexTypeEncode, SshElement};
+use crate::element::{SshComplexTypeDecode, SshComplexTypeEncode, SshLayout};
 use crate::error::WireError;
 use crate::list::List;
 use crate::read::SshReadExt;
@@ -22,29 +25,17 @@ use std::alloc::Global;
 ///
 /// Where the string is cut, the error is `T`'s for `UnexpectedEnd`; where it is whole, `T`'s own at the
 /// first place where no value is spelled. Refuses, in order: `ReadFault`, these two.
-pub fn decode_list<T: SshElement, S: Source>(
+pub fn decode_list<T: SshLayout, S: Source>(
     alloc: Global,
     stream: &mut S,
-) -> Result<List<T>, <T as SshComplexTypeDecode>::Error>
-    ensures ok { S.tells stream.old → IfOk result (λ items.
-        list_of T.refuses T.reads (S.left stream.old) ≡ Ok (items, S.left stream.new)) }
-
-    // An error is want of memory, a fault that was counted, or the bytes' own.
-    ensures err { S.tells stream.old
-        → IfErr result (λ e. e ≢ T.refuses errors.ReadFault → T.free e ≡ false
-        → list_of T.refuses T.reads (S.left stream.old) ≡ Err e) }
-    ensures read_fault_only_if_counted { IfErr result (λ e. e ≡ T.refuses errors.ReadFault
-        → Rose (S.faults stream.old) (S.faults stream.new)) }
-
-    // A refusal leaves what follows a front of the string, for the bytes' own what follows the string.
-    ensures front { S.tells stream.old → OnErr result
-        (TakesFront (string.read (S.left stream.old)) (S.left stream.old) (S.left stream.new)) }
-    ensures taken { S.tells stream.old
-        → IfErr result (λ e. e ≢ T.refuses errors.ReadFault → T.free e ≡ false
-        → IfOk (string.read (S.left stream.old)) (λ block. S.left stream.new ≡ block.1)) }
-
-    ensures told { S.tells stream.old → S.tells stream.new }
-    ensures never_falls { S.faults stream.old ≤ S.faults stream.new }
+) -> Result<List<T>, T::Error>
+    ensures takes { Takes S.tells S.left S.known S.faults
+        (causes_of T.Error.of_wire)
+        (read_many (λ flaw. T.Error.of_wire (wire_error flaw)) T.layout)
+        string.used result stream.old stream.new }
+    ensures cause { IfErr result (HasCause (causes_of T.Error.of_wire)
+        (read_many (λ flaw. T.Error.of_wire (wire_error flaw)) T.layout)
+        (Rose (S.faults stream.old) (S.faults stream.new))) }
 {
     match stream.read_ssh_bytes(alloc) {
         Ok(block) => decode_items(alloc, block.as_slice()),
@@ -53,13 +44,10 @@ pub fn decode_list<T: SshElement, S: Source>(
 }
 
 /// The values that the bytes are made of.
-fn decode_items<T: SshElement>(
-    alloc: Global,
-    block: &[u8],
-) -> Result<List<T>, <T as SshComplexTypeDecode>::Error>
-    ensures ok { IfOk result (λ items. items_of T.reads block.now ≡ Ok items) }
-    ensures err { IfErr result (λ e. T.free e ≡ false → items_of T.reads block.now ≡ Err e) }
-    ensures no_fault { IfErr result (λ e. e ≢ T.refuses errors.ReadFault) }
+fn decode_items<T: SshLayout>(alloc: Global, block: &[u8]) -> Result<List<T>, T::Error>
+    ensures gives { Gives (T.Error.of_wire errors.NoMemory) (λ items. items) result
+        (read_all T.layout block.now) }
+    ensures no_fault { IfErr result (λ e. e ≢ T.Error.of_wire errors.ReadFault) }
 {
     let mut items = List::new(alloc);
     let mut rest = SliceSource::new(block);
@@ -78,24 +66,19 @@ fn decode_items<T: SshElement>(
 /// Writes the items' spellings, joined, as a string field.
 ///
 /// Refuses, in order: `T`'s error for `TooLong`, where they have 2^32 bytes or more, and for `WriteFault`.
-pub fn encode_list<T: SshElement, S: Sink>(
+pub fn encode_list<T: SshComplexTypeEncode, S: Sink>(
     items: &[T],
     stream: &mut S,
-) -> Result<(), <T as SshComplexTypeEncode>::Error>
-    requires { All T.takes items.now }
-    ensures written { S.tells stream.old → Writes result (string_of (flat_map T.spelling items.now))
-        (S.written stream.old) (S.written stream.new) }
+) -> Result<(), T::Error>
+    requires { All (λ item. T.write_reason item ≡ None) items.now }
+    ensures puts { length (flat_map T.spelling items.now) < 2 ^ 32
+        → Puts S.tells S.written S.faults (T.Error.of_wire errors.WriteFault)
+        (string_of (flat_map T.spelling items.now)) result stream.old stream.new }
 
     // Too long a list is refused before anything is written.
     ensures too_long { 2 ^ 32 ≤ length (flat_map T.spelling items.now)
-        → (result ≡ Err (T.write_refuses errors.TooLong)) × (stream.new ≡ stream.old) }
-    ensures cause { length (flat_map T.spelling items.now) < 2 ^ 32
-        → IfErr result (λ e. (e ≡ T.write_refuses errors.WriteFault)
-        × Rose (S.faults stream.old) (S.faults stream.new)) }
-
+        → (result ≡ Err (T.Error.of_wire errors.TooLong)) × (stream.new ≡ stream.old) }
     ensures keeps { OnOk result (All T.keeps items.now) }
-    ensures told { S.tells stream.old → S.tells stream.new }
-    ensures never_falls { S.faults stream.old ≤ S.faults stream.new }
 {
     let len = match block_len(items) {
         Some(len) => len,
@@ -112,7 +95,7 @@ pub fn encode_list<T: SshElement, S: Sink>(
 }
 
 /// How long the items' spellings are together, where a string can hold them.
-fn block_len<T: SshElement>(items: &[T]) -> Option<u32>
+fn block_len<T: SshComplexTypeEncode>(items: &[T]) -> Option<u32>
     ensures len { MatchOption result (2 ^ 32 ≤ length (flat_map T.spelling items.now))
         (λ len. len ≡ length (flat_map T.spelling items.now)) }
     ensures keeps { OnSome result (All T.keeps items.now) }
@@ -128,17 +111,13 @@ fn block_len<T: SshElement>(items: &[T]) -> Option<u32>
 }
 
 /// Writes the items' spellings one after another.
-fn encode_items<T: SshElement, S: Sink>(
+fn encode_items<T: SshComplexTypeEncode, S: Sink>(
     items: &[T],
     stream: &mut S,
-) -> Result<(), <T as SshComplexTypeEncode>::Error>
-    requires { All T.takes items.now }
-    ensures written { S.tells stream.old → Writes result (flat_map T.spelling items.now)
-        (S.written stream.old) (S.written stream.new) }
-    ensures cause { IfErr result (λ e. (e ≡ T.write_refuses errors.WriteFault)
-        × Rose (S.faults stream.old) (S.faults stream.new)) }
-    ensures told { S.tells stream.old → S.tells stream.new }
-    ensures never_falls { S.faults stream.old ≤ S.faults stream.new }
+) -> Result<(), T::Error>
+    requires { All (λ item. T.write_reason item ≡ None) items.now }
+    ensures { Puts S.tells S.written S.faults (T.Error.of_wire errors.WriteFault)
+        (flat_map T.spelling items.now) result stream.old stream.new }
 {
     'items: for item in items {
         match item.encode(stream) {

@@ -104,7 +104,7 @@ impl Eq for Mpint {
 }
 
 /// The bytes from the first that isn't zero.
-fn after_zeros(bytes: &[u8]) -> &[u8]
+pub(crate) fn after_zeros(bytes: &[u8]) -> &[u8]
     ensures { result.now ≡ without_zeros bytes.now }
 {
     let mut rest = bytes;

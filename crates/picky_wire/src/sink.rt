@@ -2,7 +2,7 @@
 
 ghost use Rattle.std.specs.Prelude.{◌≡◌, ◌^◌, ◌<◌, ◌≤◌, ◌-◌, ◌++◌, ◌↔◌, [], ℕ, List, true, take, length, min, IfOk, OnOk, OnErr, IsErr, vec_len, vec_capacity};
 ghost use Rattle.std.proofs.Common.{arith};
-ghost use Rattle.picky_wire.specs.Count.{Rose, failed};
+ghost use Rattle.picky_wire.specs.Count.{Keeps, failed};
 ghost use Rattle.picky_wire.specs.Memory.{Taken, is_refused, taken_len, after_taken};
 
 use crate::calls::FailingCalls;
@@ -27,9 +27,7 @@ pub trait Sink {
         ensures appended { tells self.old
             → IfOk result (λ n. written self.new ≡ written self.old ++ take n piece.now) }
         ensures kept { tells self.old → OnErr result (written self.new ≡ written self.old) }
-        ensures told { tells self.old → tells self.new }
-        ensures failed_only_if_counted { OnErr result (Rose (faults self.old) (faults self.new)) }
-        ensures never_falls { faults self.old ≤ faults self.new };
+        ensures keeps { Keeps tells faults result self.old self.new };
 
     ghost in_range: { (s : Self) → faults s < 2 ^ 64 };
 }
@@ -116,12 +114,7 @@ impl Sink for MemorySink {
         ensures appended { Unit {0}
             → IfOk result (λ n. self.new.written ≡ self.old.written ++ take n piece.now) }
         ensures kept { Unit {0} → OnErr result (self.new.written ≡ self.old.written) }
-        ensures told { Unit {0} → Unit {0} }
-        ensures failed_only_if_counted { OnErr result
-            (Rose (min self.old.calls.faults (2 ^ 64 - 1))
-            (min self.new.calls.faults (2 ^ 64 - 1))) }
-        ensures never_falls { min self.old.calls.faults (2 ^ 64 - 1) ≤ min self.new.calls.faults
-            (2 ^ 64 - 1) }
+        ensures keeps { Keeps (λ _. Unit {0}) (λ s. min s.calls.faults (2 ^ 64 - 1)) result self.old self.new }
     {
         if self.is_refused(piece) {
             self.calls.count_failed();

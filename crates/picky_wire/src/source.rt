@@ -1,9 +1,9 @@
 //! Where bytes come from.
 
-ghost use Rattle.std.specs.Prelude.{◌≡◌, ◌^◌, ◌<◌, ◌≤◌, ◌-◌, ◌++◌, ◌↔◌, [], ℕ, List, Option, Some, None, true, take, drop, length, min, IfOk, OnOk, OnErr, IsOk, IsErr, vec_len};
+ghost use Rattle.std.specs.Prelude.{◌≡◌, ◌^◌, ◌<◌, ◌≤◌, ◌-◌, ◌++◌, ◌↔◌, [], ℕ, List, Option, Some, None, true, take, drop, length, min, IfOk, OnOk, OnErr, IsOk, IsErr, IsSome, vec_len};
 ghost use Rattle.std.proofs.Common.{arith, lit<};
 ghost use Rattle.picky_layout.specs.Numbers.{IsBytes};
-ghost use Rattle.picky_wire.specs.Count.{Rose, next_fails, failed};
+ghost use Rattle.picky_wire.specs.Count.{Keeps, next_fails, failed};
 ghost use Rattle.picky_wire.specs.Memory.{Given, given, after_given};
 
 use crate::calls::FailingCalls;
@@ -32,9 +32,10 @@ pub trait Source {
             → IfOk result (λ n. left self.old ≡ take n buffer.new ++ left self.new) }
         ensures end { tells self.old → result ≡ Ok 0 → 0 < length buffer.old → left self.old ≡ [] }
         ensures kept { tells self.old → OnErr result (left self.new ≡ left self.old) }
-        ensures told { tells self.old → tells self.new }
-        ensures failed_only_if_counted { OnErr result (Rose (faults self.old) (faults self.new)) }
-        ensures never_falls { faults self.old ≤ faults self.new };
+        ensures keeps { Keeps tells faults result self.old self.new }
+
+        // A source that knows what is left goes on knowing it.
+        ensures knows_on { IsSome (known self.old) → IsSome (known self.new) };
 
     /// How many bytes are left, where the source knows it.
     fn known_left(&self) -> Option<usize>
@@ -104,9 +105,7 @@ impl Source for SliceSource<'_> {
         ensures taken { IfOk result (λ n. self.old ≡ take n buffer.new ++ self.new) }
         ensures end { result ≡ Ok 0 → 0 < length buffer.old → self.old ≡ [] }
         ensures kept { OnErr result (self.new ≡ self.old) }
-        ensures told { IsBytes self.new }
-        ensures failed_only_if_counted { OnErr result (Rose 0 0) }
-        ensures never_falls { 0 ≤ 0 }
+        ensures keeps { Keeps IsBytes (λ _. 0) result self.old self.new }
     {
         let n = buffer.len().min(self.rest.len());
         let (front, rest) = self.rest.split_at(n);
@@ -194,12 +193,7 @@ impl Source for MemorySource {
         ensures taken { IfOk result (λ n. self.old.left ≡ take n buffer.new ++ self.new.left) }
         ensures end { result ≡ Ok 0 → 0 < length buffer.old → self.old.left ≡ [] }
         ensures kept { OnErr result (self.new.left ≡ self.old.left) }
-        ensures told { IsBytes self.new.left }
-        ensures failed_only_if_counted { OnErr result
-            (Rose (min self.old.calls.faults (2 ^ 64 - 1))
-            (min self.new.calls.faults (2 ^ 64 - 1))) }
-        ensures never_falls { min self.old.calls.faults (2 ^ 64 - 1) ≤ min self.new.calls.faults
-            (2 ^ 64 - 1) }
+        ensures keeps { Keeps (λ s. IsBytes s.left) (λ s. min s.calls.faults (2 ^ 64 - 1)) result self.old self.new }
     {
         if self.calls.next_fails() {
             self.calls.count_failed();

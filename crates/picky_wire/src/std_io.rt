@@ -2,7 +2,7 @@
 
 ghost use Rattle.std.specs.Prelude.{◌≡◌, ◌^◌, ◌<◌, ◌≤◌, ◌-◌, ◌++◌, ◌↔◌, [], ℕ, Ok, Some, None, IsSome, IfOk, OnOk, OnErr, take, length, min};
 ghost use Rattle.std.proofs.Common.{arith};
-ghost use Rattle.picky_wire.specs.Count.{Rose, count_one};
+ghost use Rattle.picky_wire.specs.Count.{Keeps, count_one};
 ghost use Rattle.picky_wire.specs.Known.{known_or_nil, TellsBytes};
 
 use crate::error::Failed;
@@ -56,9 +56,7 @@ impl<R: Read> Source for StdSource<R> {
             → known_or_nil (R.remaining self.old.inner) ≡ [] }
         ensures kept { IsSome (R.remaining self.old.inner)
             → OnErr result (known_or_nil (R.remaining self.new.inner) ≡ known_or_nil (R.remaining self.old.inner)) }
-        ensures told { TellsBytes (R.remaining self.old.inner) → TellsBytes (R.remaining self.new.inner) }
-        ensures failed_only_if_counted { OnErr result (Rose (min self.old.faults (2 ^ 64 - 1)) (min self.new.faults (2 ^ 64 - 1))) }
-        ensures never_falls { min self.old.faults (2 ^ 64 - 1) ≤ min self.new.faults (2 ^ 64 - 1) }
+        ensures keeps { Keeps (λ s. TellsBytes (R.remaining s.inner)) (λ s. min s.faults (2 ^ 64 - 1)) result self.old self.new }
     {
         match self.inner.read(buffer) {
             Ok(n) => Ok(n),
@@ -112,9 +110,7 @@ impl<W: Write> Sink for StdSink<W> {
             known_or_nil (W.contents self.new.inner) ≡ known_or_nil (W.contents self.old.inner) ++ take n piece.now) }
         ensures kept { IsSome (W.contents self.old.inner)
             → OnErr result (known_or_nil (W.contents self.new.inner) ≡ known_or_nil (W.contents self.old.inner)) }
-        ensures told { IsSome (W.contents self.old.inner) → IsSome (W.contents self.new.inner) }
-        ensures failed_only_if_counted { OnErr result (Rose (min self.old.faults (2 ^ 64 - 1)) (min self.new.faults (2 ^ 64 - 1))) }
-        ensures never_falls { min self.old.faults (2 ^ 64 - 1) ≤ min self.new.faults (2 ^ 64 - 1) }
+        ensures keeps { Keeps (λ s. IsSome (W.contents s.inner)) (λ s. min s.faults (2 ^ 64 - 1)) result self.old self.new }
     {
         match self.inner.write(piece) {
             Ok(n) if n > 0 || piece.is_empty() => Ok(n),

@@ -5,10 +5,13 @@ ghost use Rattle.std.proofs.Common.{lit<};
 ghost use Rattle.picky_layout.specs.Numbers.{IsBytes};
 
 use crate::{
-    Bytes, Failed, FailingCalls, List, MemorySink, MemorySource, Mpint, Sink, SliceSource, Source,
-    SshComplexTypeDecode, SshComplexTypeEncode, SshElement, SshReadExt, SshWriteExt, StdSink,
-    StdSource, Text, Timestamp, TryClone, WireError, decode_list, decode_principals, encode_list,
-    encode_principals, laws, read_byte, read_uint32, read_uint64, write_all,
+    Bytes, CodecError, Failed, FailingCalls, List, MemorySink, MemorySource, Mpint, Part, Piece,
+    Sink, SliceSource, Source, SshComplexTypeDecode, SshComplexTypeEncode, SshElement, SshLayout,
+    SshReadExt, SshWriteExt, StdSink, StdSource, Stop, Stuck, Text, Timestamp, TryClone, WireError,
+    decode_list, decode_principals, encode_list, encode_principals, laws, mpint_at, pieces_len,
+    read_byte, read_uint32, read_uint64, sized_at, string_at, take_byte, take_bytes, take_mpint,
+    take_text, take_uint32, take_uint64, text_at, uint32_at, word_at, write_all, write_piece,
+    write_pieces,
 };
 use std::alloc::Global;
 use std::test::Fail;
@@ -491,10 +494,7 @@ fn is_read_back<T: SshElement + PartialEq>(
     alloc: Global,
     value: &T,
     len: u64,
-) -> Result<bool, <T as SshComplexTypeDecode>::Error>
-where
-    <T as SshComplexTypeEncode>::Error: Drop,
-{
+) -> Result<bool, <T as SshComplexTypeDecode>::Error> {
     let mut sink = match MemorySink::new(alloc, 100, 3, &[]) {
         Ok(sink) => sink,
         Err(_) => return Err(T::refusal(WireError::NoMemory)),
@@ -516,6 +516,7 @@ fn elements_are_read_back(rt: HostRuntime) -> Result<(), Fail> {
     assert!(rt; is_read_back(alloc, &Text::new(alloc, "ab")?, 6)?);
     assert!(rt; Text::no_memory(&Text::refusal(WireError::NoMemory)));
     assert!(rt; !Timestamp::no_memory(&Timestamp::refusal(WireError::TooLong)));
+    assert!(rt; !WireError::from_wire(WireError::ReadFault).is_no_memory());
     assert_eq!(rt; Text::write_refusal(WireError::TooLong), WireError::TooLong);
     assert_eq!(rt;
         Timestamp::write_refusal(WireError::WriteFault),
@@ -525,6 +526,7 @@ fn elements_are_read_back(rt: HostRuntime) -> Result<(), Fail> {
     laws::elements_are_read_one_way::<Timestamp>();
     laws::elements_are_read_back::<Text>();
     laws::blocks_are_refused_at_one_place::<Text>();
+    laws::no_piece_is_a_front_of_another::<Timestamp>();
     Ok(())
 }
 
@@ -555,8 +557,153 @@ fn passes_on_std(rt: HostRuntime) -> Result<(), Fail> {
         let mut sink = StdSink::new(room.as_mut_slice());
         write_all(&mut sink, b"ab")?;
         // A slice of std takes nothing where it has no room.
-        assert_eq!(rt; write_all(&mut sink, b"cde"), Err(Failed));
+        assert_eq!(rt; write_all(&mut sink, b"cde"), Err(WireError::WriteFault));
     }
     assert_eq!(rt; room.as_slice(), b"abcd".as_slice());
+    Ok(())
+}
+
+// RFC 4251, section 5: a uint32, a string, a name-list, and the mpints 0, 9a378f9b2e332a7 and 80.
+static FIELDS: [u8; 50] =
+    *b"\x29\xb7\xf4\xaa\0\0\0\x07testing\0\0\0\x09zlib,none\0\0\0\0\0\0\0\x08\x09\xa3\x78\xf9\xb2\xe3\x32\xa7\0\0\0\x02\0\x80";
+
+#[test]
+fn layouts_fields_are_taken(rt: HostRuntime) -> Result<(), Fail> {
+    let alloc = rt.alloc();
+    let mut source = SliceSource::new(FIELDS.as_slice());
+    assert_eq!(rt; take_uint32(&mut source)?, 699921578);
+    assert_eq!(rt; take_text(alloc, &mut source)?.as_str(), "testing");
+    assert_eq!(rt;
+        take_bytes(alloc, &mut source)?.as_slice(),
+        b"zlib,none".as_slice()
+    );
+    assert_eq!(rt; take_mpint(alloc, &mut source)?.bytes(), b"".as_slice());
+    assert_eq!(rt;
+        take_mpint(alloc, &mut source)?.bytes(),
+        b"\x09\xa3\x78\xf9\xb2\xe3\x32\xa7".as_slice()
+    );
+    assert_eq!(rt; take_mpint(alloc, &mut source)?.bytes(), b"\x80".as_slice());
+    assert_eq!(rt; take_byte(&mut source), Err(Stop::Short));
+    let mut numbers = SliceSource::new(b"\x05\0\0\0\0\0\0\x01\x02");
+    assert_eq!(rt; take_byte(&mut numbers)?, 5);
+    assert_eq!(rt; take_uint64(&mut numbers)?, 258);
+    Ok(())
+}
+
+#[test]
+fn pieces_are_joined(rt: HostRuntime) -> Result<(), Fail> {
+    let alloc = rt.alloc();
+    let text = Text::new(alloc, "testing")?;
+    let bytes = Bytes::new(alloc, b"zlib,none")?;
+    let zero = Mpint::from_be(alloc, b"")?;
+    let number = Mpint::from_be(alloc, b"\x09\xa3\x78\xf9\xb2\xe3\x32\xa7")?;
+    let high = Mpint::from_be(alloc, b"\x80")?;
+    let pieces = [
+        Piece::uint32(699921578),
+        Piece::text(&text),
+        Piece::bytes(&bytes),
+        Piece::mpint(&zero),
+        Piece::mpint(&number),
+        Piece::mpint(&high),
+        Piece::none(),
+    ];
+    let mut sink = MemorySink::new(alloc, 100, 7, &[])?;
+    write_pieces(&mut sink, pieces.as_slice())?;
+    assert_eq!(rt; sink.written(), FIELDS.as_slice());
+    assert_eq!(rt; pieces_len(pieces.as_slice()), 50);
+    let mut sink = MemorySink::new(alloc, 100, 7, &[])?;
+    write_piece(&mut sink, &Piece::byte(5))?;
+    write_piece(&mut sink, &Piece::uint64(258))?;
+    write_piece(&mut sink, &Piece::string(b"ab"))?;
+    assert_eq!(rt;
+        sink.written(),
+        b"\x05\0\0\0\0\0\0\x01\x02\0\0\0\x02ab".as_slice()
+    );
+    let piece = Piece::string(b"ab");
+    let (head, body) = piece.parts();
+    assert_eq!(rt; head, b"\0\0\0\x02".as_slice());
+    assert_eq!(rt; body, b"ab".as_slice());
+    Ok(())
+}
+
+#[test]
+fn fields_are_seen_at_their_places(rt: HostRuntime) -> Result<(), Fail> {
+    let blob = FIELDS.as_slice();
+    assert_eq!(rt; uint32_at(blob, 0), Ok((699921578, 4)));
+    assert_eq!(rt; uint32_at(blob, 47), Err(Stuck::Short));
+    assert_eq!(rt; uint32_at(blob, 51), Err(Stuck::Short));
+    assert_eq!(rt;
+        string_at(blob, 44),
+        Ok((
+            Part {
+                at: 48,
+                bytes: b"\0\x80"
+            },
+            50
+        ))
+    );
+    assert_eq!(rt; string_at(blob, 0), Err(Stuck::Short));
+    assert_eq!(rt;
+        text_at(blob, 15),
+        Ok((
+            Part {
+                at: 19,
+                bytes: b"zlib,none"
+            },
+            28
+        ))
+    );
+    assert_eq!(rt; text_at(blob, 32), Err(Stuck::NotUtf8));
+    let (word, next) = word_at(blob, 4)?;
+    assert_eq!(rt; word.text, "testing");
+    assert_eq!(rt;
+        word.part,
+        Part {
+            at: 8,
+            bytes: b"testing"
+        }
+    );
+    assert_eq!(rt; word.part.as_str(), Some("testing"));
+    assert_eq!(rt; next, 15);
+    assert_eq!(rt;
+        sized_at(blob, 15, 9),
+        Ok((
+            Part {
+                at: 19,
+                bytes: b"zlib,none"
+            },
+            28
+        ))
+    );
+    assert_eq!(rt; sized_at(blob, 15, 8), Err(Stuck::Length));
+    assert_eq!(rt; mpint_at(blob, 28), Ok((Part { at: 32, bytes: b"" }, 32)));
+    assert_eq!(rt;
+        mpint_at(blob, 32),
+        Ok((
+            Part {
+                at: 36,
+                bytes: b"\x09\xa3\x78\xf9\xb2\xe3\x32\xa7"
+            },
+            44
+        ))
+    );
+    assert_eq!(rt;
+        mpint_at(blob, 44),
+        Ok((
+            Part {
+                at: 49,
+                bytes: b"\x80"
+            },
+            50
+        ))
+    );
+    assert_eq!(rt;
+        Part {
+            at: 36,
+            bytes: b"\x09\xa3"
+        }
+        .as_str(),
+        None
+    );
     Ok(())
 }

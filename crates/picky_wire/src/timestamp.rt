@@ -1,17 +1,16 @@
 //! A moment, as certificates have it.
 
-ghost use Rattle.std.specs.Prelude.{◌≡◌, ◌^◌, ◌<◌, IfOk, IsOk, refl};
+ghost use Rattle.std.specs.Prelude.{◌≡◌, ◌^◌, ◌<◌, None, IfOk, IsOk, refl};
 ghost use Rattle.std.specs.Int.{w64, to_be_bytes};
-ghost use Rattle.picky_wire.specs.Element.{is_no_memory};
-ghost use Rattle.picky_wire.specs.Moment.{timestamp, timestamp_spells, timestamp_solid};
+ghost use Rattle.picky_wire.specs.Moment.{timestamp, timestamp_spells, timestamp_own, timestamp_solid};
 
 use crate::copy::TryClone;
-use crate::element::{SshComplexTypeDecode, SshComplexTypeEncode, SshElement};
+use crate::element::{SshComplexTypeDecode, SshComplexTypeEncode, SshElement, SshLayout};
 use crate::error::{NoMemory, WireError};
+use crate::piece::{Piece, write_piece};
 use crate::read::read_uint64;
 use crate::sink::Sink;
 use crate::source::Source;
-use crate::write::write_all;
 use std::alloc::Global;
 
 /// The seconds since 1970-01-01T00:00:00Z.
@@ -49,19 +48,14 @@ impl SshComplexTypeEncode for Timestamp {
 
     ghost spelling = { λ t. to_be_bytes w64 t.0 };
 
-    ghost takes = { λ _. Unit {0} };
+    ghost write_reason = { λ _. None };
 
     ghost keeps = { λ t. t.0 < 2 ^ 64 };
 
-    ghost write_refuses = { λ e. e };
-
-    ghost write_from = { λ e x same. same };
+    ghost reason_is_no_want = { λ v same. Prim.cc same };
 
     fn encode<S: Sink>(&self, stream: &mut S) -> Result<(), WireError> {
-        match write_all(stream, &self.0.to_be_bytes()) {
-            Ok(()) => Ok(()),
-            Err(_) => Err(WireError::WriteFault),
-        }
+        write_piece(stream, &Piece::uint64(self.0))
     }
 
     fn spelling_len(&self) -> u64 {
@@ -75,12 +69,11 @@ impl SshComplexTypeDecode for Timestamp {
 
     ghost reads = { timestamp.read };
 
-    ghost free = { is_no_memory };
+    ghost used = { timestamp.used };
 
-    ghost refuses = { λ e. e };
+    ghost own = { timestamp_own };
 
-    ghost read_from = { λ e x same. same };
-
+    #[tactic(auto, unfolding(crate::specs::Moment::timestamp))]
     fn decode<S: Source>(_alloc: Global, stream: &mut S) -> Result<Timestamp, WireError> {
         match read_uint64(stream) {
             Ok(secs) => Ok(Timestamp(secs)),
@@ -89,30 +82,20 @@ impl SshComplexTypeDecode for Timestamp {
     }
 }
 
-impl SshElement for Timestamp {
-    ghost piece = { timestamp.piece };
+impl SshLayout for Timestamp {
+    ghost layout = { timestamp };
 
-    ghost sound = { timestamp.sound };
+    ghost reads_layout = { λ bytes. refl };
 
-    ghost complete = { timestamp.complete };
-
-    ghost spelled = { λ t keeps _. timestamp_spells t keeps };
+    ghost used_layout = { λ bytes. refl };
 
     ghost solid = { timestamp_solid };
-
-    ghost fault_apart = { λ e same. same };
-
-    ghost frees = { λ e. refl };
-
-    fn no_memory(error: &WireError) -> bool {
-        matches!(error, WireError::NoMemory)
-    }
 
     fn refusal(error: WireError) -> WireError {
         error
     }
+}
 
-    fn write_refusal(error: WireError) -> WireError {
-        error
-    }
+impl SshElement for Timestamp {
+    ghost spelled = { λ v keeps _. timestamp_spells v keeps };
 }

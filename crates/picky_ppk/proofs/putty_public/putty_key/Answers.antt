@@ -1,9 +1,8 @@
 -- The blob's length says which.
-use Rattle.std.proofs.Common.{refl, ap, sym}
+use Rattle.std.proofs.Common.{inl, inr, refl, sym}
 use Rattle.picky_layout.specs.Outcome.{passed_ok}
 use Rattle.picky_sshpub.specs.Blob.{blob_of}
 use Rattle.picky_sshpub.specs.LineRefusal.{is_short, blob_bytes}
-use Rattle.picky_sshpub.specs.FromWire.{no_memory}
 use Rattle.picky_sshpub.specs.declared.error.SshPublicKeyError.TheVariants as public
 use Rattle.picky_ppk.specs.PuttyRefusal.{of_openssh}
 use Rattle.picky_ppk.proofs.PuttyLemmas.{failed}
@@ -17,7 +16,9 @@ returns-in-Ok c =
 
 pub returns-in-Err-TooLong : goal.returns-in-Err-TooLong
 unfolding of_openssh blob_bytes
-returns-in-Err-TooLong c = λ _.
-    let known = ap no_memory c.in-Err-TooLong.field-0-is in
-    let long = failed (is_short (blob_of c.args.inner_key.now)) public.TooLong _ _ (c.in-Err-TooLong.ensures known) in
-    rw (sym c.if-is_hardware.ensures, long) refl
+returns-in-Err-TooLong c = elim (rw c.in-Err-TooLong.field-0-is at c.in-Err-TooLong.ensures) [
+  | inl memory ↦ cc memory
+  | inr refused ↦
+      let long = failed (is_short (blob_of c.args.inner_key.now)) public.TooLong _ _ refused in
+      inr (rw (sym c.if-is_hardware.ensures, long) refl)
+]

@@ -1,5 +1,6 @@
 -- What was taken so far is a front of the bytes, and no byte of it ends a line.
 use Rattle.std.proofs.Common.{◌≡◌, ◌≤◌, ◌-◌, ◌^◌, ◌++◌, vec_len}
+use Rattle.std.specs.Prelude.{IsSome}
 use Rattle.picky_sshpub.specs.SourceLaws.{Stays}
 use Rattle.picky_sshpub.proofs.source_line.take_line.Given as goal
 
@@ -10,7 +11,8 @@ invariant-bytes g l = record {
   taken : g.S.Source.tells l.initial.stream
       → g.S.Source.left l.initial.stream ≡ l.line.items ++ g.S.Source.left l.stream;
   told : g.S.Source.tells l.initial.stream → g.S.Source.tells l.stream;
-  never_falls : g.S.Source.faults l.initial.stream ≤ g.S.Source.faults l.stream;
+  knows : IsSome (g.S.Source.known l.initial.stream) → IsSome (g.S.Source.known l.stream);
+  calm : g.S.Source.faults l.stream ≡ g.S.Source.faults l.initial.stream;
 }
 
 abbrev pub decreases-bytes : goal.decreases-bytes

@@ -1,8 +1,6 @@
-use Rattle.picky_wire.specs.Element.{grammar_of}
-use Rattle.picky_wire.specs.Laws.{items_stuck}
+-- The first place where no value is spelled is the list's.
+use Rattle.picky_wire.specs.Laws.{values_stuck}
 use Rattle.picky_wire.proofs.laws.blocks_are_refused_at_one_place.Goals as goal
 
 pub returns : goal.returns
-returns g c =
-    let t = g.met.T.SshElement in
-    items_stuck (grammar_of g.T.SshElement.piece g.T.SshComplexTypeDecode.reads t.sound t.complete)
+returns g c = values_stuck g.T.SshLayout.layout

@@ -1,17 +1,22 @@
-use Rattle.picky_wire.specs.Element.{grammar_of}
-use Rattle.picky_wire.specs.Laws.{list_reads_back}
+-- What is spelled is read, whatever follows.
+use Rattle.std.proofs.Common.{◌∙◌}
+use Rattle.std.specs.List.{flat_map}
+use Rattle.std.specs.Prelude.{◌≡◌, None}
+use Rattle.picky_layout.specs.Many.{many_reads_back}
 use Rattle.picky_wire.proofs.ListLemmas.{spellings_are_row}
 use Rattle.picky_wire.proofs.laws.elements_are_read_back.Goals as goal
 
 pub returns : goal.returns
 returns g c =
-    let t = g.met.T.SshElement in
+    let t = g.met.T.SshLayout in
+    let e = g.met.T.SshElement in
     let spelling = g.T.SshComplexTypeEncode.spelling in
-    let G = grammar_of g.T.SshElement.piece g.T.SshComplexTypeDecode.reads t.sound t.complete in
+    let G = g.T.SshLayout.layout in
     record {
-      element = λ v rest keeps takes. t.complete v (spelling v) rest (t.spelled v keeps takes);
-      list = λ vs rest keep take short.
-          list_reads_back g.T.SshComplexTypeDecode.refuses G t.solid spelling vs rest
-          (spellings_are_row g.T.SshElement.piece spelling g.T.SshComplexTypeEncode.keeps g.T.SshComplexTypeEncode.takes t.spelled vs keep take)
+      element = λ v rest keeps takes.
+          t.reads_layout _ ∙ G.complete v (spelling v) rest (e.spelled v keeps takes);
+      list = λ vs rest keep take short cut.
+          many_reads_back cut G t.solid vs (flat_map spelling vs) rest
+          (spellings_are_row G.piece spelling g.T.SshComplexTypeEncode.keeps (λ v. g.T.SshComplexTypeEncode.write_reason v ≡ None) e.spelled vs keep take)
           short;
     }

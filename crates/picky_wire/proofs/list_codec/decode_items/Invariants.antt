@@ -1,13 +1,13 @@
 -- The values taken so far, and then those of the rest, are all.
 use Rattle.std.proofs.Common.{◌≡◌, length}
+use Rattle.picky_layout.specs.Row.{read_all}
 use Rattle.picky_layout.specs.Steps.{following}
-use Rattle.picky_wire.specs.ListOf.{items_of}
 use Rattle.picky_wire.proofs.list_codec.decode_items.Given as goal
 
 abbrev pub invariant-items : goal.invariant-items
 invariant-items g l =
-    following l.items (items_of g.T.SshComplexTypeDecode.reads l.rest)
-    ≡ items_of g.T.SshComplexTypeDecode.reads l.block
+    following l.items (read_all g.T.SshLayout.layout l.rest)
+    ≡ read_all g.T.SshLayout.layout l.block
 
 abbrev pub decreases-items : goal.decreases-items
 decreases-items g l = length l.rest

@@ -1,9 +1,16 @@
--- Where the block was read, the whole string was taken.
-use Rattle.picky_layout.specs.Wire.{string}
-use Rattle.picky_wire.proofs.FieldLemmas.{whole_taken}
-use Rattle.picky_wire.proofs.ListLemmas.{OnErr_always}
+-- A list is taken as its string is.
+use Rattle.std.proofs.Common.{ap, length, arith}
+use Rattle.picky_wire.proofs.ListLemmas.{list_takes, list_cause}
 use Rattle.picky_wire.proofs.list_codec.decode_list.Goals as goal
 
-pub returns-in-Ok-clause-front : goal.returns-in-Ok-clause-front
-returns-in-Ok-clause-front g c = λ told.
-    OnErr_always c.decode_items.result _ (whole_taken string _ _ _ (c.in-Ok.ensures.field told))
+pub returns-in-Ok-clause-takes : goal.returns-in-Ok-clause-takes
+returns-in-Ok-clause-takes g c =
+    list_takes g.S.Source.tells g.S.Source.left g.S.Source.known g.S.Source.faults g.T.Error.CodecError.of_wire
+    g.T.SshLayout.layout c.in-Ok.block c.decode_items.result c.args.stream.now c.read_ssh_bytes.new.self c.in-Ok.ensures.takes
+    (rw c.as_slice.ensures.bytes at c.decode_items.ensures.gives) c.decode_items.ensures.no_fault
+
+pub returns-in-Ok-clause-cause : goal.returns-in-Ok-clause-cause
+returns-in-Ok-clause-cause g c =
+    list_cause g.T.Error.CodecError.of_wire g.T.SshLayout.layout c.in-Ok.block c.decode_items.result _
+    (omega (arith, c.as_slice.ensures.short, ap length c.as_slice.ensures.bytes))
+    (rw c.as_slice.ensures.bytes at c.decode_items.ensures.gives)

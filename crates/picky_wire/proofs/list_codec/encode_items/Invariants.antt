@@ -1,5 +1,5 @@
 -- The spellings of the items so far were written.
-use Rattle.std.proofs.Common.{◌≡◌, ◌≤◌, ◌++◌, take}
+use Rattle.std.proofs.Common.{◌≡◌, ◌++◌, take}
 use Rattle.std.specs.List.{flat_map}
 use Rattle.picky_wire.proofs.list_codec.encode_items.Given as goal
 
@@ -9,5 +9,5 @@ invariant-items g l = record {
       ≡ g.S.Sink.written l.initial.stream
       ++ flat_map g.T.SshComplexTypeEncode.spelling (take l.item-index l.items);
   told : g.S.Sink.tells l.initial.stream → g.S.Sink.tells l.stream;
-  never_falls : g.S.Sink.faults l.initial.stream ≤ g.S.Sink.faults l.stream;
+  calm : g.S.Sink.faults l.stream ≡ g.S.Sink.faults l.initial.stream;
 }

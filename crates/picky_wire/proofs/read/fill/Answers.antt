@@ -1,28 +1,49 @@
--- What was taken stands in the buffer's front, and the field is those bytes.
-use Rattle.std.proofs.Common.{◌≤◌, ◌<◌, ap, arith, length, take, drop, ◌-◌, Ok}
-use Rattle.picky_wire.proofs.ReadLemmas.{filled, stopped, ended, more_filled, put_len, tail_len}
+-- What was taken stands in the buffer's front.
+use Rattle.std.proofs.Common.{◌≡◌, ◌≤◌, ◌<◌, ◌∙◌, ◌++◌, ap, sym, arith, length, take, drop, ◌-◌, Ok}
+use Rattle.std.proofs.lemmas.List.{take_all, length-append, length-take-le}
+use Rattle.picky_wire.proofs.CellsLemmas.{cells_read, cells_ended, cells_stopped}
+use Rattle.picky_wire.proofs.ReadLemmas.{more_filled, put_len, tail_len}
 use Rattle.picky_wire.proofs.read.fill.Goals as goal
 
-pub returns-clause-field : goal.returns-clause-field
-returns-clause-field g c = λ told.
-    filled _ c.bytes.at c.bytes.buffer _ _ c.bytes.auto.buffer c.bytes-test.false (c.bytes.invariant.taken told)
+pub returns-clause-takes : goal.returns-clause-takes
+returns-clause-takes g c =
+    cells_read g.S.Source.tells g.S.Source.left g.S.Source.known g.S.Source.faults (length c.args.buffer.now) c.bytes.buffer
+    c.args.source.now c.bytes.source c.bytes.auto.buffer
+    (λ told. c.bytes.invariant.taken told ∙ ap (λ f. f ++ g.S.Source.left c.bytes.source) (take_all c.bytes.at c.bytes.buffer c.bytes-test.false))
+    (record { told = c.bytes.invariant.told; knows = c.bytes.invariant.knows }) c.bytes.invariant.calm
 
-pub returns-in-Ok-eq0-clause-field : goal.returns-in-Ok-eq0-clause-field
-returns-in-Ok-eq0-clause-field g c = λ told.
+pub returns-in-Ok-eq0-clause-takes : goal.returns-in-Ok-eq0-clause-takes
+returns-in-Ok-eq0-clause-takes g c =
+    cells_ended g.S.Source.tells g.S.Source.left g.S.Source.known g.S.Source.faults (length c.args.buffer.now)
+    c.args.source.now c.read.new.self
+    (λ told.
     let told_now = c.bytes.invariant.told told in
-    let few : c.bytes.at < length c.args.buffer.now = omega arith in
     let room : 0 < length (take (length c.bytes.buffer - c.bytes.at) (drop c.bytes.at c.bytes.buffer)) = omega (arith, tail_len c.bytes.at c.bytes.buffer) in
     let empty = c.in-Ok-eq0.ensures.end told_now (ap Ok c.in-Ok-eq0.field-0-test) room in
-    ended _ c.bytes.at c.in-Ok-eq0.field-0 c.bytes.buffer _ _ c.read.new.buffer _ c.bytes.auto.buffer few
-    (c.bytes.invariant.taken told) empty (c.in-Ok-eq0.ensures.taken told_now) c.in-Ok-eq0.field-0-test
+    let kept : g.S.Source.left c.bytes.source ≡ g.S.Source.left c.read.new.self = c.in-Ok-eq0.ensures.taken told_now ∙ ap (λ j. take j c.read.new.buffer ++ g.S.Source.left c.read.new.self) c.in-Ok-eq0.field-0-test in
+    let same = c.bytes.invariant.taken told in
+    let front = length-take-le c.bytes.at c.bytes.buffer c.bytes.invariant.within in (
+      take c.bytes.at c.bytes.buffer,
+      same ∙ ap (λ r. take c.bytes.at c.bytes.buffer ++ r) kept,
+      omega (arith, ap length same, length-append (take c.bytes.at c.bytes.buffer) (g.S.Source.left c.bytes.source), ap length empty, front),
+    ))
+    (record { told = λ told. c.in-Ok-eq0.ensures.keeps.told (c.bytes.invariant.told told); knows = λ known. c.in-Ok-eq0.ensures.knows_on (c.bytes.invariant.knows known) })
+    (c.in-Ok-eq0.ensures.keeps.calm ∙ c.bytes.invariant.calm)
 
-pub returns-in-Err-clause-field : goal.returns-in-Err-clause-field
-returns-in-Err-clause-field g c = λ told.
-    let told_now = c.bytes.invariant.told told in
-    let few : c.bytes.at ≤ length c.args.buffer.now = omega arith in (
-      omega (arith, c.bytes.invariant.never_falls, c.in-Err.ensures.failed_only_if_counted),
-      stopped _ c.bytes.at c.bytes.buffer _ _ _ c.bytes.auto.buffer few (c.bytes.invariant.taken told) (c.in-Err.ensures.kept told_now),
-    )
+pub returns-in-Err-clause-takes : goal.returns-in-Err-clause-takes
+returns-in-Err-clause-takes g c =
+    cells_stopped g.S.Source.tells g.S.Source.left g.S.Source.known g.S.Source.faults (length c.args.buffer.now)
+    c.args.source.now c.read.new.self
+    (λ told.
+    let kept = c.in-Err.ensures.kept (c.bytes.invariant.told told) in
+    let front = length-take-le c.bytes.at c.bytes.buffer c.bytes.invariant.within in (
+      take c.bytes.at c.bytes.buffer,
+      c.bytes.invariant.taken told ∙ ap (λ r. take c.bytes.at c.bytes.buffer ++ r) (sym kept),
+      omega (arith, front),
+    ))
+    (record { told = λ told. c.in-Err.ensures.keeps.told (c.bytes.invariant.told told); knows = λ known. c.in-Err.ensures.knows_on (c.bytes.invariant.knows known) })
+    (omega (arith, c.in-Err.ensures.keeps.counted, c.bytes.invariant.calm))
+    (omega (arith, c.in-Err.ensures.keeps.counted, c.bytes.invariant.calm, g.met.S.Source.in_range c.bytes.source))
 
 pub bytes-preserved : goal.bytes-preserved
 bytes-preserved g c =
@@ -32,6 +53,7 @@ bytes-preserved g c =
       taken = λ told.
           more_filled c.bytes.at c.in-Ok.n c.bytes.buffer c.read.new.buffer _ _ _ _ c.bytes.invariant.within in_piece
           (c.bytes.invariant.taken told) (c.in-Ok.ensures.taken (c.bytes.invariant.told told));
-      told = λ told. c.in-Ok.ensures.told (c.bytes.invariant.told told);
-      never_falls = omega (arith, c.bytes.invariant.never_falls, c.in-Ok.ensures.never_falls);
+      told = λ told. c.in-Ok.ensures.keeps.told (c.bytes.invariant.told told);
+      knows = λ known. c.in-Ok.ensures.knows_on (c.bytes.invariant.knows known);
+      calm = c.in-Ok.ensures.keeps.calm ∙ c.bytes.invariant.calm;
     }

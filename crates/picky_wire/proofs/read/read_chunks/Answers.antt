@@ -1,20 +1,16 @@
 -- What was taken so far, and the next piece.
-use Rattle.std.proofs.Common.{◌≤◌, ◌+◌, ◌++◌, ◌∙◌, sym, ap, arith, length, take}
+use Rattle.std.proofs.Common.{◌++◌, ◌∙◌, sym, ap, arith}
 use Rattle.std.proofs.lemmas.List.{length-take-le, length-append}
-use Rattle.picky_wire.proofs.FieldLemmas.{same_cause}
-use Rattle.picky_wire.proofs.ReadLemmas.{cells-read, piece_refused, piece_stopped, piece_taken, takes_front}
+use Rattle.picky_wire.proofs.CellsLemmas.{cells_read, cells_unmade, more_takes, piece_taken_by}
 use Rattle.picky_wire.proofs.read.read_chunks.Goals as goal
 
-pub returns-in-Err-clause-field : goal.returns-in-Err-clause-field
-returns-in-Err-clause-field g c = λ told.
-    let field = c.in-Err.ensures.field (c.chunks.invariant.told told) in
+pub returns-in-Err-clause-takes : goal.returns-in-Err-clause-takes
+returns-in-Err-clause-takes g c =
     let piece = length-take-le c.min-more.result c.chunks.chunk (omega arith) in
-    let few : length c.chunks.taken.items + length (take c.min-more.result c.chunks.chunk) ≤ c.args.len = omega (arith, piece) in
-    let taken = c.chunks.invariant.taken told in (
-      same_cause c.in-Err.e _ _ _ _ (λ f refused. piece_refused _ c.args.len c.chunks.taken.items _ _ f taken few refused)
-          (λ rose. omega (arith, rose, c.chunks.invariant.never_falls)) field.0,
-      piece_stopped _ c.args.len c.chunks.taken.items _ _ _ taken few field.1,
-    )
+    more_takes g.S.Source.tells g.S.Source.left g.S.Source.known g.S.Source.faults _ c.args.len c.chunks.taken.items c.in-Err.e
+    c.args.source.now c.chunks.source c.fill.new.source (omega (arith, piece))
+    c.chunks.invariant.taken
+    (record { told = c.chunks.invariant.told; knows = c.chunks.invariant.knows }) c.chunks.invariant.calm c.in-Err.ensures.takes
 
 pub chunks-preserved : goal.chunks-preserved
 chunks-preserved g c =
@@ -22,22 +18,29 @@ chunks-preserved g c =
     record {
       within = omega (arith, piece, c.in-Ok-append_exactly.ensures.len, c.fill.auto.buffer);
       taken = λ told.
-          piece_taken _ c.chunks.taken.items _ _ c.fill.new.buffer _ (c.chunks.invariant.taken told) (c.in-Ok.ensures.field (c.chunks.invariant.told told))
+          piece_taken_by _ c.chunks.taken.items _ _ c.fill.new.buffer _ (c.chunks.invariant.taken told) (c.in-Ok.ensures.takes.answers (c.chunks.invariant.told told))
           ∙ ap (λ f. f ++ g.S.Source.left c.fill.new.source) (sym c.in-Ok-append_exactly.ensures.items);
-      told = λ told. c.in-Ok.ensures.told (c.chunks.invariant.told told);
-      never_falls = omega (arith, c.in-Ok.ensures.never_falls, c.chunks.invariant.never_falls);
+      told = λ told. c.in-Ok.ensures.takes.told (c.chunks.invariant.told told);
+      knows = λ known. c.in-Ok.ensures.takes.knows (c.chunks.invariant.knows known);
+      calm = c.in-Ok.ensures.takes.calm ∙ c.chunks.invariant.calm;
     }
 
-pub returns-in-Err-append_exactly-clause-field :
-    goal.returns-in-Err-append_exactly-clause-field
-returns-in-Err-append_exactly-clause-field g c = λ told.
+pub returns-in-Err-append_exactly-clause-takes :
+    goal.returns-in-Err-append_exactly-clause-takes
+returns-in-Err-append_exactly-clause-takes g c =
     let piece = length-take-le c.min-more.result c.chunks.chunk (omega arith) in
-    let taken = piece_taken _ c.chunks.taken.items _ _ c.fill.new.buffer _ (c.chunks.invariant.taken told) (c.in-Ok.ensures.field (c.chunks.invariant.told told)) in (
-      tt,
-      takes_front c.args.len (c.chunks.taken.items ++ c.fill.new.buffer) _ _
-          (omega (arith, piece, c.fill.auto.buffer, length-append c.chunks.taken.items c.fill.new.buffer)) taken,
-    )
+    cells_unmade g.S.Source.tells g.S.Source.left g.S.Source.known g.S.Source.faults c.args.len
+    c.args.source.now c.fill.new.source
+    (λ told. (
+      c.chunks.taken.items ++ c.fill.new.buffer,
+      piece_taken_by _ c.chunks.taken.items _ _ c.fill.new.buffer _ (c.chunks.invariant.taken told) (c.in-Ok.ensures.takes.answers (c.chunks.invariant.told told)),
+      omega (arith, piece, c.fill.auto.buffer, length-append c.chunks.taken.items c.fill.new.buffer),
+    ))
+    (record { told = λ told. c.in-Ok.ensures.takes.told (c.chunks.invariant.told told); knows = λ known. c.in-Ok.ensures.takes.knows (c.chunks.invariant.knows known) })
+    (c.in-Ok.ensures.takes.calm ∙ c.chunks.invariant.calm)
 
-pub returns-clause-field : goal.returns-clause-field
-returns-clause-field g c = λ told.
-    cells-read c.args.len c.chunks.taken.items _ _ (omega arith) (c.chunks.invariant.taken told)
+pub returns-clause-takes : goal.returns-clause-takes
+returns-clause-takes g c =
+    cells_read g.S.Source.tells g.S.Source.left g.S.Source.known g.S.Source.faults c.args.len c.chunks.taken.items
+    c.args.source.now c.chunks.source (omega arith) c.chunks.invariant.taken
+    (record { told = c.chunks.invariant.told; knows = c.chunks.invariant.knows }) c.chunks.invariant.calm

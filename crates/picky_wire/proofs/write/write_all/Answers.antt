@@ -14,6 +14,6 @@ bytes-preserved g c =
       written = λ told.
           more_written c.bytes.at c.in-Ok.n c.args.bytes.now _ _ _ (c.bytes.invariant.written told)
           (c.in-Ok.ensures.appended (c.bytes.invariant.told told));
-      told = λ told. c.in-Ok.ensures.told (c.bytes.invariant.told told);
-      never_falls = omega (arith, c.in-Ok.ensures.never_falls, c.bytes.invariant.never_falls);
+      told = λ told. c.in-Ok.ensures.keeps.told (c.bytes.invariant.told told);
+      calm = omega (arith, c.in-Ok.ensures.keeps.calm, c.bytes.invariant.calm);
     }

@@ -8,7 +8,7 @@ invariant-bytes g l = record {
   written : g.S.Sink.tells l.initial.sink
       → g.S.Sink.written l.sink ≡ g.S.Sink.written l.initial.sink ++ take l.at l.bytes;
   told : g.S.Sink.tells l.initial.sink → g.S.Sink.tells l.sink;
-  never_falls : g.S.Sink.faults l.initial.sink ≤ g.S.Sink.faults l.sink;
+  calm : g.S.Sink.faults l.sink ≡ g.S.Sink.faults l.initial.sink;
 }
 
 abbrev pub decreases-bytes : goal.decreases-bytes

@@ -1,5 +1,5 @@
 -- What std's parse reads is the number that the text writes, and it refuses the other texts.
-use Rattle.std.proofs.Common.{◌^◌, refl}
+use Rattle.std.proofs.Common.{◌^◌, refl, rules}
 use Rattle.picky_kv.specs.Numbers.{count_field, number_below_numeral, number_below_none}
 use Rattle.picky_kv.proofs.numbers.LineCountPpkField.read.Goals as goal
 
@@ -12,4 +12,4 @@ returns-in-Ok c =
 pub returns-in-Err : goal.returns-in-Err
 unfolding count_field
 returns-in-Err c =
-    rw (number_below_none (2 ^ 16) c.args.text.now c.in-Err.ensures.value.0) c.refused.ensures
+    rw (number_below_none (2 ^ 16) c.args.text.now c.in-Err.ensures.value.0) (search rules)

@@ -1,5 +1,5 @@
 -- The first line is a header, or isn't.
-use Rattle.std.proofs.Common.{sym, ◌∙◌}
+use Rattle.std.proofs.Common.{inr, sym, ◌∙◌}
 use Rattle.picky_ppk.specs.PuttyPublic.{header}
 use Rattle.picky_ppk.proofs.HeaderLemmas.{header_read, other_read}
 use Rattle.picky_ppk.proofs.putty_public.PuttyPublicKey.from_str.Goals as goal
@@ -15,4 +15,4 @@ pub returns-in-Some-2 : goal.returns-in-Some-2
 unfolding header
 returns-in-Some-2 c =
     let other = sym c.eq.ensures ∙ c.if-eq.false in
-    λ memory. other_read c.args.text.now c.in-Some.line.now _ _ c.new-lines.ensures c.in-Some.ensures.line other
+    inr (other_read c.args.text.now c.in-Some.line.now _ _ c.new-lines.ensures c.in-Some.ensures.line other)

@@ -1,5 +1,5 @@
 -- The bytes that were copied are the first ones that were left.
-use Rattle.std.proofs.Common.{◌∙◌, sym, ap, arith}
+use Rattle.std.proofs.Common.{rules, ◌∙◌, sym, ap, arith}
 use Rattle.std.proofs.lemmas.List.{length-take-le}
 use Rattle.picky_layout.specs.Numbers.{back_bytes}
 use Rattle.picky_wire.proofs.MemoryLemmas.{front_and_rest}
@@ -13,8 +13,16 @@ returns-clause-taken c =
     sym (ap (λ s. s.left) c.self.view_is)
     ∙ front_and_rest c.self.inside.content.items c.copy_from_slice.new.self _ c.self.inside.at n copied fits
 
-pub returns-clause-told : goal.returns-clause-told
-returns-clause-told c = back_bytes _ c.self.inside.content.items c.self.invariant.2
+pub returns-clause-keeps : goal.returns-clause-keeps
+returns-clause-keeps c = record {
+  told = λ _. back_bytes _ c.self.inside.content.items c.self.invariant.2;
+  counted = tt;
+  calm = search rules;
+}
 
-pub returns-then-next_fails-clause-told : goal.returns-then-next_fails-clause-told
-returns-then-next_fails-clause-told c = back_bytes _ c.self.inside.content.items c.self.invariant.2
+pub returns-then-next_fails-clause-keeps : goal.returns-then-next_fails-clause-keeps
+returns-then-next_fails-clause-keeps c = record {
+  told = λ _. back_bytes _ c.self.inside.content.items c.self.invariant.2;
+  counted = search rules;
+  calm = tt;
+}

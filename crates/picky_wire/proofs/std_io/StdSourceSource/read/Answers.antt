@@ -12,5 +12,9 @@ still_tells (Some xs) None front consumes tells = absurd consumes
 still_tells (Some xs) (Some ys) front consumes tells =
     (refl, bytes_behind front ys (subst IsBytes consumes tells.1))
 
-pub returns-in-Ok-clause-told : goal.returns-in-Ok-clause-told
-returns-in-Ok-clause-told g c = λ told. still_tells _ _ _ c.in-Ok.ensures.bytes.0 told
+pub returns-in-Ok-clause-keeps : goal.returns-in-Ok-clause-keeps
+returns-in-Ok-clause-keeps g c = record {
+  told = λ told. still_tells _ _ _ c.in-Ok.ensures.bytes.0 told;
+  counted = tt;
+  calm = refl;
+}

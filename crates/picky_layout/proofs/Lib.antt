@@ -1,0 +1,4 @@
+pub mod Narrowed
+pub mod When
+pub mod FixedWhen
+pub mod Fronts

@@ -1,0 +1,70 @@
+-- What is wrong with a field or a layout, as the errors of the calls that read it.
+use Rattle.std.specs.Prelude.{◌≡◌, ◌≢◌, ℕ, List, Option, Result, Ok, Err}
+use Rattle.picky_layout.specs.Outcome.{map_err}
+use Rattle.picky_layout.specs.Flaw.{Flaw, Short, NotUtf8, Big, Why, Reason, Flawed, Length, Magic, Name, Number}
+use Rattle.picky_layout.specs.Grammar.{Grammar}
+use Rattle.picky_layout.specs.Combine.{tag}
+use Rattle.picky_wire.specs.declared.error.WireError.{WireError}
+use Rattle.picky_wire.specs.declared.error.WireError.TheVariants as errors
+use Rattle.picky_wire.specs.declared.stop.Stop.{Stop}
+use Rattle.picky_wire.specs.declared.stop.Stop.TheVariants as stops
+use Rattle.picky_wire.specs.Takes.{Causes, causes_of, Takes}
+
+-- the error that says what is wrong with a field by itself
+abbrev pub wire_error : Flaw → WireError
+wire_error Short = errors.UnexpectedEnd
+wire_error NotUtf8 = errors.InvalidUtf8
+wire_error Big = errors.TooLong
+
+-- No flaw is a fault or want of memory.
+pub wire_own : {A : Type 0} (r : Result (A × List ℕ) Flaw) (e : WireError) → map_err wire_error r ≡ Err e
+    → (e ≢ errors.ReadFault) × (e ≢ errors.NoMemory)
+wire_own (Ok found) e is = cc is
+wire_own (Err Short) e is = (λ other. cc (is, other), λ other. cc (is, other))
+wire_own (Err NotUtf8) e is = (λ other. cc (is, other), λ other. cc (is, other))
+wire_own (Err Big) e is = (λ other. cc (is, other), λ other. cc (is, other))
+
+abbrev pub wire_causes : Causes WireError
+wire_causes = causes_of (λ e. e)
+
+-- a field that is read with the wire's errors
+abbrev pub TakesField : {S A : Type 0} → (S → Type 0) → (S → List ℕ) → (S → Option ℕ) → (S → ℕ)
+    → Grammar Flaw A → Result A WireError → S → S → Type 0
+TakesField tells left known faults field result old new =
+    Takes tells left known faults wire_causes (tag wire_error field).read field.used result old new
+
+-- ---- where the readers of layouts stop, whatever the layer: the place is forgotten, and so is the value of
+-- a name or a number
+
+abbrev pub flaw_stop : Flaw → Stop
+flaw_stop Short = stops.Short
+flaw_stop NotUtf8 = stops.NotUtf8
+flaw_stop Big = stops.TooLong
+
+abbrev pub why_stop : Why → Stop
+why_stop (Flawed flaw) = flaw_stop flaw
+why_stop Length = stops.Length
+why_stop Magic = stops.Magic
+why_stop (Name name) = stops.Name
+why_stop (Number n) = stops.Number
+
+abbrev pub stop_of : Reason → Stop
+stop_of reason = why_stop reason.1
+
+abbrev pub stop_causes : Causes Stop
+stop_causes = record { fault = stops.Fault; no_memory = stops.NoMemory; short = stops.Short }
+
+-- the stop of a field that is read by itself
+abbrev pub wire_stop : WireError → Stop
+wire_stop errors.UnexpectedEnd = stops.Short
+wire_stop errors.ReadFault = stops.Fault
+wire_stop errors.WriteFault = stops.Fault
+wire_stop errors.InvalidUtf8 = stops.NotUtf8
+wire_stop errors.TooLong = stops.TooLong
+wire_stop errors.NoMemory = stops.NoMemory
+
+-- a layout, or a field of one, that is read with stops
+abbrev pub TakesLayout : {S A E : Type 0} → (S → Type 0) → (S → List ℕ) → (S → Option ℕ) → (S → ℕ)
+    → (E → Stop) → Grammar E A → Result A Stop → S → S → Type 0
+TakesLayout tells left known faults stop_at layout result old new =
+    Takes tells left known faults stop_causes (tag stop_at layout).read layout.used result old new

@@ -1,0 +1,73 @@
+//! The fields of a layout, read from a source.
+
+ghost use Rattle.picky_layout.specs.Wire.{string, text, uint32};
+ghost use Rattle.picky_layout.specs.Numbers.{byte, uint64};
+ghost use Rattle.picky_layout.specs.Mpint.{mpint};
+ghost use Rattle.picky_wire.specs.Flaws.{TakesLayout, flaw_stop};
+
+use crate::bytes::{Bytes, Text};
+use crate::mpint::Mpint;
+use crate::read::{SshReadExt, read_byte, read_uint32, read_uint64};
+use crate::source::Source;
+use crate::stop::Stop;
+use std::alloc::Global;
+
+/// A number, as `read_ssh_mpint` reads it.
+pub fn take_mpint<S: Source>(alloc: Global, stream: &mut S) -> Result<Mpint, Stop>
+    ensures { TakesLayout S.tells S.left S.known S.faults flaw_stop mpint result stream.old stream.new }
+{
+    match stream.read_ssh_mpint(alloc) {
+        Ok(number) => Ok(number),
+        Err(e) => Err(Stop::from(e)),
+    }
+}
+
+/// A string's bytes, as `read_ssh_bytes` reads them.
+pub fn take_bytes<S: Source>(alloc: Global, stream: &mut S) -> Result<Bytes, Stop>
+    ensures { TakesLayout S.tells S.left S.known S.faults flaw_stop string result stream.old stream.new }
+{
+    match stream.read_ssh_bytes(alloc) {
+        Ok(bytes) => Ok(bytes),
+        Err(e) => Err(Stop::from(e)),
+    }
+}
+
+/// A text, as `read_ssh_string` reads it.
+pub fn take_text<S: Source>(alloc: Global, stream: &mut S) -> Result<Text, Stop>
+    ensures { TakesLayout S.tells S.left S.known S.faults flaw_stop text result stream.old stream.new }
+{
+    match stream.read_ssh_string(alloc) {
+        Ok(text) => Ok(text),
+        Err(e) => Err(Stop::from(e)),
+    }
+}
+
+/// A number of one byte.
+pub fn take_byte<S: Source>(stream: &mut S) -> Result<u8, Stop>
+    ensures { TakesLayout S.tells S.left S.known S.faults flaw_stop byte result stream.old stream.new }
+{
+    match read_byte(stream) {
+        Ok(number) => Ok(number),
+        Err(e) => Err(Stop::from(e)),
+    }
+}
+
+/// A number of four bytes.
+pub fn take_uint32<S: Source>(stream: &mut S) -> Result<u32, Stop>
+    ensures { TakesLayout S.tells S.left S.known S.faults flaw_stop uint32 result stream.old stream.new }
+{
+    match read_uint32(stream) {
+        Ok(number) => Ok(number),
+        Err(e) => Err(Stop::from(e)),
+    }
+}
+
+/// A number of eight bytes.
+pub fn take_uint64<S: Source>(stream: &mut S) -> Result<u64, Stop>
+    ensures { TakesLayout S.tells S.left S.known S.faults flaw_stop uint64 result stream.old stream.new }
+{
+    match read_uint64(stream) {
+        Ok(number) => Ok(number),
+        Err(e) => Err(Stop::from(e)),
+    }
+}
