@@ -1,5 +1,5 @@
 -- Which statuses a run can have for the bytes of its source.
-use Rattle.std.proofs.Common.{◌≡◌, ℕ, ◌<◌, List, length, Bool, true, false, Result, Ok, Err, refl, sym, ap, ◌∙◌, subst, nat_lt, if◌then◌else◌, ◌≢◌, ◌⊎◌, inl, inr}
+use Rattle.std.proofs.Common.{◌≡◌, ℕ, ◌<◌, ◌≤◌, arith, List, length, Bool, true, false, Result, Ok, Err, refl, sym, ap, ◌∙◌, subst, nat_lt, if◌then◌else◌, ◌≢◌, ◌⊎◌, inl, inr}
 use Rattle.std.proofs.lemmas.Bool.{lt-ltb, ltb-true}
 use Rattle.std.proofs.lemmas.Str.{is_utf8-from_IsUtf8}
 use Rattle.std.specs.Str.{IsUtf8, is_utf8}
@@ -25,7 +25,7 @@ use Rattle.picky_convert.specs.Reading.{reading}
 use Rattle.picky_convert.specs.Convert.{has_kind, carries_comment, has_room, text_for, written, conversion}
 use Rattle.picky_convert.specs.Command.{answer}
 use Rattle.picky_convert.specs.Memory.{WantsMemory}
-use Rattle.picky_convert.specs.Run.{input_limit, outcome, Explains, CanCome}
+use Rattle.picky_convert.specs.Run.{input_limit, outcome, Explains, CanCome, CanRefuse}
 use Rattle.picky_convert.proofs.TestLemmas.{refuses}
 
 -- ---- no refusal is want of memory
@@ -161,6 +161,24 @@ pub explained : {X : Type 0} (view : X → List ℕ) (r : Result X Status) (comm
     → Gives statuses.NoMemory view r (outcome command input) → IfErr r (λ status. Explains status (outcome command input))
 explained view (Ok x) command input gives = tt
 explained view (Err status) command input gives = (explains command input status (Unit {0}) gives).1
+
+-- a refusal is one that some bytes have
+pub refused_so : {X : Type 0} (view : X → List ℕ) (r : Result X Status) (command : Command) (input : List ℕ)
+    → Gives statuses.NoMemory view r (outcome command input)
+    → IfErr r (λ status. (e : ConvertError) → status ≡ statuses.Refused e → CanRefuse command e)
+refused_so view (Ok x) command input gives = tt
+refused_so view (Err status) command input (inl want) = λ e is. cc (want, is)
+refused_so view (Err status) command input (inr refused) = λ e is. (input, refused ∙ ap Err is)
+
+-- bytes that are few enough are not called too long
+pub short_enough : {X : Type 0} (view : X → List ℕ) (r : Result X Status) (command : Command) (input : List ℕ) (Left : Type 0)
+    → length input ≤ input_limit → Gives statuses.NoMemory view r (outcome command input)
+    → IfErr r (λ status. status ≡ statuses.InputTooLong → Left)
+short_enough view (Ok x) command input Left short gives = tt
+short_enough view (Err status) command input Left short gives = λ is.
+    let why = (explains command input status (Unit {0}) gives).1 in
+    let long = long_of command input (subst (λ s. Explains s (outcome command input)) is why) in
+    absurd (omega (arith, short, long))
 
 -- where a text is written for the bytes and nothing was counted, the run is done or wants memory
 pub settled : (status : Status) (for_input : Result (List ℕ) Status) (text : List ℕ) (read write : Type 0)

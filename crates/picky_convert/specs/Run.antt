@@ -1,10 +1,11 @@
 -- A run: what it writes for the bytes of its source, and how it ends.
-use Rattle.std.specs.Prelude.{◌≡◌, ◌++◌, ◌≤◌, List, ℕ, length, take, nat_lt, Result, Err, if◌then◌else◌}
+use Rattle.std.specs.Prelude.{◌≡◌, ◌<◌, ◌+◌, ◌++◌, ◌≤◌, List, ℕ, length, take, nat_lt, Result, Err, if◌then◌else◌}
 use Rattle.std.specs.Str.{IsUtf8, is_utf8}
 use Rattle.picky_layout.specs.Outcome.{map_err}
 use Rattle.picky_wire.specs.Puts.{Puts}
 use Rattle.picky_wire.specs.declared.error.WireError.{WireError}
 use Rattle.picky_wire.specs.declared.error.WireError.TheVariants as wire
+use Rattle.picky_convert.specs.declared.error.ConvertError.{ConvertError}
 use Rattle.picky_convert.specs.declared.error.Status.{Status}
 use Rattle.picky_convert.specs.declared.error.Status.TheVariants as statuses
 use Rattle.picky_convert.specs.declared.command.Command.{Command}
@@ -16,6 +17,23 @@ use Rattle.picky_convert.specs.Command.{answer, IsAnswer, CanWrite}
 -- how many bytes a source may have
 abbrev pub input_limit : ℕ
 input_limit = 16777216
+
+-- a front of the source's bytes was taken, and of those past the limit no more than one
+pub record TakesInput (before after : List ℕ) : Type 0 where
+  pub taken : List ℕ
+  pub are : before ≡ taken ++ after
+  pub few : length taken ≤ input_limit + 1
+
+-- the status comes only where the source was read to its end
+abbrev pub ReadsToEnd : Status → Type 0
+ReadsToEnd statuses.Usage = ⊥
+ReadsToEnd statuses.ReadFault = ⊥
+ReadsToEnd statuses.InputTooLong = ⊥
+ReadsToEnd statuses.NoMemory = ⊥
+ReadsToEnd statuses.Done = Unit {0}
+ReadsToEnd statuses.WriteFault = Unit {0}
+ReadsToEnd statuses.InputNotUtf8 = Unit {0}
+ReadsToEnd (statuses.Refused e) = Unit {0}
 
 -- the text that the command writes for these bytes, or the status that says why it writes none
 unfoldable pub outcome : Command → List ℕ → Result (List ℕ) Status
@@ -38,11 +56,12 @@ pub record Writes (command : Command) (input before after : List ℕ) : Type 0 w
   pub is_answer : IsAnswer command input text
   pub written : after ≡ before ++ text
 
--- a front of it was
+-- a front of it was, and not the whole
 pub record WritesPrefix (command : Command) (input before after : List ℕ) : Type 0 where
   pub text : List ℕ
   pub is_answer : IsAnswer command input text
   pub len : ℕ
+  pub less : len < length text
   pub written : after ≡ before ++ take len text
 
 -- the line was put: all of it and no fault was counted, or a front of it and one was
@@ -60,6 +79,10 @@ Explains statuses.NoMemory for_input = Unit {0}
 Explains (statuses.Refused e) for_input = for_input ≡ Err (statuses.Refused e)
 Explains statuses.InputTooLong for_input = for_input ≡ Err statuses.InputTooLong
 Explains statuses.InputNotUtf8 for_input = for_input ≡ Err statuses.InputNotUtf8
+
+-- for some bytes the command is refused so
+abbrev pub CanRefuse : Command → ConvertError → Type 0
+CanRefuse command e = (input : List ℕ) × (outcome command input ≡ Err (statuses.Refused e))
 
 -- the same, whether or not the bytes are told
 abbrev pub CanCome : Status → Type 0 → Type 0

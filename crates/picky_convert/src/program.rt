@@ -1,13 +1,13 @@
 //! The run of the program over a source and two sinks.
 
-ghost use Rattle.std.specs.Prelude.{◌≡◌, ◌≢◌, ◌⊎◌, ◌<◌, ◌++◌, ℕ, List, [], length, take, Option, Some, None, Ok, Err, IfOk, OnOk, IfErr, string_bytes};
+ghost use Rattle.std.specs.Prelude.{◌≡◌, ◌≢◌, ◌⊎◌, ◌<◌, ◌+◌, ◌++◌, ℕ, List, [], length, take, drop, Option, Some, None, Ok, Err, IfOk, OnOk, IfErr, string_bytes};
 ghost use Rattle.std.specs.Str.{IsUtf8};
 ghost use Rattle.picky_wire.specs.Count.{Rose};
 ghost use Rattle.picky_wire.specs.Takes.{Calm};
 ghost use Rattle.picky_convert.specs.Command.{Names};
 ghost use Rattle.picky_convert.specs.Memory.{WantsMemory};
 ghost use Rattle.picky_convert.specs.Report.{report as report_of};
-ghost use Rattle.picky_convert.specs.Run.{input_limit, outcome, CanCome, Explains, IsValid, Says, Writes, WritesPrefix};
+ghost use Rattle.picky_convert.specs.Run.{input_limit, outcome, CanCome, CanRefuse, Explains, IsValid, ReadsToEnd, Says, TakesInput, Writes, WritesPrefix};
 
 use crate::command::{Command, command_of, perform};
 use crate::error::{ConvertError, Status};
@@ -48,6 +48,8 @@ pub fn run<S: Suite, I: Source, O: Sink, E: Sink>(
     ensures refused { (c : Command) → Names words.now c → (e : ConvertError)
         → result ≡ Status.Refused e → I.tells source.old
         → outcome c (I.left source.old) ≡ Err (Status.Refused e) }
+    ensures refusal { (c : Command) → Names words.now c → (e : ConvertError)
+        → result ≡ Status.Refused e → CanRefuse c e }
     ensures refused_is_no_want { (e : ConvertError) → result ≡ Status.Refused e
         → WantsMemory e → ⊥ }
     ensures in_order { (c : Command) → Names words.now c → result ≢ Status.Done
@@ -73,8 +75,10 @@ pub fn run<S: Suite, I: Source, O: Sink, E: Sink>(
 
     // What is left and what is written.
     ensures unused { suite.new ≡ suite.old }
-    ensures end { (result ≡ Status.Done) ⊎ (result ≡ Status.WriteFault) → I.tells source.old
-        → I.left source.new ≡ [] }
+    ensures end { ReadsToEnd result → I.tells source.old → I.left source.new ≡ [] }
+    ensures taken { I.tells source.old → TakesInput (I.left source.old) (I.left source.new) }
+    ensures past_limit { result ≡ Status.InputTooLong → I.tells source.old
+        → I.left source.new ≡ drop (input_limit + 1) (I.left source.old) }
     ensures unread { result ≡ Status.Usage → source.new ≡ source.old }
     ensures unwritten { result ≢ Status.Done → result ≢ Status.WriteFault → out.new ≡ out.old }
     ensures prefix { (c : Command) → Names words.now c → result ≡ Status.WriteFault
@@ -103,10 +107,14 @@ fn attempt<S: Suite, I: Source, O: Sink>(
         × (outcome c (I.left source.old) ≡ Ok text) × (O.tells out.old → O.written out.new ≡ O.written out.old ++ text) }
     ensures write_fault { (c : Command) → Names words.now c → result ≡ Status.WriteFault → I.tells source.old → (text : List ℕ)
         × (outcome c (I.left source.old) ≡ Ok text)
-        × (O.tells out.old → (n : ℕ) × (O.written out.new ≡ O.written out.old ++ take n text)) }
+        × (O.tells out.old → (n : ℕ) × (O.written out.new ≡ O.written out.old ++ take n text) × (n < length text)) }
     ensures write_fault_only_if_counted { result ≡ Status.WriteFault → Rose (O.faults out.old) (O.faults out.new) }
     ensures unused { suite.new ≡ suite.old }
-    ensures end { (result ≡ Status.Done) ⊎ (result ≡ Status.WriteFault) → I.tells source.old → I.left source.new ≡ [] }
+    ensures end { ReadsToEnd result → I.tells source.old → I.left source.new ≡ [] }
+    ensures input { I.tells source.old → TakesInput (I.left source.old) (I.left source.new) }
+    ensures past_limit { result ≡ Status.InputTooLong → I.tells source.old
+        → I.left source.new ≡ drop (input_limit + 1) (I.left source.old) }
+    ensures refusal { (c : Command) → Names words.now c → (e : ConvertError) → result ≡ Status.Refused e → CanRefuse c e }
     ensures known { result ≢ Status.Done → result ≢ Status.WriteFault → result ≢ Status.Usage
         → CanCome result (Rose (I.faults source.old) (I.faults source.new)) }
     ensures taken { (c : Command) → Names words.now c → result ≢ Status.Done → result ≢ Status.WriteFault → result ≢ Status.Usage
@@ -137,6 +145,11 @@ fn take_text<S: Suite, I: Source>(
 ) -> Result<String, Status>
     ensures text { I.tells source.old → IfOk result (λ text. outcome command.now (I.left source.old) ≡ Ok (string_bytes text)) }
     ensures end { I.tells source.old → OnOk result (I.left source.new ≡ []) }
+    ensures refused_at_end { I.tells source.old → IfErr result (λ status. ReadsToEnd status → I.left source.new ≡ []) }
+    ensures input { I.tells source.old → TakesInput (I.left source.old) (I.left source.new) }
+    ensures past_limit { I.tells source.old → IfErr result (λ status. status ≡ Status.InputTooLong
+        → I.left source.new ≡ drop (input_limit + 1) (I.left source.old)) }
+    ensures refusal { IfErr result (λ status. (e : ConvertError) → status ≡ Status.Refused e → CanRefuse command.now e) }
     ensures known { IfErr result (λ status. CanCome status (Rose (I.faults source.old) (I.faults source.new))) }
     ensures refused { I.tells source.old → IfErr result (λ status. Explains status (outcome command.now (I.left source.old))) }
     ensures calm { Calm Status.ReadFault result (I.faults source.old) (I.faults source.new) }

@@ -14,8 +14,8 @@ pub record Grammar (E A : Type 0) : Type 1 where
   pub piece : A → List ℕ → Type 0
   -- the value that is spelled in front and what follows it, or the first reason why none is
   pub read : List ℕ → Result (A × List ℕ) E
-  -- how many bytes that value takes; where none is read, how many there are up to the end of the field
-  -- that is refused, or of all bytes
+  -- how many bytes that value takes; where none is read, how many there are, or would be, up to the end
+  -- of the field that is refused
   pub used : List ℕ → ℕ
   pub sound : (bytes : List ℕ) (value : A) (rest : List ℕ)
       → read bytes ≡ Ok (value, rest) → Fits piece value bytes rest

@@ -43,7 +43,7 @@ cells_complete n v front rest (len, is) =
     (ap (λ t. (t, drop n (front ++ rest))) whole ∙ ap (λ d. (v, d)) (drop_at front rest n long))
 
 pub cells_takes : (n : ℕ) (bytes v rest : List ℕ) → read_cells n bytes ≡ Ok (v, rest)
-    → length bytes ≡ min n (length bytes) + length rest
+    → length bytes ≡ n + length rest
 cells_takes n bytes v rest same =
     let passed = guard_ok (nat_lt (length bytes) n) Short (take n bytes, drop n bytes) (v, rest) same in
     let enough : n ≤ length bytes = ltb-false (length bytes) n passed.0 in
@@ -53,7 +53,7 @@ unfoldable pub cells : ℕ → Grammar Flaw (List ℕ)
 cells n = record {
   piece = IsCells n;
   read = read_cells n;
-  used = λ bytes. min n (length bytes);
+  used = λ bytes. n;
   sound = cells_sound n;
   complete = cells_complete n;
   takes = cells_takes n;

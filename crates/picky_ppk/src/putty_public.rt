@@ -1,6 +1,8 @@
 //! A public key as PuTTYgen saves it.
 
-ghost use Rattle.std.specs.Prelude.{◌≡◌, ◌⊎◌, [], IfOk, IfNone, IfSome, string_bytes};
+ghost use Rattle.std.specs.Prelude.{◌≡◌, ◌^◌, ◌<◌, ◌⊎◌, [], length, Ok, IfOk, OnOk, IfNone, IfSome, string_bytes};
+ghost use Rattle.picky_layout.specs.Numbers.{IsBytes};
+ghost use Rattle.picky_text.specs.Lines.{HasNo};
 ghost use Rattle.picky_wire.specs.Gives.{Gives};
 ghost use Rattle.picky_ppk.specs.PuttyPublic.{putty_public as text_of};
 ghost use Rattle.picky_ppk.specs.PuttyRefusal.{quoted as quoted_in, after_header as after_header_of, after_comment as after_comment_of, body_from, of_parts as of_parts_of, putty_meaning, putty_text, is_hardware as is_hardware_of, of_openssh, inner_key_of, to_openssh as to_openssh_of, plain_key_of, plain as plain_of, no_hardware_keys as no_hardware_keys_of, commented};
@@ -51,10 +53,23 @@ impl PuttyPublicKey {
         }
     }
 
+    /// Its blob.
+    fn blob_bytes(&self) -> &[u8]
+        ensures blob { result.now ≡ self.now.blob }
+        ensures bytes { IsBytes self.now.blob }
+        ensures short { length self.now.blob < 2 ^ 32 }
+    {
+        let blob = self.blob.as_slice();
+        blob
+    }
+
     /// The text, with CR LF. Refuses, in order: `TooLong`, where it has 2^32 bytes or more.
-    #[tactic(auto, unfolding(crate::specs::PuttyRefusal::putty_text))]
+    #[tactic(auto, unfolding(crate::specs::PuttyRefusal::putty_text), using(crate::proofs::LawLemmas::written_laws))]
     pub fn to_string(&self, alloc: Global) -> Result<Text, PuttyError>
-        ensures { Gives PuttyError.NoMemory (λ text. text) result (putty_text self.now) }
+        ensures gives { Gives PuttyError.NoMemory (λ text. text) result (putty_text self.now) }
+
+        // A text is read back, unless its comment breaks the line.
+        ensures read_back { HasNo 10 self.now.comment → IfOk result (λ text. putty_meaning text ≡ Ok self.now) }
     {
         match text_string(alloc, self) {
             Ok(text) => {
@@ -225,9 +240,11 @@ fn of_parts(alloc: Global, between: &str, body: &str) -> Result<PuttyPublicKey, 
 /// The text of a key.
 #[tactic(auto, unfolding(crate::specs::PuttyPublic::putty_public))]
 fn text_string(alloc: Global, key: &PuttyPublicKey) -> Result<String, AllocError>
-    ensures { IfOk result (λ text. string_bytes text ≡ text_of key.now.blob key.now.comment) }
+    ensures text { IfOk result (λ text. string_bytes text ≡ text_of key.now.blob key.now.comment) }
+    ensures bytes { OnOk result (IsBytes key.now.blob) }
+    ensures short { OnOk result ((length key.now.blob < 2 ^ 32) × (length key.now.comment < 2 ^ 32)) }
 {
-    let body = encode(alloc, key.blob.as_slice())?;
+    let body = encode(alloc, key.blob_bytes())?;
     let comment = key.comment.as_str();
     let mut text = String::with_capacity(alloc, text_room(body.len(), comment.len()))?;
     text.push_str(HEADER)?;

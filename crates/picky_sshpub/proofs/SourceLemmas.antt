@@ -1,5 +1,5 @@
 -- Lemmas on a line in front of a source's bytes.
-use Rattle.std.proofs.Common.{◌≡◌, ◌≢◌, ◌≤◌, ◌<◌, ◌^◌, ◌+◌, ◌++◌, ◌∷◌, ℕ, List, [], length, drop, suc, true, false}
+use Rattle.std.proofs.Common.{◌≡◌, ◌≢◌, ◌≤◌, ◌<◌, ◌^◌, ◌-◌, ◌+◌, ◌++◌, ◌∷◌, ℕ, List, [], length, drop, suc, true, false}
 use Rattle.std.proofs.Common.{refl, sym, ap, ◌∙◌, subst, arith, inl, inr, Result, Ok, Err}
 use Rattle.std.specs.Prelude.{Option, IsSome, IfErr}
 use Rattle.std.specs.List.{before_first, after_first, position_or_len}
@@ -99,6 +99,17 @@ pub line_refused : (line : List ℕ) → Stays line → length line ≡ 2 ^ 32 �
 line_refused line stays long =
     (line, (line_is_too_long line [] line stays long (sym (append-nil line))).read)
 
+-- what is left is what the line doesn't ask for
+after_len : (bytes : List ℕ) → length (after_line bytes) ≡ length bytes - line_used bytes
+unfolding after_line line_used
+after_len bytes =
+    let front = line_in_front bytes in
+    let n : ℕ = position_or_len ends_line bytes in
+    elim (cases_lt (length front) (2 ^ 32)) [
+      | inl less ↦ rw (lt-ltb (length front) (2 ^ 32) less) (omega (arith, length-take n bytes, length-drop (n + 1) bytes))
+      | inr other ↦ rw (le-ltb (length front) (2 ^ 32) other) (length-drop (2 ^ 32) bytes)
+    ]
+
 -- those bytes are taken, whatever follows
 line_is_used : (line rest before : List ℕ) → Stays line → length line ≤ 2 ^ 32 → before ≡ line ++ rest
     → length (after_line before) ≤ length rest
@@ -130,40 +141,32 @@ pub line_takes : {S : Type 0} (tells : S → Type 0) (left : S → List ℕ) (kn
     (line : List ℕ) (old new : S) → (tells old → IsLine (Ok line) (left old) (left new)) → (tells old → tells new)
     → (IsSome (known old) → IsSome (known new)) → faults new ≡ faults old
     → Takes tells left known faults (causes_of public_key_error) read_line line_used (Ok line) old new
-unfolding line_used
 line_takes tells left known faults line old new is told knows calm = record {
   answers = λ t. (is t).read;
-  within = λ t. let rest = ap length (is t).rest in omega (arith, rest);
-  whole = λ t.
-      let rest = ap length (is t).rest in
-      let all = ap length (is t).front.are ∙ length-append (is t).front.taken (left new) in
-      omega (arith, rest, all);
+  within = λ t. omega (arith, ap length (is t).rest, after_len (left old));
+  whole = λ t. ap length (is t).rest ∙ after_len (left old);
+  cut = λ t other. cc other;
   front = λ t bytes ends. ends_further bytes (left old) (left new) ends (is t).front;
   told = told;
   knows = knows;
   fault = λ other. cc other;
   calm = calm;
-  never_falls = omega (arith, calm);
 }
 
 pub too_long_takes : {S : Type 0} (tells : S → Type 0) (left : S → List ℕ) (known : S → Option ℕ) (faults : S → ℕ)
     (old new : S) → (tells old → IsLine (Err errors.TooLong) (left old) (left new)) → (tells old → tells new)
     → (IsSome (known old) → IsSome (known new)) → faults new ≡ faults old
     → Takes {A = List ℕ} tells left known faults (causes_of public_key_error) read_line line_used (Err errors.TooLong) old new
-unfolding line_used
 too_long_takes tells left known faults old new is told knows calm = record {
   answers = λ t other kept. (is t).read;
-  within = λ t. let rest = ap length (is t).rest in omega (arith, rest);
-  whole = λ t other kept no_end.
-      let rest = ap length (is t).rest in
-      let all = ap length (is t).front.are ∙ length-append (is t).front.taken (left new) in
-      omega (arith, rest, all);
+  within = λ t. omega (arith, ap length (is t).rest, after_len (left old));
+  whole = λ t other kept no_end. ap length (is t).rest ∙ after_len (left old);
+  cut = λ t other. cc other;
   front = λ t bytes ends. ends_further bytes (left old) (left new) ends (is t).front;
   told = told;
   knows = knows;
   fault = λ other. cc other;
   calm = λ other. calm;
-  never_falls = omega (arith, calm);
 }
 
 -- the bytes that were taken when the call stopped
@@ -174,10 +177,21 @@ pub record IsPart (before after : List ℕ) : Type 0 where
   pub are : before ≡ line ++ after
 
 part_within : (before after : List ℕ) → IsPart before after → length before ≤ line_used before + length after
-unfolding line_used
 part_within before after part =
-    let used = line_is_used part.line after before part.stays part.short part.are in
-    omega (arith, used)
+    omega (arith, line_is_used part.line after before part.stays part.short part.are, after_len before)
+
+-- a line asks for more than a part of it
+part_cut : (before after : List ℕ) (part : IsPart before after) → length part.line < 2 ^ 32
+    → length before < line_used before + length after
+unfolding line_used
+part_cut before after part less =
+    let front = line_in_front before in
+    let more = goes_on part.line after before part.stays part.are in
+    let whole = ap length part.are ∙ length-append part.line after in
+    elim (cases_lt (length front) (2 ^ 32)) [
+      | inl short ↦ rw (lt-ltb (length front) (2 ^ 32) short) (omega (arith, more, whole))
+      | inr other ↦ rw (le-ltb (length front) (2 ^ 32) other) (omega (arith, less, whole))
+    ]
 
 part_front : (bytes before after : List ℕ) → EndsIn bytes before → IsPart before after → EndsIn bytes after
 part_front bytes before after ends part =
@@ -188,20 +202,20 @@ pub rose_since : (a b c : ℕ) → b ≡ a → Rose b c → Rose a c
 rose_since a b c same rose = subst (λ n. Rose n c) same rose
 
 pub fault_takes : {S : Type 0} (tells : S → Type 0) (left : S → List ℕ) (known : S → Option ℕ) (faults : S → ℕ)
-    (old new : S) → (tells old → IsPart (left old) (left new)) → (tells old → tells new)
-    → (IsSome (known old) → IsSome (known new)) → Rose (faults old) (faults new) → faults old ≤ faults new
+    (old new : S) → (tells old → (part : IsPart (left old) (left new)) × (length part.line < 2 ^ 32))
+    → (tells old → tells new) → (IsSome (known old) → IsSome (known new)) → Rose (faults old) (faults new)
     → Takes {A = List ℕ} tells left known faults (causes_of public_key_error) read_line line_used
     (Err (public_key_error wire.ReadFault)) old new
-fault_takes tells left known faults old new part told knows rose never_falls = record {
+fault_takes tells left known faults old new part told knows rose = record {
   answers = λ t other. absurd (other refl);
-  within = λ t. part_within (left old) (left new) (part t);
+  within = λ t. part_within (left old) (left new) (part t).0;
   whole = λ t other. absurd (other refl);
-  front = λ t bytes ends. part_front bytes (left old) (left new) ends (part t);
+  cut = λ t is. part_cut (left old) (left new) (part t).0 (part t).1;
+  front = λ t bytes ends. part_front bytes (left old) (left new) ends (part t).0;
   told = told;
   knows = knows;
   fault = λ is. rose;
   calm = λ other. absurd (other refl);
-  never_falls = never_falls;
 }
 
 pub want_takes : {S : Type 0} (tells : S → Type 0) (left : S → List ℕ) (known : S → Option ℕ) (faults : S → ℕ)
@@ -213,12 +227,12 @@ want_takes tells left known faults old new part told knows calm = record {
   answers = λ t other kept. absurd (kept refl);
   within = λ t. part_within (left old) (left new) (part t);
   whole = λ t other kept. absurd (kept refl);
+  cut = λ t other. cc other;
   front = λ t bytes ends. part_front bytes (left old) (left new) ends (part t);
   told = told;
   knows = knows;
   fault = λ other. cc other;
   calm = λ other. calm;
-  never_falls = omega (arith, calm);
 }
 
 -- ---- a line that was taken is judged
@@ -274,12 +288,12 @@ no_line_takes tells left known faults e old new takes = record {
       and_then (line_meaning line.0) (λ key. Ok (key, line.1)))) (takes.answers t other kept);
   within = takes.within;
   whole = takes.whole;
+  cut = λ t is. let same : e ≡ public_key_error wire.ReadFault = cc is in takes.cut t (ap (λ x. Err x) same);
   front = takes.front;
   told = takes.told;
   knows = takes.knows;
   fault = λ is. let same : e ≡ public_key_error wire.ReadFault = cc is in takes.fault (ap (λ x. Err x) same);
   calm = takes.calm;
-  never_falls = takes.never_falls;
 }
 
 pub no_line_cause : (e : SshPublicKeyError) (fault : Type 0) → HasCause (causes_of public_key_error) read_line fault e

@@ -6,12 +6,12 @@ use Rattle.picky_layout.specs.Numbers.{IsBytes, bytes_in_front}
 use Rattle.picky_layout.specs.Outcome.{and_then, map_err}
 use Rattle.picky_wire.specs.declared.view.Stuck.{Stuck}
 use Rattle.picky_wire.specs.declared.view.Stuck.TheVariants as stucks
-use Rattle.picky_wire.specs.View.{Seen, why_of, why_in}
+use Rattle.picky_wire.specs.View.{Seen, end_of, why_of, why_in}
 use Rattle.picky_sshpub.specs.declared.key.SshBasePublicKey.{SshBasePublicKey}
 use Rattle.picky_sshpub.specs.declared.view.PublicView.{PublicView}
 use Rattle.picky_sshpub.specs.Key.{IsKey}
 use Rattle.picky_sshpub.specs.KeyLaws.{spelled_is_key}
-use Rattle.picky_sshpub.specs.Blob.{blob}
+use Rattle.picky_sshpub.specs.Blob.{blob, key_type}
 use Rattle.picky_wire.specs.declared.error.IoKind.TheVariants as kinds
 use Rattle.picky_sshpub.specs.declared.error.SshPublicKeyError.TheVariants as errors
 use Rattle.picky_sshpub.specs.BlobRefusal.{why_error, blob_error, read_blob}
@@ -20,7 +20,7 @@ use Rattle.picky_sshpub.specs.View.{key_seen, PartsLie}
 
 -- what is seen at the front of bytes is a key
 pub seen_is_key : (bytes : List ℕ) (r : Result (PublicView × ℕ) Stuck) → IsBytes bytes
-    → Seen key_seen (PartsLie bytes) why_in blob bytes 0 r
+    → Seen key_seen (PartsLie bytes (end_of key_type bytes 0)) why_in blob bytes 0 r
     → IfOk r (λ found. IsKey (key_seen found.0))
 seen_is_key bytes (Ok (view, next)) each seen =
     let fits = blob.sound bytes (key_seen view) (drop next bytes) seen.sees in

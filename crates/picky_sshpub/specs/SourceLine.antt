@@ -1,5 +1,5 @@
 -- A public key line in front of a source's bytes: what is taken, what it means, and the order of its refusals.
-use Rattle.std.specs.Prelude.{◌-◌, ◌^◌, List, ℕ, length, drop, Result, Ok, Err, if◌then◌else◌}
+use Rattle.std.specs.Prelude.{◌+◌, ◌^◌, List, ℕ, length, drop, Result, Ok, Err, if◌then◌else◌}
 use Rattle.std.specs.List.{after_first}
 use Rattle.picky_layout.specs.Outcome.{and_then}
 use Rattle.picky_text.specs.Words.{ends_line, line_in_front}
@@ -13,9 +13,9 @@ unfoldable pub after_line : List ℕ → List ℕ
 after_line bytes =
     if is_short (line_in_front bytes) then after_first ends_line bytes else drop (2 ^ 32) bytes
 
--- how many bytes that is
+-- how many bytes a line asks for: its own and the one that ends it, or 2^32
 unfoldable pub line_used : List ℕ → ℕ
-line_used bytes = length bytes - length (after_line bytes)
+line_used bytes = if is_short (line_in_front bytes) then length (line_in_front bytes) + 1 else 2 ^ 32
 
 -- the line in front, and what is left after it
 unfoldable pub read_line : List ℕ → Result (List ℕ × List ℕ) SshPublicKeyError

@@ -1,6 +1,9 @@
 -- What a public key's view shows, and where its parts lie in the blob.
 use Rattle.std.specs.Prelude.{List, ℕ}
-use Rattle.picky_wire.specs.View.{Lies}
+use Rattle.picky_layout.specs.Wire.{string, text}
+use Rattle.picky_layout.specs.Mpint.{mpint}
+use Rattle.picky_wire.specs.View.{Lies, end_of}
+use Rattle.picky_sshpub.specs.Blob.{ed_key}
 use Rattle.picky_sshpub.specs.declared.key.SshBasePublicKey.{SshBasePublicKey}
 use Rattle.picky_sshpub.specs.declared.key.SshBasePublicKey.TheVariants as keys
 use Rattle.picky_sshpub.specs.declared.view.PublicView.{PublicView}
@@ -15,11 +18,16 @@ key_seen (views.SkEcdsaSha2NistP256 point application) =
     keys.SkEcdsaSha2NistP256 point.bytes.now application.bytes.now
 key_seen (views.SkEd25519 key application) = keys.SkEd25519 key.bytes.now application.bytes.now
 
--- each part's bytes stand at its place in the blob
-abbrev pub PartsLie : List ℕ → PublicView → Type 0
-PartsLie blob (views.Rsa e n) = Lies blob e × Lies blob n
-PartsLie blob (views.Ec curve point) = Lies blob point
-PartsLie blob (views.Ed key) = Lies blob key
-PartsLie blob (views.SkEcdsaSha2NistP256 point application) =
-    Lies blob point × Lies blob application
-PartsLie blob (views.SkEd25519 key application) = Lies blob key × Lies blob application
+-- each part lies where its field ends, in the fields that stand one after another from this place
+abbrev pub PartsLie : List ℕ → ℕ → PublicView → Type 0
+PartsLie blob from (views.Rsa e n) =
+    let e_end = end_of mpint blob from in
+    Lies blob e_end e × Lies blob (end_of mpint blob e_end) n
+PartsLie blob from (views.Ec curve point) = Lies blob (end_of string blob (end_of text blob from)) point
+PartsLie blob from (views.Ed key) = Lies blob (end_of (ed_key 1) blob from) key
+PartsLie blob from (views.SkEcdsaSha2NistP256 point application) =
+    let point_end = end_of string blob (end_of text blob from) in
+    Lies blob point_end point × Lies blob (end_of text blob point_end) application
+PartsLie blob from (views.SkEd25519 key application) =
+    let key_end = end_of (ed_key 1) blob from in
+    Lies blob key_end key × Lies blob (end_of text blob key_end) application

@@ -1,6 +1,6 @@
 //! A public key line (sshd(8)), read and written.
 
-ghost use Rattle.std.specs.Prelude.{◌≡◌, ◌≢◌, ◌⊎◌, ◌^◌, ◌<◌, ◌≤◌, Err, IfErr, IfOk, length, not, string_bytes};
+ghost use Rattle.std.specs.Prelude.{◌≡◌, ◌≢◌, ◌⊎◌, ◌^◌, ◌<◌, ◌≤◌, ◌+◌, ◌*◌, ◌/◌, Err, IfErr, IfOk, length, not, string_bytes};
 ghost use Rattle.std.specs.Option.{option_copied};
 ghost use Rattle.picky_wire.specs.Gives.{Gives};
 ghost use Rattle.picky_wire.specs.Puts.{Puts};
@@ -153,7 +153,9 @@ fn line_string(alloc: Global, key: &SshPublicKey) -> Result<String, AllocError>
 }
 
 /// Room for a line, so that it doesn't grow while it is written.
-fn line_room(blob_len: usize, comment_len: usize) -> usize {
+fn line_room(blob_len: usize, comment_len: usize) -> usize
+    ensures { result ≤ blob_len / 3 * 4 + comment_len + 64 }
+{
     (blob_len / 3)
         .saturating_mul(4)
         .saturating_add(comment_len)

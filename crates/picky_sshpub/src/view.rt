@@ -1,7 +1,7 @@
 //! A public key's blob, seen where it stands: its parts are slices of it.
 
 ghost use Rattle.std.specs.Prelude.{◌≡◌, ◌^◌, ◌<◌, ⊤, length, IfOk};
-ghost use Rattle.picky_wire.specs.View.{Seen, Lies, part_bytes, why_in};
+ghost use Rattle.picky_wire.specs.View.{Seen, Lies, end_of, part_bytes, why_in};
 ghost use Rattle.picky_sshpub.specs.Blob.{key_type, ed_key, rsa_fields, ec_fields, ed_fields, sk_ecdsa_fields, sk_ed_fields, fields_of, blob as blob_layout};
 ghost use Rattle.picky_sshpub.specs.Key.{IsNumber, IsString, IsText, IsEdKey, IsKey};
 ghost use Rattle.picky_sshpub.specs.View.{key_seen, PartsLie};
@@ -44,7 +44,7 @@ impl<'a> PublicView<'a> {
     #[tactic(auto, using(crate::proofs::ViewLemmas::seen_is_key))]
     pub fn read(blob: &'a [u8]) -> Result<(PublicView<'a>, usize), Stuck<'a>>
         requires { length blob.now < 2 ^ 32 }
-        ensures seen { Seen key_seen (PartsLie blob.now) why_in blob_layout blob.now 0 result }
+        ensures seen { Seen key_seen (PartsLie blob.now (end_of key_type blob.now 0)) why_in blob_layout blob.now 0 result }
         ensures is_key { IfOk result (λ found. IsKey (key_seen found.0)) }
     {
         key_at(blob, 0)
@@ -89,7 +89,7 @@ impl<'a> PublicView<'a> {
 #[tactic(auto, unfolding(crate::specs::Blob::blob))]
 fn key_at<'a>(blob: &'a [u8], from: usize) -> Result<(PublicView<'a>, usize), Stuck<'a>>
     requires { length blob.now < 2 ^ 32 }
-    ensures { Seen key_seen (PartsLie blob.now) why_in blob_layout blob.now from result }
+    ensures { Seen key_seen (PartsLie blob.now (end_of key_type blob.now from)) why_in blob_layout blob.now from result }
 {
     let (kind, next) = match kind_at(blob, from) {
         Ok(found) => found,
@@ -119,7 +119,7 @@ fn fields_at<'a>(
     kind: KeyKind,
 ) -> Result<(PublicView<'a>, usize), Stuck<'a>>
     requires { length blob.now < 2 ^ 32 }
-    ensures { Seen key_seen (PartsLie blob.now) why_in (fields_of kind) blob.now from result }
+    ensures { Seen key_seen (PartsLie blob.now from) why_in (fields_of kind) blob.now from result }
 {
     match kind {
         KeyKind::Rsa => rsa_at(blob, from),
@@ -133,7 +133,7 @@ fn fields_at<'a>(
 #[tactic(auto, unfolding(crate::specs::Blob::rsa_fields))]
 fn rsa_at<'a>(blob: &'a [u8], from: usize) -> Result<(PublicView<'a>, usize), Stuck<'a>>
     requires { length blob.now < 2 ^ 32 }
-    ensures { Seen key_seen (PartsLie blob.now) why_in rsa_fields blob.now from result }
+    ensures { Seen key_seen (PartsLie blob.now from) why_in rsa_fields blob.now from result }
 {
     let (e, next) = match mpint_at(blob, from) {
         Ok(found) => found,
@@ -152,7 +152,7 @@ fn ec_at<'a>(
     from: usize,
     curve: EcCurve,
 ) -> Result<(PublicView<'a>, usize), Stuck<'a>>
-    ensures { Seen key_seen (PartsLie blob.now) why_in (ec_fields curve) blob.now from result }
+    ensures { Seen key_seen (PartsLie blob.now from) why_in (ec_fields curve) blob.now from result }
 {
     let (_, next) = match text_at(blob, from) {
         Ok(found) => found,
@@ -167,7 +167,7 @@ fn ec_at<'a>(
 
 #[tactic(auto, unfolding(crate::specs::Blob::ed_fields))]
 fn ed_at<'a>(blob: &'a [u8], from: usize) -> Result<(PublicView<'a>, usize), Stuck<'a>>
-    ensures { Seen key_seen (PartsLie blob.now) why_in ed_fields blob.now from result }
+    ensures { Seen key_seen (PartsLie blob.now from) why_in ed_fields blob.now from result }
 {
     let (key, next) = match ed_key_at(blob, from) {
         Ok(found) => found,
@@ -178,7 +178,7 @@ fn ed_at<'a>(blob: &'a [u8], from: usize) -> Result<(PublicView<'a>, usize), Stu
 
 #[tactic(auto, unfolding(crate::specs::Blob::sk_ecdsa_fields))]
 fn sk_ecdsa_at<'a>(blob: &'a [u8], from: usize) -> Result<(PublicView<'a>, usize), Stuck<'a>>
-    ensures { Seen key_seen (PartsLie blob.now) why_in sk_ecdsa_fields blob.now from result }
+    ensures { Seen key_seen (PartsLie blob.now from) why_in sk_ecdsa_fields blob.now from result }
 {
     let (_, next) = match text_at(blob, from) {
         Ok(found) => found,
@@ -197,7 +197,7 @@ fn sk_ecdsa_at<'a>(blob: &'a [u8], from: usize) -> Result<(PublicView<'a>, usize
 
 #[tactic(auto, unfolding(crate::specs::Blob::sk_ed_fields))]
 fn sk_ed_at<'a>(blob: &'a [u8], from: usize) -> Result<(PublicView<'a>, usize), Stuck<'a>>
-    ensures { Seen key_seen (PartsLie blob.now) why_in sk_ed_fields blob.now from result }
+    ensures { Seen key_seen (PartsLie blob.now from) why_in sk_ed_fields blob.now from result }
 {
     let (key, next) = match ed_key_at(blob, from) {
         Ok(found) => found,
@@ -213,7 +213,7 @@ fn sk_ed_at<'a>(blob: &'a [u8], from: usize) -> Result<(PublicView<'a>, usize), 
 /// A string of 32 bytes, which both layouts with an Ed25519 key have as their field 1.
 #[tactic(auto, unfolding(crate::specs::Blob::ed_key))]
 fn ed_key_at<'a>(blob: &'a [u8], from: usize) -> Result<(Part<'a>, usize), Stuck<'a>>
-    ensures { Seen part_bytes (Lies blob.now) why_in (ed_key 1) blob.now from result }
+    ensures { Seen part_bytes (Lies blob.now (end_of (ed_key 1) blob.now from)) why_in (ed_key 1) blob.now from result }
 {
     match sized_at(blob, from, 32) {
         Ok(found) => Ok(found),

@@ -91,13 +91,13 @@ mpint_cause e fault (inr (inl want)) = inr (inl want)
 mpint_cause e fault (inr (inr (bytes, refused))) =
     inr (inr (bytes, stuck_alike e (string.read bytes) (mpint.read bytes) (mpint_stuck bytes) refused))
 
-pub string_cause : (e : WireError) (fault : Type 0) → StopsShort fault e
+pub string_cause : (e : WireError) (fault : Type 0) → StopsShort wire_causes fault e
     → HasCause wire_causes (tag wire_error string).read fault e
 string_cause e fault (inl counted) = inl counted
 string_cause e fault (inr end) =
     inr (inr (string_ends.0, string_ends.1 ∙ ap Err (sym end)))
 
-pub timestamp_cause : (e : WireError) (fault : Type 0) → StopsShort fault e
+pub timestamp_cause : (e : WireError) (fault : Type 0) → StopsShort wire_causes fault e
     → HasCause wire_causes timestamp.read fault e
 timestamp_cause e fault (inl counted) = inl counted
 timestamp_cause e fault (inr end) = inr (inr (timestamp_ends.0, timestamp_ends.1 ∙ ap Err (sym end)))

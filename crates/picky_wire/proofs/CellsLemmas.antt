@@ -35,12 +35,12 @@ cells_read tells left known faults n v old new len same steady calm = record {
   answers = λ t. ap (map_err wire_error) (cells-read n v (left new) (left old) len (same t));
   within = λ t. omega (arith, ap length (same t), length-append v (left new));
   whole = λ t. omega (arith, ap length (same t), length-append v (left new));
+  cut = λ t other. cc other;
   front = λ t bytes ends. ends_later bytes (left old) v (left new) (same t) ends;
   told = steady.told;
   knows = steady.knows;
   fault = λ other. cc other;
   calm = calm;
-  never_falls = omega arith;
 }
 
 -- the bytes ended
@@ -53,30 +53,30 @@ cells_ended tells left known faults n old new short steady calm = record {
   answers = λ t other kept. ap (map_err wire_error) (cells-short n (left old) (short t).2);
   within = λ t. omega (arith, (short t).2);
   whole = λ t other kept no_end. absurd (no_end refl);
+  cut = λ t other. cc other;
   front = λ t bytes ends. ends_later bytes (left old) (short t).0 (left new) (short t).1 ends;
   told = steady.told;
   knows = steady.knows;
   fault = λ other. cc other;
   calm = λ other. calm;
-  never_falls = omega arith;
 }
 
 -- reading stopped after a front of the bytes: the source failed, or memory ran out
 pub cells_stopped : {S : Type 0} (tells : S → Type 0) (left : S → List ℕ) (known : S → Option ℕ) (faults : S → ℕ)
-    (n : ℕ) (old new : S) → (tells old → (taken : List ℕ) × (left old ≡ taken ++ left new) × (length taken ≤ n))
-    → Steady tells known old new → Rose (faults old) (faults new) → faults old ≤ faults new
+    (n : ℕ) (old new : S) → (tells old → (taken : List ℕ) × (left old ≡ taken ++ left new) × (length taken < n))
+    → Steady tells known old new → Rose (faults old) (faults new)
     → TakesField tells left known faults (cells n) (Err errors.ReadFault) old new
 unfolding cells
-cells_stopped tells left known faults n old new stopped steady rose never_falls = record {
+cells_stopped tells left known faults n old new stopped steady rose = record {
   answers = λ t other. absurd (other refl);
   within = λ t. omega (arith, ap length (stopped t).1, length-append (stopped t).0 (left new), (stopped t).2);
   whole = λ t other. absurd (other refl);
+  cut = λ t is. omega (arith, ap length (stopped t).1, length-append (stopped t).0 (left new), (stopped t).2);
   front = λ t bytes ends. ends_later bytes (left old) (stopped t).0 (left new) (stopped t).1 ends;
   told = steady.told;
   knows = steady.knows;
   fault = λ same. rose;
   calm = λ other. absurd (other refl);
-  never_falls = never_falls;
 }
 
 pub cells_unmade : {S : Type 0} (tells : S → Type 0) (left : S → List ℕ) (known : S → Option ℕ) (faults : S → ℕ)
@@ -88,12 +88,12 @@ cells_unmade tells left known faults n old new stopped steady calm = record {
   answers = λ t other kept. absurd (kept refl);
   within = λ t. omega (arith, ap length (stopped t).1, length-append (stopped t).0 (left new), (stopped t).2);
   whole = λ t other kept. absurd (kept refl);
+  cut = λ t other. cc other;
   front = λ t bytes ends. ends_later bytes (left old) (stopped t).0 (left new) (stopped t).1 ends;
   told = steady.told;
   knows = steady.knows;
   fault = λ other. cc other;
   calm = λ other. calm;
-  never_falls = omega arith;
 }
 
 -- ---- so many bytes in pieces
@@ -136,13 +136,9 @@ only_short n bytes e refused = go ((cells n).read bytes) refl refused
         let same : wire_error f ≡ e = cc why in
         sym same ∙ end
 
-used_few : (n : ℕ) (bytes : List ℕ) → (cells n).used bytes ≤ n
+used_is : (n : ℕ) (bytes : List ℕ) → (cells n).used bytes ≡ n
 unfolding cells
-used_few n bytes = omega arith
-
-used_least : (n : ℕ) (bytes : List ℕ) → (cells n).used bytes ≡ min n (length bytes)
-unfolding cells
-used_least n bytes = refl
+used_is n bytes = refl
 
 -- reading stopped in a later piece, so it stopped in all of them
 pub more_takes : {S : Type 0} (tells : S → Type 0) (left : S → List ℕ) (known : S → Option ℕ) (faults : S → ℕ)
@@ -154,14 +150,15 @@ more_takes tells left known faults n len taken e old mid new few same steady cal
   answers = λ t other kept.
       refused_short n len taken (left old) (left mid) e (same t) few (takes.answers (steady.told t) other kept);
   within = λ t.
-      omega (arith, ap length (same t), length-append taken (left mid), takes.within (steady.told t), used_few n (left mid), used_least n (left mid), used_least len (left old), few);
+      omega (arith, ap length (same t), length-append taken (left mid), takes.within (steady.told t), used_is n (left mid), used_is len (left old), few);
   whole = λ t other kept no_end.
       let refused = refused_short n len taken (left old) (left mid) e (same t) few (takes.answers (steady.told t) other kept) in
       absurd (no_end (only_short len (left old) e refused));
+  cut = λ t is.
+      omega (arith, ap length (same t), length-append taken (left mid), takes.cut (steady.told t) is, used_is n (left mid), used_is len (left old), few);
   front = λ t bytes ends. takes.front (steady.told t) bytes (ends_later bytes (left old) taken (left mid) (same t) ends);
   told = λ t. takes.told (steady.told t);
   knows = λ known. takes.knows (steady.knows known);
   fault = λ is. omega (arith, takes.fault is, calm);
   calm = λ other. takes.calm other ∙ calm;
-  never_falls = omega (arith, takes.never_falls, calm);
 }

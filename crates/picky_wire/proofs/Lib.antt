@@ -10,3 +10,4 @@ pub mod ViewLemmas
 pub mod WriteLemmas
 pub mod ThenLemmas
 pub mod ListLemmas
+mod FieldLemmas

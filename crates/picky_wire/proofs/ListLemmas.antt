@@ -1,5 +1,5 @@
 -- Lemmas on lists of elements: their spellings joined, and their values read one after another.
-use Rattle.std.proofs.Common.{◌≡◌, ◌≢◌, ◌⊎◌, inl, inr, ℕ, ◌+◌, ◌≤◌, ◌<◌, ◌^◌, List, [], ◌∷◌, ◌++◌, length, take, drop, get_or, min, sym, ap, ◌∙◌, arith, refl, add-one, Result, Ok, Err}
+use Rattle.std.proofs.Common.{◌≡◌, ◌≢◌, ◌⊎◌, inl, inr, ℕ, ◌+◌, ◌≤◌, ◌<◌, ◌^◌, ◌-◌, List, [], ◌∷◌, ◌++◌, length, take, drop, get_or, min, sym, ap, ◌∙◌, arith, refl, add-one, Result, Ok, Err}
 use Rattle.std.proofs.Math.Seq.{drop-cons, take-suc}
 use Rattle.std.proofs.lemmas.List.{take-append-drop, append-nil, append_assoc, length-append}
 use Rattle.std.proofs.lemmas.Grind.{flat_map-append}
@@ -7,7 +7,9 @@ use Rattle.std.proofs.lemmas.List.Concat.{flat_map-cons}
 use Rattle.std.proofs.lemmas.List.Folds.{length-flat_map-take}
 use Rattle.std.specs.List.{All, concat, flat_map}
 use Rattle.std.specs.Prelude.{Option, Some, None, IfErr, MatchOption}
+use Rattle.picky_layout.specs.Flaw.{Flaw}
 use Rattle.picky_layout.specs.Grammar.{Grammar}
+use Rattle.picky_layout.specs.Short.{EndsInString, string_refused}
 use Rattle.picky_layout.specs.Row.{Row, row_spells, read_all}
 use Rattle.picky_layout.specs.Steps.{following, taking_refused}
 use Rattle.picky_layout.specs.Outcome.{map_err, map_err_ok}
@@ -20,9 +22,9 @@ use Rattle.picky_wire.specs.Count.{Rose}
 use Rattle.picky_wire.specs.Flaws.{TakesField, wire_error}
 use Rattle.picky_wire.specs.Gives.{Gives}
 use Rattle.picky_wire.specs.Puts.{Puts}
-use Rattle.picky_wire.specs.Takes.{Takes, HasCause, causes_of}
+use Rattle.picky_wire.specs.Takes.{Takes, TakesString, HasCause, causes_of}
 use Rattle.picky_wire.proofs.ThenLemmas.{judged_takes, judged_cause}
-use Rattle.picky_wire.proofs.WriteLemmas.{front_of_both, writes_second}
+use Rattle.picky_wire.proofs.WriteLemmas.{front_writes, writes_second}
 
 -- ---- spellings joined
 
@@ -43,13 +45,14 @@ all_spellings f xs i x within is =
 pub spelling_stopped : {X : Type 0} (f : X → List ℕ) (xs : List X) (i : ℕ) (x : X) (n : ℕ)
     (old mid new : List ℕ)
     → i < length xs → x ≡ get_or xs i x → mid ≡ old ++ flat_map f (take i xs)
-    → new ≡ mid ++ take n (f x)
-    → (m : ℕ) × (new ≡ old ++ take m (flat_map f xs))
+    → (new ≡ mid ++ take n (f x)) × (n < length (f x))
+    → (m : ℕ) × (new ≡ old ++ take m (flat_map f xs)) × (m < length (flat_map f xs))
 spelling_stopped f xs i x n old mid new within is so_far front =
     let rest = flat_map f (drop (i + 1) xs) in
-    let later = front_of_both n (f x) rest mid new front in
+    let later = front_writes (f x) rest mid new (n, front.0, front.1) in
     let all = writes_second {A = ℕ} {E = ℕ} (Err 0) (flat_map f (take i xs)) (f x ++ rest) old mid new so_far later in
-    (all.0, all.1 ∙ ap (λ b. old ++ take all.0 b) (all_spellings f xs i x within is))
+    let same = all_spellings f xs i x within is in
+    (all.0, all.1 ∙ ap (λ b. old ++ take all.0 b) same, omega (arith, all.2, ap length same))
 
 -- the spellings up to the next one are too long, so all of them are
 pub spellings_too_long : {X : Type 0} (f : X → List ℕ) (xs : List X) (i : ℕ) (x : X) (len next : ℕ)
@@ -68,11 +71,10 @@ pub list_stopped : {S X A E : Type 0} (tells : S → Type 0) (written : S → Li
 list_stopped tells written faults fault f xs i x e old mid new within is so_far told calm stopped = record {
   writes = λ t.
       let front = stopped.writes (told t) in
-      spelling_stopped f xs i x front.0 (written old) (written mid) (written new) within is (so_far t) front.1;
+      spelling_stopped f xs i x front.0 (written old) (written mid) (written new) within is (so_far t) (front.1, front.2);
   cause = (stopped.cause.0, omega (arith, stopped.cause.1, calm));
   calm = tt;
   told = λ t. stopped.told (told t);
-  never_falls = omega (arith, stopped.never_falls, calm);
 }
 
 -- what an item that is written promises
@@ -131,13 +133,21 @@ string_takes tells left known faults of block old new takes = record {
   answers = λ t. ap (map_err (λ flaw. of (wire_error flaw))) (map_err_ok wire_error (string.read (left old)) (block, left new) (takes.answers t));
   within = takes.within;
   whole = takes.whole;
+  cut = λ t other. cc other;
   front = takes.front;
   told = takes.told;
   knows = takes.knows;
   fault = λ other. cc other;
   calm = takes.calm;
-  never_falls = takes.never_falls;
 }
+
+ends_where_refused : (bytes : List ℕ) (e : WireError) → map_err wire_error (string.read bytes) ≡ Err e
+    → EndsInString bytes
+ends_where_refused bytes e refused = go (string.read bytes) refl refused
+  where
+    go : (r : Result (List ℕ × List ℕ) Flaw) → string.read bytes ≡ r → map_err wire_error r ≡ Err e → EndsInString bytes
+    go (Ok x) is other = cc other
+    go (Err flaw) is why = (string_refused bytes flaw is).1
 
 -- a list is taken where its string is
 pub list_takes : {S A E : Type 0} (tells : S → Type 0) (left : S → List ℕ) (known : S → Option ℕ) (faults : S → ℕ)
@@ -167,3 +177,17 @@ pub spellings_are_row : {A : Type 0} (piece : A → List ℕ → Type 0) (spelli
 spellings_are_row piece spelling keeps takes spells vs keep take =
     row_spells piece spelling (λ v. keeps v × takes v) (λ v (kept, taken). spells v kept taken) vs
     (λ k d below. (keep k d below, take k d below))
+
+-- a string that was read is taken whole, whatever is made of it
+pub string_taken : {A E : Type 0} (of : WireError → E) (r : Result A E) (before after : List ℕ)
+    → length after ≡ length before - string.used before → TakesString (causes_of of) r before after
+string_taken of (Ok v) before after whole = tt
+string_taken of (Err e) before after whole = λ other kept there. whole
+
+-- and one that is all there is refused for a fault or for want of memory alone
+pub string_refused_there : {E : Type 0} (of : WireError → E) (e : WireError) (f : E) (before after : List ℕ) → f ≡ of e
+    → (e ≢ errors.ReadFault → e ≢ errors.NoMemory → map_err wire_error (string.read before) ≡ Err e)
+    → TakesString {A = ℕ} (causes_of of) (Err f) before after
+string_refused_there of e f before after is answers = λ other kept there.
+    let refused = answers (λ fault. other (is ∙ ap of fault)) (λ want. kept (is ∙ ap of want)) in
+    absurd (there (ends_where_refused before e refused))

@@ -47,12 +47,12 @@ layer_stops tells left known faults of stop_error reason_error G s old new says 
   whole = λ t other kept no_end.
       takes.whole t (λ is. other (ap stop_error is ∙ says.fault)) (λ is. kept (ap stop_error is ∙ says.no_memory))
       (λ is. no_end (ap stop_error is ∙ says.short));
+  cut = λ t is. takes.cut t (ap Err (says.only_fault s (cc is)));
   front = takes.front;
   told = takes.told;
   knows = takes.knows;
   fault = λ is. takes.fault (ap Err (says.only_fault s (cc is)));
   calm = λ other. takes.calm (λ is. other (ap stop_error is ∙ says.fault));
-  never_falls = takes.never_falls;
 }
 
 -- a value that they read is the layer's
@@ -64,10 +64,10 @@ layer_reads tells left known faults of reason_error G v old new takes = record {
   answers = λ t. own_value reason_error (G.read (left old)) (v, left new) (takes.answers t);
   within = takes.within;
   whole = takes.whole;
+  cut = λ t is. cc is;
   front = takes.front;
   told = takes.told;
   knows = takes.knows;
   fault = λ is. cc is;
   calm = takes.calm;
-  never_falls = takes.never_falls;
 }

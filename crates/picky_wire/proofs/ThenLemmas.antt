@@ -30,12 +30,12 @@ judged_takes tells left known faults causes reads used judge b (Ok v) old new ta
       ∙ ap (λ s. and_then s (λ x. Ok (x, left new))) gives;
   within = takes.within;
   whole = takes.whole;
+  cut = λ t other. cc other;
   front = takes.front;
   told = takes.told;
   knows = takes.knows;
   fault = λ other. cc other;
   calm = takes.calm;
-  never_falls = takes.never_falls;
 }
 judged_takes tells left known faults causes reads used judge b (Err e) old new takes gives no_fault = record {
   answers = λ t other kept.
@@ -43,12 +43,12 @@ judged_takes tells left known faults causes reads used judge b (Err e) old new t
       ∙ ap (λ s. and_then s (λ x. Ok (x, left new))) (own_refusal e causes.no_memory (judge b) gives kept);
   within = takes.within;
   whole = λ t other kept no_end. takes.whole t;
+  cut = λ t is. absurd (no_fault (cc is));
   front = takes.front;
   told = takes.told;
   knows = takes.knows;
   fault = λ is. absurd (no_fault (cc is));
   calm = λ other. takes.calm;
-  never_falls = takes.never_falls;
 }
 
 -- and its error is one that some bytes have

@@ -12,7 +12,7 @@ use Rattle.picky_wire.specs.declared.error.WireError.{WireError}
 use Rattle.picky_wire.specs.declared.error.WireError.TheVariants as errors
 use Rattle.picky_wire.specs.Takes.{StopsShort}
 use Rattle.picky_wire.specs.Unread.{LeavesUnread}
-use Rattle.picky_wire.specs.Flaws.{wire_error}
+use Rattle.picky_wire.specs.Flaws.{wire_error, wire_causes}
 use Rattle.picky_wire.proofs.ReadLemmas.{cells-front, cells-refused}
 
 -- a number that was read took four bytes, and is what they say
@@ -62,10 +62,11 @@ length_cut bytes refused = go ((cells 4).read bytes) refl refused
     go (Err f) is why = (cells-refused 4 bytes f is).1
 
 -- reading the length is refused: the source failed inside it
-pub length_refused : {A : Type 0} (e : WireError) (fault : Type 0) (before after : List ℕ) → StopsShort fault e
+pub length_refused : {A : Type 0} (e : WireError) (fault : Type 0) (before after : List ℕ)
+    → StopsShort wire_causes fault e
     → (e ≢ errors.ReadFault → e ≢ errors.NoMemory → map_err wire_error (uint32.read before) ≡ Err e)
     → length before < 4 + length after → 4 ≤ length before
-    → LeavesUnread {A = A} (Err e) before after
+    → LeavesUnread {A = A} wire_causes (Err e) before after
 length_refused e fault before after (inl counted) answers cut enough = inr (ap Err counted.0, cut)
 length_refused e fault before after (inr end) answers cut enough =
     let refused = answers (λ other. cc (end, other)) (λ other. cc (end, other)) in
@@ -74,7 +75,7 @@ length_refused e fault before after (inr end) answers cut enough =
 
 -- the bytes aren't asked for
 pub stays_unread : {A : Type 0} (e : WireError) (before mid after : List ℕ) → e ≡ errors.UnexpectedEnd
-    → mid ≡ drop 4 before → after ≡ mid → LeavesUnread {A = A} (Err e) before after
+    → mid ≡ drop 4 before → after ≡ mid → LeavesUnread {A = A} wire_causes (Err e) before after
 stays_unread e before mid after end four kept = inl (ap Err end, kept ∙ four)
 
 -- what is known is a number

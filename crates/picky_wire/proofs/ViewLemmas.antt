@@ -12,7 +12,7 @@ use Rattle.picky_layout.specs.Wire.{cells, uint32, string}
 use Rattle.picky_layout.specs.Zeros.{without_zeros, zeros_in_front}
 use Rattle.picky_wire.specs.declared.view.Part.{Part}
 use Rattle.picky_wire.specs.declared.view.Stuck.TheVariants as stucks
-use Rattle.picky_wire.specs.View.{Seen, Lies, part_bytes}
+use Rattle.picky_wire.specs.View.{end_of, Seen, Lies, part_bytes}
 use Rattle.picky_wire.proofs.MpintLemmas.{kept_within}
 use Rattle.picky_wire.proofs.ReadLemmas.{cells-read, cells-short}
 use Rattle.picky_layout.specs.Grammar.{Grammar}
@@ -40,7 +40,8 @@ cells_are n from blob bytes fits is =
 -- they are a part of the buffer
 pub cells_seen : (n from : ℕ) (blob : List ℕ) (part : Part) → from + n ≤ length blob
     → part.at ≡ from → part.bytes.now ≡ take n (drop from blob)
-    → Seen part_bytes (Lies blob) Flawed (cells n) blob from (Ok (part, from + n))
+    → Seen part_bytes (Lies blob (end_of (cells n) blob from)) Flawed (cells n) blob from (Ok (part, from + n))
+unfolding cells
 cells_seen n from blob part fits place is =
     let enough : n ≤ length (drop from blob) = omega (arith, length-drop from blob) in
     let len : length part.bytes.now ≡ n = ap length is ∙ length-take-le n (drop from blob) enough in
@@ -48,18 +49,19 @@ cells_seen n from blob part fits place is =
       sees = cells_are n from blob part.bytes.now fits is;
       placed = (
         record {
-          within = omega (arith, len, place);
+          ends = omega (arith, len, place);
+          within = fits;
           are = is ∙ ap (λ m. take m (drop from blob)) (sym len)
               ∙ ap (λ p. take (length part.bytes.now) (drop p blob)) (sym place);
         },
-        omega arith,
+        refl,
         fits,
       );
     }
 
 -- the buffer ends before
 pub cells_unseen : (n from : ℕ) (blob : List ℕ) → length (drop from blob) < n
-    → Seen part_bytes (Lies blob) Flawed (cells n) blob from (Err stucks.Short)
+    → Seen part_bytes (Lies blob (end_of (cells n) blob from)) Flawed (cells n) blob from (Err stucks.Short)
 cells_unseen n from blob short =
     record { sees = ap (map_err Flawed) (cells-short n (drop from blob) short); placed = tt }
 
@@ -69,13 +71,13 @@ cells_unseen n from blob short =
 pub uint32_seen : (from n : ℕ) (blob bytes : List ℕ) → from + 4 ≤ length blob
     → bytes ≡ take 4 (drop from blob) → n ≡ from_be_bytes w32 bytes
     → Seen (λ m. m) (λ _. ⊤) Flawed uint32 blob from (Ok (n, from + 4))
-unfolding uint32
+unfolding uint32 cells
 uint32_seen from n blob bytes fits is number =
     record {
       sees = each_read (cells 4) (from_be_bytes w32) (drop from blob) (drop (from + 4) blob) bytes
           (cells_are 4 from blob bytes fits is)
           ∙ ap (λ m. Ok (m, drop (from + 4) blob)) (sym number);
-      placed = (tt, omega arith, fits);
+      placed = (tt, refl, fits);
     }
 
 -- the buffer ends before
@@ -128,16 +130,17 @@ number_is_behind v w is =
     is ∙ sym (ap (drop n) front.1 ∙ drop_at zeros (without_zeros v) n len)
 
 -- so they lie in the buffer as the string does
-pub number_lies : (blob : List ℕ) (whole number : Part) → Lies blob whole
+pub number_lies : (blob : List ℕ) (end : ℕ) (whole number : Part) → Lies blob end whole
     → number.bytes.now ≡ without_zeros whole.bytes.now
-    → number.at ≡ whole.at + (length whole.bytes.now - length number.bytes.now) → Lies blob number
-number_lies blob whole number lies is place =
+    → number.at ≡ whole.at + (length whole.bytes.now - length number.bytes.now) → Lies blob end number
+number_lies blob end whole number lies is place =
     let kept = kept_within whole.bytes.now number.bytes.now is in
     let zeros : ℕ = length whole.bytes.now - length number.bytes.now in
     let kept_len : ℕ = length number.bytes.now in
     let len : length whole.bytes.now ≡ zeros + kept_len = omega (arith, kept) in
     record {
-      within = omega (arith, kept, lies.within, place);
+      ends = omega (arith, kept, lies.ends, place);
+      within = lies.within;
       are = number_is_behind whole.bytes.now number.bytes.now is
           ∙ ap (drop zeros) (lies.are ∙ ap (λ n. take n (drop whole.at blob)) len)
           ∙ drop-take zeros kept_len (drop whole.at blob)

@@ -1,5 +1,5 @@
 -- Lemmas on writing bytes in pieces.
-use Rattle.std.proofs.Common.{◌≡◌, ℕ, ◌+◌, ◌-◌, List, ◌++◌, length, take, drop, sym, ap, ◌∙◌, arith, subst, Result, Ok, Err, inl, inr}
+use Rattle.std.proofs.Common.{◌≡◌, ℕ, ◌<◌, ◌+◌, ◌-◌, List, ◌++◌, length, take, drop, sym, ap, ◌∙◌, arith, subst, Result, Ok, Err, inl, inr}
 use Rattle.std.proofs.lemmas.List.{append_assoc, length-append, length-drop, take_all, take-append-le}
 use Rattle.std.proofs.Math.Seq.{take-add, take-append-add, take-append_seam}
 use Rattle.std.proofs.lemmas.Bool.{cases_lt}
@@ -27,24 +27,21 @@ pub writes_second : {A E : Type 0} (r : Result A E) (p q old mid new : List ℕ)
     → Writes r q mid new → Writes r (p ++ q) old new
 writes_second (Ok x) p q old mid new first second =
     second ∙ ap (λ m. m ++ q) first ∙ append_assoc old p q
-writes_second (Err e) p q old mid new first (n, second) = (
+writes_second (Err e) p q old mid new first (n, second, less) = (
   length p + n,
   second ∙ ap (λ m. m ++ take n q) first ∙ append_assoc old p (take n q)
       ∙ ap (λ r. old ++ r) (sym (take-append-add p q n)),
+  omega (arith, less, length-append p q),
 )
 
--- a front of the first piece is a front of both
-pub front_of_both : (n : ℕ) (p q old new : List ℕ) → new ≡ old ++ take n p
-    → (m : ℕ) × (new ≡ old ++ take m (p ++ q))
-front_of_both n p q old new front = elim (cases_lt (length p) n) [
-  | inl past ↦ (length p, front ∙ ap (λ r. old ++ r) (take_all n p (omega arith) ∙ sym (take-append_seam p q)))
-  | inr within ↦ (n, front ∙ ap (λ r. old ++ r) (sym (take-append-le n p q within)))
-]
-
--- a front of the first piece, as a write that failed leaves it
-pub front_writes : (p q old new : List ℕ) → (n : ℕ) × (new ≡ old ++ take n p)
-    → (m : ℕ) × (new ≡ old ++ take m (p ++ q))
-front_writes p q old new front = front_of_both front.0 p q old new front.1
+-- a front of the first piece, as a write that failed leaves it, is a front of both
+pub front_writes : (p q old new : List ℕ) → (n : ℕ) × (new ≡ old ++ take n p) × (n < length p)
+    → (m : ℕ) × (new ≡ old ++ take m (p ++ q)) × (m < length (p ++ q))
+front_writes p q old new (n, front, less) = (
+  n,
+  front ∙ ap (λ r. old ++ r) (sym (take-append-le n p q (omega (arith, less)))),
+  omega (arith, less, length-append p q),
+)
 
 pub ruleset in_order = (writes_second, front_writes)
 
@@ -82,7 +79,6 @@ puts_then {written = written} {faults = faults} {fault = fault} {p = p} {q = q} 
   cause = later_cause r fault (faults old) (faults mid) (faults new) first.calm second.cause;
   calm = later_calm r (faults old) (faults mid) (faults new) first.calm second.calm;
   told = λ t. second.told (first.told t);
-  never_falls = omega (arith, first.calm, second.never_falls);
 }
 
 pub puts_first : {S A B E : Type 0} {tells : S → Type 0} {written : S → List ℕ} {faults : S → ℕ} {fault : E}
@@ -93,7 +89,6 @@ puts_first {written = written} p q {old = old} {new = new} first = record {
   cause = first.cause;
   calm = tt;
   told = first.told;
-  never_falls = first.never_falls;
 }
 
 -- the layer's error in place of the wire's
@@ -105,7 +100,6 @@ puts_as tells written faults fault fault' p e f old new is puts = record {
   cause = (is, puts.cause.1);
   calm = tt;
   told = puts.told;
-  never_falls = puts.never_falls;
 }
 
 -- the same of bytes that were written
@@ -117,7 +111,6 @@ puts_done tells written faults fault fault' p a b old new puts = record {
   cause = tt;
   calm = puts.calm;
   told = puts.told;
-  never_falls = puts.never_falls;
 }
 
 -- bytes that are spelled otherwise
@@ -129,5 +122,4 @@ puts_same {written = written} p q {r = r} {old = old} {new = new} same puts = re
   cause = puts.cause;
   calm = puts.calm;
   told = puts.told;
-  never_falls = puts.never_falls;
 }

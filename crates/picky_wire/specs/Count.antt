@@ -6,9 +6,9 @@ use Rattle.std.specs.List.{list_any}
 abbrev pub count_one : ℕ → ℕ
 count_one n = min (n + 1) (2 ^ 64 - 1)
 
--- in a call a fault was counted: the count is greater than before, or stands at its last value
+-- in a call one fault was counted, and no other
 abbrev pub Rose : ℕ → ℕ → Type 0
-Rose before after = count_one before ≤ after
+Rose before after = after ≡ count_one before
 
 -- what a step of a stream keeps: it goes on telling its bytes, and a fault is counted exactly where the step fails
 pub record Keeps {S A E : Type 0} (tells : S → Type 0) (faults : S → ℕ) (result : Result A E) (old new : S) : Type 0 where

@@ -8,7 +8,8 @@ use Rattle.picky_wire.specs.declared.error.WireError.{WireError}
 use Rattle.picky_wire.specs.declared.error.WireError.TheVariants as errors
 use Rattle.picky_wire.specs.declared.stop.Stop.{Stop}
 use Rattle.picky_wire.specs.declared.stop.Stop.TheVariants as stops
-use Rattle.picky_wire.specs.Takes.{Causes, causes_of, Takes}
+use Rattle.picky_wire.specs.Unread.{Unread}
+use Rattle.picky_wire.specs.Takes.{HasCause, StopsShort, Causes, causes_of, Takes}
 
 -- the error that says what is wrong with a field by itself
 abbrev pub wire_error : Flaw → WireError
@@ -68,3 +69,15 @@ abbrev pub TakesLayout : {S A E : Type 0} → (S → Type 0) → (S → List ℕ
     → (E → Stop) → Grammar E A → Result A Stop → S → S → Type 0
 TakesLayout tells left known faults stop_at layout result old new =
     Takes tells left known faults stop_causes (tag stop_at layout).read layout.used result old new
+
+-- the same of a field that is read by itself: what a string leaves unread, and why it is refused. Layouts are
+-- read by what their fields take alone, so these words stay closed there
+unfoldable pub StopsUnread : {S A : Type 0} → (S → Type 0) → (S → List ℕ) → (S → Option ℕ) → Result A Stop → S → S
+    → Type 0
+StopsUnread tells left known result old new = Unread tells left known stop_causes result old new
+
+unfoldable pub StopHasCause : {A : Type 0} → Grammar Flaw A → Type 0 → Stop → Type 0
+StopHasCause field fault stop = HasCause stop_causes (tag flaw_stop field).read fault stop
+
+unfoldable pub StopIsShort : Type 0 → Stop → Type 0
+StopIsShort fault stop = StopsShort stop_causes fault stop

@@ -4,8 +4,8 @@ pub mod Memory
 pub mod Gives
 pub mod Takes
 pub mod Puts
-pub mod Flaws
 pub mod Unread
+pub mod Flaws
 pub mod Moment
 pub mod Principals
 pub mod Laws

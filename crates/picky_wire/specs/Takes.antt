@@ -1,5 +1,7 @@
 -- What a call that reads from a source answers, what it takes and what it leaves.
-use Rattle.std.specs.Prelude.{◌≡◌, ◌≢◌, ◌≤◌, ◌+◌, ◌++◌, ◌⊎◌, ℕ, List, Option, IsSome, length, Result, Ok, Err}
+use Rattle.std.specs.Prelude.{◌≡◌, ◌≢◌, ◌<◌, ◌≤◌, ◌+◌, ◌-◌, ◌++◌, ◌⊎◌, ℕ, List, Option, IsSome, length, Result, Ok, Err}
+use Rattle.picky_layout.specs.Wire.{string}
+use Rattle.picky_layout.specs.Short.{EndsInString}
 use Rattle.picky_wire.specs.declared.error.WireError.{WireError}
 use Rattle.picky_wire.specs.declared.error.WireError.TheVariants as errors
 use Rattle.picky_wire.specs.Count.{Rose}
@@ -28,9 +30,9 @@ Answers causes reads (Err e) before after =
 
 -- exactly the value's bytes were taken, or those up to the end of the field that is refused, where it is whole
 abbrev pub TakesWhole : {A E : Type 0} → Causes E → ℕ → Result A E → List ℕ → List ℕ → Type 0
-TakesWhole causes used (Ok value) before after = length before ≡ used + length after
+TakesWhole causes used (Ok value) before after = length after ≡ length before - used
 TakesWhole causes used (Err e) before after =
-    e ≢ causes.fault → e ≢ causes.no_memory → e ≢ causes.short → length before ≡ used + length after
+    e ≢ causes.fault → e ≢ causes.no_memory → e ≢ causes.short → length after ≡ length before - used
 
 -- no fault was counted but for the one that is answered
 abbrev pub Calm : {A E : Type 0} → E → Result A E → ℕ → ℕ → Type 0
@@ -50,13 +52,21 @@ pub record Takes {S A E : Type 0} (tells : S → Type 0) (left : S → List ℕ)
   -- no byte past the value was taken, nor past the field that is refused
   pub within : tells old → length (left old) ≤ used (left old) + length (left new)
   pub whole : tells old → TakesWhole causes (used (left old)) result (left old) (left new)
+  -- a source fails before all of them were taken
+  pub cut : tells old → result ≡ Err causes.fault → length (left old) < used (left old) + length (left new)
   -- what was taken stood in front
   pub front : tells old → (bytes : List ℕ) → EndsIn bytes (left old) → EndsIn bytes (left new)
   pub told : tells old → tells new
   pub knows : IsSome (known old) → IsSome (known new)
   pub fault : result ≡ Err causes.fault → Rose (faults old) (faults new)
   pub calm : Calm causes.fault result (faults old) (faults new)
-  pub never_falls : faults old ≤ faults new
+
+-- a string that is all there is taken whole, whatever it holds
+abbrev pub TakesString : {A E : Type 0} → Causes E → Result A E → List ℕ → List ℕ → Type 0
+TakesString causes (Ok value) before after = Unit {0}
+TakesString causes (Err e) before after =
+    e ≢ causes.fault → e ≢ causes.no_memory → (EndsInString before → ⊥)
+    → length after ≡ length before - string.used before
 
 -- some bytes are refused with this error
 abbrev pub Refuses : {A E : Type 0} → (List ℕ → Result (A × List ℕ) E) → E → Type 0
@@ -69,5 +79,5 @@ HasCause causes reads fault e =
     ((e ≡ causes.fault) × fault) ⊎ (e ≡ causes.no_memory) ⊎ Refuses reads e
 
 -- the source failed and counted it, or the bytes end too early
-abbrev pub StopsShort : Type 0 → WireError → Type 0
-StopsShort fault e = ((e ≡ errors.ReadFault) × fault) ⊎ (e ≡ errors.UnexpectedEnd)
+abbrev pub StopsShort : {E : Type 0} → Causes E → Type 0 → E → Type 0
+StopsShort causes fault e = ((e ≡ causes.fault) × fault) ⊎ (e ≡ causes.short)

@@ -1,9 +1,11 @@
 //! The fields of a layout, read from a source.
 
+ghost use Rattle.std.specs.Prelude.{IfErr};
 ghost use Rattle.picky_layout.specs.Wire.{string, text, uint32};
 ghost use Rattle.picky_layout.specs.Numbers.{byte, uint64};
 ghost use Rattle.picky_layout.specs.Mpint.{mpint};
-ghost use Rattle.picky_wire.specs.Flaws.{TakesLayout, flaw_stop};
+ghost use Rattle.picky_wire.specs.Count.{Rose};
+ghost use Rattle.picky_wire.specs.Flaws.{TakesLayout, StopHasCause, StopIsShort, StopsUnread, flaw_stop};
 
 use crate::bytes::{Bytes, Text};
 use crate::mpint::Mpint;
@@ -13,8 +15,11 @@ use crate::stop::Stop;
 use std::alloc::Global;
 
 /// A number, as `read_ssh_mpint` reads it.
+#[tactic(auto, using(crate::proofs::FieldLemmas::field_stops))]
 pub fn take_mpint<S: Source>(alloc: Global, stream: &mut S) -> Result<Mpint, Stop>
-    ensures { TakesLayout S.tells S.left S.known S.faults flaw_stop mpint result stream.old stream.new }
+    ensures takes { TakesLayout S.tells S.left S.known S.faults flaw_stop mpint result stream.old stream.new }
+    ensures unread { StopsUnread S.tells S.left S.known result stream.old stream.new }
+    ensures cause { IfErr result (StopHasCause mpint (Rose (S.faults stream.old) (S.faults stream.new))) }
 {
     match stream.read_ssh_mpint(alloc) {
         Ok(number) => Ok(number),
@@ -23,8 +28,11 @@ pub fn take_mpint<S: Source>(alloc: Global, stream: &mut S) -> Result<Mpint, Sto
 }
 
 /// A string's bytes, as `read_ssh_bytes` reads them.
+#[tactic(auto, using(crate::proofs::FieldLemmas::field_stops))]
 pub fn take_bytes<S: Source>(alloc: Global, stream: &mut S) -> Result<Bytes, Stop>
-    ensures { TakesLayout S.tells S.left S.known S.faults flaw_stop string result stream.old stream.new }
+    ensures takes { TakesLayout S.tells S.left S.known S.faults flaw_stop string result stream.old stream.new }
+    ensures unread { StopsUnread S.tells S.left S.known result stream.old stream.new }
+    ensures cause { IfErr result (StopHasCause string (Rose (S.faults stream.old) (S.faults stream.new))) }
 {
     match stream.read_ssh_bytes(alloc) {
         Ok(bytes) => Ok(bytes),
@@ -33,8 +41,11 @@ pub fn take_bytes<S: Source>(alloc: Global, stream: &mut S) -> Result<Bytes, Sto
 }
 
 /// A text, as `read_ssh_string` reads it.
+#[tactic(auto, using(crate::proofs::FieldLemmas::field_stops))]
 pub fn take_text<S: Source>(alloc: Global, stream: &mut S) -> Result<Text, Stop>
-    ensures { TakesLayout S.tells S.left S.known S.faults flaw_stop text result stream.old stream.new }
+    ensures takes { TakesLayout S.tells S.left S.known S.faults flaw_stop text result stream.old stream.new }
+    ensures unread { StopsUnread S.tells S.left S.known result stream.old stream.new }
+    ensures cause { IfErr result (StopHasCause text (Rose (S.faults stream.old) (S.faults stream.new))) }
 {
     match stream.read_ssh_string(alloc) {
         Ok(text) => Ok(text),
@@ -43,8 +54,10 @@ pub fn take_text<S: Source>(alloc: Global, stream: &mut S) -> Result<Text, Stop>
 }
 
 /// A number of one byte.
+#[tactic(auto, using(crate::proofs::FieldLemmas::field_stops))]
 pub fn take_byte<S: Source>(stream: &mut S) -> Result<u8, Stop>
-    ensures { TakesLayout S.tells S.left S.known S.faults flaw_stop byte result stream.old stream.new }
+    ensures takes { TakesLayout S.tells S.left S.known S.faults flaw_stop byte result stream.old stream.new }
+    ensures cause { IfErr result (StopIsShort (Rose (S.faults stream.old) (S.faults stream.new))) }
 {
     match read_byte(stream) {
         Ok(number) => Ok(number),
@@ -53,8 +66,10 @@ pub fn take_byte<S: Source>(stream: &mut S) -> Result<u8, Stop>
 }
 
 /// A number of four bytes.
+#[tactic(auto, using(crate::proofs::FieldLemmas::field_stops))]
 pub fn take_uint32<S: Source>(stream: &mut S) -> Result<u32, Stop>
-    ensures { TakesLayout S.tells S.left S.known S.faults flaw_stop uint32 result stream.old stream.new }
+    ensures takes { TakesLayout S.tells S.left S.known S.faults flaw_stop uint32 result stream.old stream.new }
+    ensures cause { IfErr result (StopIsShort (Rose (S.faults stream.old) (S.faults stream.new))) }
 {
     match read_uint32(stream) {
         Ok(number) => Ok(number),
@@ -63,8 +78,10 @@ pub fn take_uint32<S: Source>(stream: &mut S) -> Result<u32, Stop>
 }
 
 /// A number of eight bytes.
+#[tactic(auto, using(crate::proofs::FieldLemmas::field_stops))]
 pub fn take_uint64<S: Source>(stream: &mut S) -> Result<u64, Stop>
-    ensures { TakesLayout S.tells S.left S.known S.faults flaw_stop uint64 result stream.old stream.new }
+    ensures takes { TakesLayout S.tells S.left S.known S.faults flaw_stop uint64 result stream.old stream.new }
+    ensures cause { IfErr result (StopIsShort (Rose (S.faults stream.old) (S.faults stream.new))) }
 {
     match read_uint64(stream) {
         Ok(number) => Ok(number),

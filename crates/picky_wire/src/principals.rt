@@ -6,7 +6,7 @@ ghost use Rattle.picky_layout.specs.Many.{read_many};
 ghost use Rattle.picky_layout.specs.Wire.{string, string_of};
 ghost use Rattle.picky_wire.specs.Count.{Rose};
 ghost use Rattle.picky_wire.specs.Flaws.{wire_causes, wire_error};
-ghost use Rattle.picky_wire.specs.Takes.{Takes, HasCause};
+ghost use Rattle.picky_wire.specs.Takes.{Takes, TakesString, HasCause};
 ghost use Rattle.picky_wire.specs.Principals.{principal, principal_spells, principal_own, principal_solid, IsText};
 ghost use Rattle.picky_wire.specs.Puts.{Puts};
 
@@ -42,6 +42,7 @@ pub fn encode_principals<S: Sink>(items: &[Text], stream: &mut S) -> Result<(), 
 pub fn decode_principals<S: Source>(alloc: Global, stream: &mut S) -> Result<List<Text>, WireError>
     ensures takes { Takes S.tells S.left S.known S.faults wire_causes (read_many wire_error principal)
         string.used result stream.old stream.new }
+    ensures taken { S.tells stream.old → TakesString wire_causes result (S.left stream.old) (S.left stream.new) }
     ensures cause { IfErr result (HasCause wire_causes (read_many wire_error principal)
         (Rose (S.faults stream.old) (S.faults stream.new))) }
 {

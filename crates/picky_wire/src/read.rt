@@ -10,7 +10,7 @@ ghost use Rattle.picky_layout.specs.Mpint.{mpint};
 ghost use Rattle.picky_wire.specs.Count.{Rose};
 ghost use Rattle.picky_wire.specs.Takes.{HasCause, StopsShort};
 ghost use Rattle.picky_wire.specs.Flaws.{TakesField, wire_causes, wire_error};
-ghost use Rattle.picky_wire.specs.Unread.{IsKnownShort, LeavesUnread};
+ghost use Rattle.picky_wire.specs.Unread.{Unread};
 
 use crate::bytes::{Bytes, Text};
 use crate::error::{NoMemory, SizeError, WireError};
@@ -33,8 +33,7 @@ pub trait SshReadExt: Source {
     where
         Self: Sized,
         ensures takes { TakesField Self.tells Self.left Self.known Self.faults string result self.old self.new }
-        ensures unread { Self.tells self.old → IsKnownShort (Self.known self.old) (Self.left self.old)
-            → LeavesUnread result (Self.left self.old) (Self.left self.new) }
+        ensures unread { Unread Self.tells Self.left Self.known wire_causes result self.old self.new }
         ensures cause { IfErr result (HasCause wire_causes (tag wire_error string).read
             (Rose (Self.faults self.old) (Self.faults self.new))) }
     {
@@ -57,8 +56,7 @@ pub trait SshReadExt: Source {
     where
         Self: Sized,
         ensures takes { TakesField Self.tells Self.left Self.known Self.faults text result self.old self.new }
-        ensures unread { Self.tells self.old → IsKnownShort (Self.known self.old) (Self.left self.old)
-            → LeavesUnread result (Self.left self.old) (Self.left self.new) }
+        ensures unread { Unread Self.tells Self.left Self.known wire_causes result self.old self.new }
         ensures cause { IfErr result (HasCause wire_causes (tag wire_error text).read
             (Rose (Self.faults self.old) (Self.faults self.new))) }
     {
@@ -81,8 +79,7 @@ pub trait SshReadExt: Source {
     where
         Self: Sized,
         ensures takes { TakesField Self.tells Self.left Self.known Self.faults mpint result self.old self.new }
-        ensures unread { Self.tells self.old → IsKnownShort (Self.known self.old) (Self.left self.old)
-            → LeavesUnread result (Self.left self.old) (Self.left self.new) }
+        ensures unread { Unread Self.tells Self.left Self.known wire_causes result self.old self.new }
         ensures cause { IfErr result (HasCause wire_causes (tag wire_error mpint).read
             (Rose (Self.faults self.old) (Self.faults self.new))) }
     {
@@ -116,7 +113,7 @@ fn text_of(bytes: Bytes) -> Option<Text>
 #[tactic(auto, unfolding(picky_layout::specs::Wire::uint32))]
 pub fn read_uint32<S: Source>(source: &mut S) -> Result<u32, WireError>
     ensures takes { TakesField S.tells S.left S.known S.faults uint32 result source.old source.new }
-    ensures cause { IfErr result (StopsShort (Rose (S.faults source.old) (S.faults source.new))) }
+    ensures cause { IfErr result (StopsShort wire_causes (Rose (S.faults source.old) (S.faults source.new))) }
     ensures cut { S.tells source.old → OnErr result (length (S.left source.old) < 4 + length (S.left source.new)) }
 {
     let mut bytes = [0u8; 4];
@@ -132,7 +129,7 @@ pub fn read_uint32<S: Source>(source: &mut S) -> Result<u32, WireError>
 #[tactic(auto, unfolding(picky_layout::specs::Numbers::uint64))]
 pub fn read_uint64<S: Source>(source: &mut S) -> Result<u64, WireError>
     ensures takes { TakesField S.tells S.left S.known S.faults uint64 result source.old source.new }
-    ensures cause { IfErr result (StopsShort (Rose (S.faults source.old) (S.faults source.new))) }
+    ensures cause { IfErr result (StopsShort wire_causes (Rose (S.faults source.old) (S.faults source.new))) }
 {
     let mut bytes = [0u8; 8];
     match fill(source, &mut bytes) {
@@ -147,7 +144,7 @@ pub fn read_uint64<S: Source>(source: &mut S) -> Result<u64, WireError>
 #[tactic(auto, unfolding(picky_layout::specs::Numbers::byte))]
 pub fn read_byte<S: Source>(source: &mut S) -> Result<u8, WireError>
     ensures takes { TakesField S.tells S.left S.known S.faults byte result source.old source.new }
-    ensures cause { IfErr result (StopsShort (Rose (S.faults source.old) (S.faults source.new))) }
+    ensures cause { IfErr result (StopsShort wire_causes (Rose (S.faults source.old) (S.faults source.new))) }
 {
     let mut bytes = [0u8; 1];
     match fill(source, &mut bytes) {
@@ -162,7 +159,7 @@ fn read_counted<S: Source>(alloc: Global, source: &mut S, len: usize) -> Result<
     ensures unread { IfSome (S.known source.old)
         (λ known. known < len → (result ≡ Err WireError.UnexpectedEnd) × (source.new ≡ source.old)) }
     ensures len { IfOk result (λ v. vec_len v ≡ len) }
-    ensures cause { IfErr result (λ e. StopsShort (Rose (S.faults source.old) (S.faults source.new)) e
+    ensures cause { IfErr result (λ e. StopsShort wire_causes (Rose (S.faults source.old) (S.faults source.new)) e
         ⊎ (e ≡ WireError.NoMemory)) }
 {
     if let Some(known) = source.known_left() {
@@ -176,7 +173,7 @@ fn read_counted<S: Source>(alloc: Global, source: &mut S, len: usize) -> Result<
 fn read_chunks<S: Source>(alloc: Global, source: &mut S, len: usize) -> Result<Vec<u8>, WireError>
     ensures takes { TakesField S.tells S.left S.known S.faults (cells len) (map_ok (λ v. v.items) result) source.old source.new }
     ensures len { IfOk result (λ v. vec_len v ≡ len) }
-    ensures cause { IfErr result (λ e. StopsShort (Rose (S.faults source.old) (S.faults source.new)) e
+    ensures cause { IfErr result (λ e. StopsShort wire_causes (Rose (S.faults source.old) (S.faults source.new)) e
         ⊎ (e ≡ WireError.NoMemory)) }
 {
     let mut chunk = [0u8; CHUNK];
@@ -226,7 +223,7 @@ fn make_room(vec: &mut Vec<u8>, more: usize) -> Result<(), NoMemory>
 /// Fills the buffer from the source.
 fn fill<S: Source>(source: &mut S, buffer: &mut [u8]) -> Result<(), WireError>
     ensures takes { TakesField S.tells S.left S.known S.faults (cells (length buffer.old)) (map_ok (λ _. buffer.new) result) source.old source.new }
-    ensures cause { IfErr result (StopsShort (Rose (S.faults source.old) (S.faults source.new))) }
+    ensures cause { IfErr result (StopsShort wire_causes (Rose (S.faults source.old) (S.faults source.new))) }
     ensures cut { S.tells source.old → OnErr result (length (S.left source.old) < length buffer.old + length (S.left source.new)) }
 {
     let mut at = 0;

@@ -98,7 +98,7 @@ impl Source for SliceSource<'_> {
     ghost in_range = { λ _. lit< tt };
 
     fn read(&mut self, buffer: &mut [u8]) -> Result<usize, Failed>
-        ensures passes { IsOk result }
+        ensures gives { result ≡ Ok (min (length buffer.old) (length self.old)) }
 
         // What every source promises; here it tells its bytes always.
         ensures bound { IfOk result (λ n. n ≤ length buffer.old) }

@@ -5,7 +5,7 @@ ghost use Rattle.picky_layout.specs.Flaw.{Flawed};
 ghost use Rattle.picky_layout.specs.Fixed.{sized};
 ghost use Rattle.picky_layout.specs.Wire.{cells, uint32, string, text};
 ghost use Rattle.picky_layout.specs.Mpint.{mpint};
-ghost use Rattle.picky_wire.specs.View.{Seen, Lies, WordLies, part_bytes, word_bytes, why_in};
+ghost use Rattle.picky_wire.specs.View.{end_of, Seen, Lies, WordLies, part_bytes, word_bytes, why_in};
 
 use crate::mpint::after_zeros;
 
@@ -73,7 +73,7 @@ pub fn uint32_at<'a>(blob: &'a [u8], from: usize) -> Result<(u32, usize), Stuck<
 /// `string` of RFC 4251, section 5. Refuses, in order: `Short`.
 #[tactic(auto, unfolding(picky_layout::specs::Wire::string))]
 pub fn string_at<'a>(blob: &'a [u8], from: usize) -> Result<(Part<'a>, usize), Stuck<'a>>
-    ensures { Seen part_bytes (Lies blob.now) Flawed string blob.now from result }
+    ensures { Seen part_bytes (Lies blob.now (end_of string blob.now from)) Flawed string blob.now from result }
 {
     let (len, start) = match uint32_at(blob, from) {
         Ok(found) => found,
@@ -86,7 +86,7 @@ pub fn string_at<'a>(blob: &'a [u8], from: usize) -> Result<(Part<'a>, usize), S
 ///
 /// `string` of RFC 4251, section 5. Refuses, in order: `Short`, `NotUtf8`.
 pub fn text_at<'a>(blob: &'a [u8], from: usize) -> Result<(Part<'a>, usize), Stuck<'a>>
-    ensures { Seen part_bytes (Lies blob.now) Flawed text blob.now from result }
+    ensures { Seen part_bytes (Lies blob.now (end_of text blob.now from)) Flawed text blob.now from result }
 {
     let (word, next) = match word_at(blob, from) {
         Ok(found) => found,
@@ -100,7 +100,7 @@ pub fn text_at<'a>(blob: &'a [u8], from: usize) -> Result<(Part<'a>, usize), Stu
 /// `string` of RFC 4251, section 5. Refuses, in order: `Short`, `NotUtf8`.
 #[tactic(auto, unfolding(picky_layout::specs::Wire::text), using(crate::proofs::ViewLemmas::tests))]
 pub fn word_at<'a>(blob: &'a [u8], from: usize) -> Result<(Word<'a>, usize), Stuck<'a>>
-    ensures { Seen word_bytes (WordLies blob.now) Flawed text blob.now from result }
+    ensures { Seen word_bytes (WordLies blob.now (end_of text blob.now from)) Flawed text blob.now from result }
 {
     let (part, next) = match string_at(blob, from) {
         Ok(found) => found,
@@ -116,7 +116,7 @@ pub fn word_at<'a>(blob: &'a [u8], from: usize) -> Result<(Word<'a>, usize), Stu
 ///
 /// `string` of RFC 4251, section 5. Refuses, in order: `Short`, `Length`.
 pub fn sized_at<'a>(blob: &'a [u8], from: usize, len: usize) -> Result<(Part<'a>, usize), Stuck<'a>>
-    ensures { (i : ℕ) → Seen part_bytes (Lies blob.now) why_in (sized i len) blob.now from result }
+    ensures { (i : ℕ) → Seen part_bytes (Lies blob.now (end_of string blob.now from)) why_in (sized i len) blob.now from result }
 {
     let (part, next) = match string_at(blob, from) {
         Ok(found) => found,
@@ -134,7 +134,7 @@ pub fn sized_at<'a>(blob: &'a [u8], from: usize, len: usize) -> Result<(Part<'a>
 #[tactic(auto, unfolding(picky_layout::specs::Mpint::mpint))]
 pub fn mpint_at<'a>(blob: &'a [u8], from: usize) -> Result<(Part<'a>, usize), Stuck<'a>>
     requires { length blob.now < 2 ^ 32 }
-    ensures { Seen part_bytes (Lies blob.now) Flawed mpint blob.now from result }
+    ensures { Seen part_bytes (Lies blob.now (end_of mpint blob.now from)) Flawed mpint blob.now from result }
 {
     let (string, next) = match string_at(blob, from) {
         Ok(found) => found,
@@ -150,7 +150,7 @@ pub fn mpint_at<'a>(blob: &'a [u8], from: usize) -> Result<(Part<'a>, usize), St
 #[tactic(auto, using(crate::proofs::ViewLemmas::cells_unseen))]
 fn cells_at<'a>(blob: &'a [u8], from: usize, len: usize) -> Result<(Part<'a>, usize), Stuck<'a>>
     requires { from ≤ length blob.now }
-    ensures { Seen part_bytes (Lies blob.now) Flawed (cells len) blob.now from result }
+    ensures { Seen part_bytes (Lies blob.now (end_of (cells len) blob.now from)) Flawed (cells len) blob.now from result }
 {
     let (_, rest) = blob.split_at(from);
     if rest.len() < len {

@@ -12,12 +12,12 @@ returns-then-lf c =
 pub returns-in-Ok-to_string : goal.returns-in-Ok-to_string
 returns-in-Ok-to_string c =
     let lf = sym (c.has_lf-lf.ensures ∙ ap (list_any (λ b. b == 10)) c.as_str.ensures.bytes) ∙ c.if-lf.false in
-    text_written c.args.key _ _ (made_of _ _ c.in-Ok.ensures) lf c.in-Ok-to_string.ensures
+    text_written c.args.key _ _ (made_of _ _ c.in-Ok.ensures) lf c.in-Ok-to_string.ensures.gives
 
 pub returns-in-Err-TooLong : goal.returns-in-Err-TooLong
 returns-in-Err-TooLong c =
     let lf = sym (c.has_lf-lf.ensures ∙ ap (list_any (λ b. b == 10)) c.as_str.ensures.bytes) ∙ c.if-lf.false in
-    inr (text_refused c.args.key _ (made_of _ _ c.in-Ok.ensures) lf (rw c.in-Err-TooLong.field-0-is at c.in-Err-TooLong.ensures))
+    inr (text_refused c.args.key _ (made_of _ _ c.in-Ok.ensures) lf (rw c.in-Err-TooLong.field-0-is at c.in-Err-TooLong.ensures.gives))
 
 pub returns : goal.returns
 returns c =

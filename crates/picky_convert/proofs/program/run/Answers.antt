@@ -22,6 +22,7 @@ returns-clause-prefix g c = λ command named is told_in told_out.
       text = wrote.0;
       is_answer = outcome_answers command _ wrote.0 wrote.1;
       len = front.0;
+      less = front.2;
       written = front.1;
     }
 

@@ -1,8 +1,8 @@
 -- The text is the outcome of all bytes that the source had.
-use Rattle.std.proofs.Common.{◌∙◌, ap, subst, Err}
+use Rattle.std.proofs.Common.{◌∙◌, ap, subst, length, arith, Err}
 use Rattle.std.specs.Prelude.{IfErr}
 use Rattle.picky_convert.specs.Run.{outcome, Explains}
-use Rattle.picky_convert.proofs.CauseLemmas.{can_come, explained, outcome_long}
+use Rattle.picky_convert.proofs.CauseLemmas.{refused_so, short_enough, can_come, explained, outcome_long}
 use Rattle.picky_convert.proofs.program.take_text.Goals as goal
 
 pub returns-in-Ok-clause-known : goal.returns-in-Ok-clause-known
@@ -15,4 +15,12 @@ returns-in-Ok-clause-refused g c = λ told.
     (explained _ c.perform.result c.args.command.now c.as_slice.result.now c.perform.ensures.gives)
 
 pub returns-in-Err-TooLong-clause-refused : goal.returns-in-Err-TooLong-clause-refused
-returns-in-Err-TooLong-clause-refused g c = λ told. outcome_long c.args.command.now _ (c.in-Err-TooLong.ensures.too_long told (ap Err c.in-Err-TooLong.field-0-is))
+returns-in-Err-TooLong-clause-refused g c = λ told. outcome_long c.args.command.now _ (c.in-Err-TooLong.ensures.too_long told (ap Err c.in-Err-TooLong.field-0-is)).0
+
+pub returns-in-Ok-clause-past_limit : goal.returns-in-Ok-clause-past_limit
+returns-in-Ok-clause-past_limit g c = λ told.
+    short_enough _ c.perform.result c.args.command.now c.as_slice.result.now _ (omega (arith, c.in-Ok.ensures.small, ap length c.as_slice.ensures.value))
+    c.perform.ensures.gives
+
+pub returns-in-Ok-clause-refusal : goal.returns-in-Ok-clause-refusal
+returns-in-Ok-clause-refusal g c = refused_so _ c.perform.result c.args.command.now c.as_slice.result.now c.perform.ensures.gives

@@ -8,9 +8,9 @@ use Rattle.picky_ppk.proofs.putty_public.text_string.Goals as goal
 pub push_rows-requires : goal.push_rows-requires
 push_rows-requires c = record { ascii = rw (c.as_str.ensures.value, c.in_ok-body.ensures.text) (base64_is_ascii _) }
 
-pub returns : goal.returns
-returns c =
-    let blob = ap base64_of c.as_slice.ensures.bytes in
+pub returns-clause-text : goal.returns-clause-text
+returns-clause-text c =
+    let blob = ap base64_of c.blob_bytes.ensures.blob in
     let body = c.as_str.ensures.value ∙ c.in_ok-body.ensures.text ∙ blob in
     let header = c.in_ok-push_str.ensures.bytes ∙ ap (λ t. t ++ codes "---- BEGIN SSH2 PUBLIC KEY ----") c.in_ok-text.ensures.bytes in
     putty_written _ _ _ _ _ _ _ _ _ _ _ _ _ header c.in_ok-push_str-2.ensures.bytes

@@ -44,16 +44,17 @@ returns-in-Err-push-clause-takes g c =
 pub returns-in-Err-clause-takes : goal.returns-in-Err-clause-takes
 returns-in-Err-clause-takes g c =
     let held = c.bytes.invariant in
-    fault_takes g.S.Source.tells g.S.Source.left g.S.Source.known g.S.Source.faults _ _ (λ told.
-    record {
-      line = c.bytes.line.items;
-      stays = held.stays;
-      short = omega arith;
-      are = held.taken told ∙ ap (λ r. c.bytes.line.items ++ r) (sym (c.in-Err.ensures.kept (held.told told)));
-    })
+    fault_takes g.S.Source.tells g.S.Source.left g.S.Source.known g.S.Source.faults _ _ (λ told. (
+      record {
+        line = c.bytes.line.items;
+        stays = held.stays;
+        short = omega arith;
+        are = held.taken told ∙ ap (λ r. c.bytes.line.items ++ r) (sym (c.in-Err.ensures.kept (held.told told)));
+      },
+      omega arith,
+    ))
     (λ told. c.in-Err.ensures.keeps.told (held.told told)) (λ known. c.in-Err.ensures.knows_on (held.knows known))
     (rose_since _ _ _ held.calm c.in-Err.ensures.keeps.counted)
-    (omega (arith, held.calm, c.in-Err.ensures.keeps.counted, g.met.S.Source.in_range c.bytes.stream))
 
 pub returns-clause-takes : goal.returns-clause-takes
 returns-clause-takes g c =

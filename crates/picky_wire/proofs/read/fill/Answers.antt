@@ -39,11 +39,10 @@ returns-in-Err-clause-takes g c =
     let front = length-take-le c.bytes.at c.bytes.buffer c.bytes.invariant.within in (
       take c.bytes.at c.bytes.buffer,
       c.bytes.invariant.taken told ∙ ap (λ r. take c.bytes.at c.bytes.buffer ++ r) (sym kept),
-      omega (arith, front),
+      omega (arith, front, c.bytes-test.true),
     ))
     (record { told = λ told. c.in-Err.ensures.keeps.told (c.bytes.invariant.told told); knows = λ known. c.in-Err.ensures.knows_on (c.bytes.invariant.knows known) })
     (omega (arith, c.in-Err.ensures.keeps.counted, c.bytes.invariant.calm))
-    (omega (arith, c.in-Err.ensures.keeps.counted, c.bytes.invariant.calm, g.met.S.Source.in_range c.bytes.source))
 
 pub bytes-preserved : goal.bytes-preserved
 bytes-preserved g c =

@@ -1,6 +1,7 @@
 -- A string is a number without its leading zeros.
 use Rattle.std.proofs.Common.{◌<◌, ◌^◌, ◌-◌, ◌∙◌, sym, ap, refl, length, drop, arith, Ok}
 use Rattle.std.proofs.lemmas.List.{length-drop}
+use Rattle.picky_layout.specs.Mpint.{mpint}
 use Rattle.picky_layout.specs.Zeros.{without_zeros}
 use Rattle.picky_layout.proofs.When.{mpint_reads}
 use Rattle.picky_wire.proofs.MpintLemmas.{kept_within}
@@ -11,6 +12,7 @@ pub overflow_sub-zeros : goal.overflow_sub-zeros
 overflow_sub-zeros c = kept_within c.in-Ok.found.0.bytes.now _ c.after_zeros-bytes.ensures
 
 pub returns : goal.returns
+unfolding mpint
 returns c =
     let whole = c.in-Ok.found.0.bytes.now in
     let number = c.after_zeros-bytes.ensures in
@@ -23,7 +25,7 @@ returns c =
       sees = mpint_reads _ whole _ c.in-Ok.ensures.sees few
           ∙ ap (λ n. Ok (n, drop c.in-Ok.found.1 c.args.blob.now)) (sym number);
       placed = (
-        number_lies c.args.blob.now c.in-Ok.found.0 _ c.in-Ok.ensures.placed.0 number refl,
+        number_lies c.args.blob.now _ c.in-Ok.found.0 _ c.in-Ok.ensures.placed.0 number refl,
         c.in-Ok.ensures.placed.1,
         c.in-Ok.ensures.placed.2,
       );
