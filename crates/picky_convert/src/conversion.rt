@@ -141,6 +141,3 @@ fn has_lf(text: &str) -> bool
 {
     memchr(b'\n', text.as_bytes()).is_some()
 }
-
-#[cfg(test)]
-mod tests;

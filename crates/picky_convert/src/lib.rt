@@ -10,8 +10,6 @@ pub mod laws;
 mod meaning;
 mod program;
 mod reports;
-#[cfg(test)]
-mod tests;
 
 pub use conversion::{Target, convert};
 pub use error::{ConvertError, ReadError, Status};

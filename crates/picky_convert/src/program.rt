@@ -181,6 +181,3 @@ fn tell<E: Sink>(status: &Status, err: &mut E)
         }
     }
 }
-
-#[cfg(test)]
-mod tests;

@@ -81,6 +81,3 @@ fn putty_report(e: &PuttyError) -> &'static str
         PuttyError::NoMemory => "keyconv: refused: output.putty.NoMemory\n",
     }
 }
-
-#[cfg(test)]
-mod tests;

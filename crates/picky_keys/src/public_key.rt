@@ -41,28 +41,3 @@ impl TryClone for PublicKey {
         }
     }
 }
-
-#[cfg(test)]
-mod tests {
-    use super::*;
-    use std::test::Fail;
-
-    // A copy is made where there is memory: no clause can say it.
-    #[test]
-    fn copies_each_kind(rt: HostRuntime) -> Result<(), Fail> {
-        let alloc = rt.alloc();
-        let rsa = PublicKey::Rsa {
-            e: Mpint::from_be(alloc, &[3])?,
-            n: Mpint::from_be(alloc, &[129])?,
-        };
-        let ec = PublicKey::Ec {
-            curve: EcCurve::NistP256,
-            point: Bytes::new(alloc, &[4])?,
-        };
-        let ed = PublicKey::Ed { key: [7; 32] };
-        assert!(rt; rsa.try_clone(alloc)? == rsa);
-        assert!(rt; ec.try_clone(alloc)? == ec);
-        assert!(rt; ed.try_clone(alloc)? == ed);
-        Ok(())
-    }
-}

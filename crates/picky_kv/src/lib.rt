@@ -11,8 +11,6 @@ pub mod literals;
 mod numbers;
 mod pairs;
 mod reader;
-#[cfg(test)]
-mod tests;
 mod values;
 mod writer;
 

@@ -4,8 +4,6 @@
 mod error;
 pub mod laws;
 mod putty_public;
-#[cfg(test)]
-mod tests;
 
 pub use error::PuttyError;
 pub use putty_public::PuttyPublicKey;

@@ -11,8 +11,6 @@ pub mod laws;
 mod line;
 mod read;
 mod source_line;
-#[cfg(test)]
-mod tests;
 mod view;
 
 pub use error::SshPublicKeyError;

@@ -7,5 +7,3 @@ pub use suite::{PlainSuite, Suite};
 
 mod hmac;
 mod suite;
-#[cfg(test)]
-mod tests;

@@ -6,8 +6,6 @@ pub mod laws;
 mod lines;
 mod quote;
 mod rows;
-#[cfg(test)]
-mod tests;
 mod words;
 
 pub use base64_text::{Base64Error, decode, encode};

@@ -41,6 +41,3 @@ pub use stop::Stop;
 pub use timestamp::Timestamp;
 pub use view::{Part, Stuck, Word, mpint_at, sized_at, string_at, text_at, uint32_at, word_at};
 pub use write::{SshWriteExt, write_all};
-
-#[cfg(test)]
-mod tests;

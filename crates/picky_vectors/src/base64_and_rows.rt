@@ -1,7 +1,6 @@
-use crate::{
-    Base64Error, LineEnd, LineReader, after_word, decode, encode, first_word, push_quoted,
-    push_rows, rest_of_line, unquoted,
-};
+//! Base64, and the rows that PuTTY breaks it into.
+
+use picky_text::{Base64Error, LineEnd, decode, encode, push_rows};
 use std::test::Fail;
 
 // RFC 4648, section 10.
@@ -62,35 +61,4 @@ fn breaks_base64_as_coreutils_does(rt: HostRuntime) -> Result<(), Fail> {
         assert_eq!(rt; out.as_str(), wanted, "of {plain}");
     }
     Ok(())
-}
-
-// 'ssh-ed25519 AAAAC3Nz my key \t\r\n'.split(' ', 2) of Python, the last part by its rstrip
-#[test]
-fn reads_the_words_of_a_line(rt: HostRuntime) {
-    let line = b"ssh-ed25519 AAAAC3Nz my key \t\r\nssh-rsa";
-    assert_eq!(rt; first_word(line), b"ssh-ed25519".as_slice());
-    let body = after_word(line);
-    assert_eq!(rt; first_word(body), b"AAAAC3Nz".as_slice());
-    assert_eq!(rt; rest_of_line(after_word(body)), Some("my key"));
-}
-
-// ssh-keygen -t ed25519 -C 'a "b" c:\d', then the comment that puttygen -p shows of the key
-#[test]
-fn quotes_as_puttygen_does(rt: HostRuntime) -> Result<(), Fail> {
-    let mut out = String::new(rt.alloc());
-    push_quoted(&mut out, "a \"b\" c:\\d")?;
-    assert_eq!(rt; out.as_str(), "a \\\"b\\\" c:\\\\d");
-    let back = unquoted(rt.alloc(), out.as_str())?;
-    assert_eq!(rt; back.as_str(), "a \"b\" c:\\d");
-    Ok(())
-}
-
-// the example of Rust's documentation of str::lines
-#[test]
-fn splits_lines_as_rust_does(rt: HostRuntime) {
-    let mut reader = LineReader::new("foo\r\nbar\n\nbaz\r");
-    for line in ["foo", "bar", "", "baz\r"] {
-        assert_eq!(rt; reader.next_line(), Some(line));
-    }
-    assert_eq!(rt; reader.next_line(), None);
 }

@@ -1,10 +1,12 @@
-//! What no clause says: the literals of PuTTY's manual, a file of puttygen, and printed names.
+//! The lines of PuTTY's private key files: a file of puttygen copied, and lines that are refused.
 
-use crate::*;
-use picky_wire::{Bytes, Text, TryClone};
-use std::alloc::{AllocError, AllocGlobal, Global};
-use std::fmt::Display;
-use std::process::Abort;
+use picky_kv::{
+    KvError, PpkArgon2Memory, PpkArgon2Parallelism, PpkArgon2Passes, PpkArgon2Salt, PpkComment,
+    PpkEncryption, PpkHeader, PpkKeyDerivation, PpkPrivateLines, PpkPrivateMac, PpkPublicLines,
+    PuttyKvReader, PuttyKvWriter,
+};
+use picky_wire::{Bytes, Text};
+use std::alloc::Global;
 use std::test::Fail;
 
 // puttygen 0.78: puttygen -t ed25519 -o sealed.ppk --new-passphrase pw -C 'of a test: ed25519'
@@ -97,103 +99,6 @@ fn copies_a_file_of_puttygen(rt: HostRuntime) -> Result<(), Fail> {
         );
     }
     Ok(())
-}
-
-fn with_letter_changed(alloc: Global, text: &str, at: usize) -> Result<String, AllocError> {
-    let mut changed = String::new(alloc);
-    for (i, c) in text.chars().enumerate() {
-        let other = if c.is_ascii_lowercase() {
-            c.to_ascii_uppercase()
-        } else {
-            c.to_ascii_lowercase()
-        };
-        changed.push(if i != at {
-            c
-        } else if other == c {
-            '_'
-        } else {
-            other
-        })?;
-    }
-    Ok(changed)
-}
-
-fn reads_literals<T: PpkField + PpkLiteral>(
-    rt: &(impl Abort + AllocGlobal),
-    name: &str,
-    expected: &str,
-    literals: &[&str],
-) -> Result<(), Fail> {
-    let alloc = rt.alloc();
-    assert_eq!(rt; T::context(), name);
-    for literal in literals {
-        let value = T::read(alloc, literal)?;
-        assert_eq!(rt; value.as_static_str(), *literal);
-        assert_eq!(rt; value.write(alloc)?.as_str(), *literal);
-        for at in 0..literal.len() {
-            let changed = with_letter_changed(alloc, literal, at)?;
-            let wanted = PpkValueError::Parsing(PpkValueParsingError {
-                expected: Text::new(alloc, expected)?,
-                actual: Text::new(alloc, changed.as_str())?,
-            });
-            assert_eq!(rt;
-                T::read(alloc, changed.as_str()).err(),
-                Some(wanted),
-                "{changed}"
-            );
-        }
-    }
-    Ok(())
-}
-
-// PuTTY's manual, Appendix C, has the literals.
-#[test]
-fn reads_each_choice_in_its_case_alone(rt: HostRuntime) -> Result<(), Fail> {
-    let versions = ["PuTTY-User-Key-File-2", "PuTTY-User-Key-File-3"];
-    let any_version = "[PuTTY-User-Key-File-2, PuTTY-User-Key-File-3]";
-    reads_literals::<PpkVersionKey>(&rt, "PpkVersionKey", any_version, &versions)?;
-    let algorithms = [
-        "ssh-rsa",
-        "ssh-dss",
-        "ecdsa-sha2-nistp256",
-        "ecdsa-sha2-nistp384",
-        "ecdsa-sha2-nistp521",
-        "ssh-ed25519",
-        "ssh-ed448",
-    ];
-    let any =
-        "[ssh-rsa, ssh-dss, ecdsa-sha2-nistp256, ecdsa-sha2-nistp384, ecdsa-sha2-nistp521, ssh-ed25519, ssh-ed448]";
-    reads_literals::<PpkKeyAlgorithmValue>(&rt, "PpkKeyAlgorithmValue", any, &algorithms)?;
-    let encryptions = ["none", "aes256-cbc"];
-    let any = "[none, aes256-cbc]";
-    reads_literals::<PpkEncryptionValue>(&rt, "PpkEncryptionValue", any, &encryptions)?;
-    let flavours = ["Argon2d", "Argon2i", "Argon2id"];
-    let any = "[Argon2d, Argon2i, Argon2id]";
-    reads_literals::<Argon2FlavourValue>(&rt, "Argon2FlavourValue", any, &flavours)
-}
-
-fn reads_key<T: PpkField + PpkSingle + Default + PartialEq>(
-    rt: &(impl Abort + AllocGlobal),
-    name: &str,
-    literal: &str,
-) -> Result<(), Fail> {
-    let (default, single) = (T::default(), T::single());
-    assert!(rt; default == single, "{name}");
-    reads_literals::<T>(rt, name, literal, &[literal])
-}
-
-#[test]
-fn reads_each_key_in_its_case_alone(rt: HostRuntime) -> Result<(), Fail> {
-    reads_key::<PpkEncryptionKey>(&rt, "PpkEncryptionKey", "Encryption")?;
-    reads_key::<PpkCommentKey>(&rt, "PpkCommentKey", "Comment")?;
-    reads_key::<PpkPublicLinesKey>(&rt, "PpkPublicLinesKey", "Public-Lines")?;
-    reads_key::<PpkKeyDerivationKey>(&rt, "PpkKeyDerivationKey", "Key-Derivation")?;
-    reads_key::<PpkArgon2MemoryKey>(&rt, "PpkArgon2MemoryKey", "Argon2-Memory")?;
-    reads_key::<PpkArgon2PassesKey>(&rt, "PpkArgon2PassesKey", "Argon2-Passes")?;
-    reads_key::<PpkArgon2ParallelismKey>(&rt, "PpkArgon2ParallelismKey", "Argon2-Parallelism")?;
-    reads_key::<PpkArgon2SaltKey>(&rt, "PpkArgon2SaltKey", "Argon2-Salt")?;
-    reads_key::<PpkPrivateLinesKey>(&rt, "PpkPrivateLinesKey", "Private-Lines")?;
-    reads_key::<PpkPrivateMacKey>(&rt, "PpkPrivateMacKey", "Private-MAC")
 }
 
 // A block's text and what it is refused for: the name of the refusal, and its three texts.
@@ -321,57 +226,5 @@ fn reads_hex_of_both_cases(rt: HostRuntime) -> Result<(), Fail> {
     let mut reader = PuttyKvReader::from_str("Argon2-Salt: 00aBFf");
     let salt = Bytes::from(reader.next_value::<PpkArgon2Salt>(rt.alloc())?);
     assert_eq!(rt; salt.as_slice(), [0x00, 0xab, 0xff].as_slice());
-    Ok(())
-}
-
-fn copies<T: TryClone + Drop + PartialEq>(
-    rt: &(impl Abort + AllocGlobal),
-    value: T,
-) -> Result<(), Fail> {
-    let copy = value.try_clone(rt.alloc())?;
-    assert!(rt; copy == value);
-    Ok(())
-}
-
-#[test]
-fn copies_each_value(rt: HostRuntime) -> Result<(), Fail> {
-    copies(
-        &rt,
-        PpkCommentValue::from(Text::new(rt.alloc(), "of a test")?),
-    )?;
-    copies(&rt, Base64PpkValue::from(Bytes::new(rt.alloc(), b"bytes")?))?;
-    copies(&rt, HexPpkValue::from(Bytes::new(rt.alloc(), b"bytes")?))?;
-    copies(&rt, PpkArgon2MemoryValue::from(7))?;
-    copies(&rt, PpkArgon2PassesValue::from(8))?;
-    copies(&rt, PpkArgon2ParallelismValue::from(9))
-}
-
-fn prints<E: Display>(rt: &(impl Abort + AllocGlobal), error: &E, name: &str) -> Result<(), Fail> {
-    let text = format!(in rt.alloc(); "{error}")?;
-    assert_eq!(rt; text.as_str(), name);
-    Ok(())
-}
-
-#[test]
-fn prints_the_name_of_a_refusal(rt: HostRuntime) -> Result<(), Fail> {
-    prints(&rt, &KvError::TooManyLines, "TooManyLines")?;
-    prints(&rt, &KvError::TooLong, "TooLong")?;
-    prints(&rt, &KvError::NoMemory, "NoMemory")?;
-    prints(&rt, &PpkValueError::TooLong, "TooLong")?;
-    prints(&rt, &PpkValueError::NoMemory, "NoMemory")
-}
-
-#[test]
-fn prints_the_name_of_a_bad_text(rt: HostRuntime) -> Result<(), Fail> {
-    match PpkArgon2PassesValue::read(rt.alloc(), "x") {
-        Ok(_) => assert!(rt; false),
-        Err(e) => {
-            prints(&rt, &e, "Parsing")?;
-            if let PpkValueError::Parsing(e) = e {
-                prints(&rt, &e, "PpkValueParsingError")?;
-                assert_eq!(rt; e.expected.as_str(), "<valid u32 value>");
-            }
-        }
-    }
     Ok(())
 }

@@ -1,7 +1,8 @@
-//! Published values, which show that the definition is the standard's.
+//! HMAC-SHA-1 and HMAC-SHA-256 of published keys and messages, which show that the definition is the
+//! standard's.
 
-use crate::{PlainSuite, Suite, hmac_sha1, hmac_sha256};
-use std::alloc::{AllocError, Global};
+use crate::fakes::hex_of;
+use picky_suite::{PlainSuite, Suite, hmac_sha1, hmac_sha256};
 use std::test::Fail;
 
 // A key and a message, and their two MACs in hex.
@@ -128,14 +129,6 @@ fn macs_of<S: Suite>(suite: &S, key: &[u8], message: &[u8]) -> ([u8; 20], [u8; 3
         suite.hmac_sha1(key, message),
         suite.hmac_sha256(key, message),
     )
-}
-
-fn hex_of(alloc: Global, bytes: &[u8]) -> Result<String, AllocError> {
-    let mut text = String::new(alloc);
-    for byte in bytes {
-        write!(text, "{byte:02x}")?;
-    }
-    Ok(text)
 }
 
 #[test]

@@ -1,40 +1,7 @@
-//! What is printed for a refusal, and devices that fail.
+//! What is printed for an input that is refused.
 
-use crate::tests::{Refusal, refuses, run_on};
-use picky_wire::{MemorySource, SliceSource};
-use std::alloc::Global;
+use crate::runs::{COMMANDS, Refusal, refuses};
 use std::test::Fail;
-
-// A line whose key is 32 zero bytes.
-const FIRST_LINE: &str =
-    "ssh-ed25519 AAAAC3NzaC1lZDI1NTE5AAAAIAAAAAAAAAAAAAAAAAAAAAAAAAAAAAAAAAAAAAAAAAAA k\n";
-
-// Each command, and what it writes for the line.
-// puttygen -L FIRST_LINE.pub | sed 's/$/\r/'; puttygen -p FIRST_LINE.pub | sed 's/$/\r/';
-// for h in md5 sha1 sha256; do ssh-keygen -l -E $h -f FIRST_LINE.pub; done | cut -d' ' -f2, MD5's
-// digest without its colons.
-static FIRST_TEXTS: [(&str, &str); 3] = [
-    (
-        "ssh-pub",
-        "ssh-ed25519 AAAAC3NzaC1lZDI1NTE5AAAAIAAAAAAAAAAAAAAAAAAAAAAAAAAAAAAAAAAAAAAAAAAA k\r\n",
-    ),
-    (
-        "putty-pub",
-        "---- BEGIN SSH2 PUBLIC KEY ----\r
-Comment: \"k\"\r
-AAAAC3NzaC1lZDI1NTE5AAAAIAAAAAAAAAAAAAAAAAAAAAAAAAAAAAAAAAAAAAAA\r
-AAAA\r
----- END SSH2 PUBLIC KEY ----\r
-",
-    ),
-    (
-        "fingerprint",
-        "MD5:3d5238ceff94f5d781a4a4f92b4ffea0
-SHA1:tBSuaYQghm80Yfylv/VK07xH9c0
-SHA256:kmYcvdi2GkPeWxB6XLjrZB8JHsy2Hm8luHMFp9GMvqk
-",
-    ),
-];
 
 const IO_ERROR: Refusal = (1, "keyconv: refused: input.public.IoError\n");
 
@@ -237,117 +204,15 @@ static BODIES: [(&str, &str, Refusal); 23] = [
     ),
 ];
 
-// Words that name no command.
-static NO_COMMANDS: [&[&str]; 11] = [
-    &[],
-    &[""],
-    &["putty-pub", "putty-pub"],
-    &["ssh-pub", "fingerprint"],
-    &["fingerprint", ""],
-    &["putty-pub "],
-    &["PUTTY-PUB"],
-    &["putty"],
-    &["fingerprints"],
-    &["--help"],
-    &["--version"],
-];
-
-const USAGE: &str =
-    "keyconv: usage: keyconv openssh|ppk2|ppk3|ssh-pub|putty-pub|cert|tbs|fingerprint|sample\n";
-
 #[test]
 fn refuses_with_the_cause_printed(rt: HostRuntime) -> Result<(), Fail> {
-    for (command, _) in &FIRST_TEXTS {
+    for command in COMMANDS {
         for (name, input, refusal) in &INPUTS {
             refuses(&rt, rt.alloc(), name, command, input, *refusal)?;
         }
         for (name, body, refusal) in &BODIES {
             let line = format!(in rt.alloc(); "ssh-ed25519 {body} k\n")?;
             refuses(&rt, rt.alloc(), name, command, line.as_bytes(), *refusal)?;
-        }
-    }
-    Ok(())
-}
-
-#[test]
-fn answers_usage(rt: HostRuntime) -> Result<(), Fail> {
-    for words in &NO_COMMANDS {
-        let mut source = SliceSource::new(FIRST_LINE.as_bytes());
-        let end = run_on(rt.alloc(), words, &mut source, 400, 400)?;
-        assert_eq!(rt; end.status.exit_code(), 2, "{words:?}");
-        assert_eq!(rt; end.err.written(), USAGE.as_bytes(), "{words:?}");
-        assert_eq!(rt; source.rest(), FIRST_LINE.as_bytes(), "{words:?}");
-    }
-    Ok(())
-}
-
-#[test]
-fn takes_16_mib_and_no_more(rt: HostRuntime) -> Result<(), Fail> {
-    for (command, text) in &FIRST_TEXTS {
-        for (len, code, text, printed) in [
-            (16_777_216, 0, *text, ""),
-            (16_777_217, 7, "", "keyconv: input too long\n"),
-        ] {
-            let input = first_line_within(rt.alloc(), len)?;
-            let mut source = SliceSource::new(input.as_slice());
-            let end = run_on(rt.alloc(), &[*command], &mut source, 400, 400)?;
-            assert_eq!(rt; end.status.exit_code(), code, "{command}: {len}");
-            assert_eq!(rt; end.out.written(), text.as_bytes(), "{command}: {len}");
-            assert_eq!(rt; end.err.written(), printed.as_bytes(), "{command}: {len}");
-        }
-    }
-    Ok(())
-}
-
-// So many bytes, the first line in front.
-fn first_line_within(alloc: Global, len: usize) -> Result<Vec<u8>, Fail> {
-    let mut input = Vec::from_slice(alloc, FIRST_LINE.as_bytes())?;
-    input.resize(len, b'x')?;
-    Ok(input)
-}
-
-#[test]
-fn says_that_the_source_failed(rt: HostRuntime) -> Result<(), Fail> {
-    for (command, text) in &FIRST_TEXTS {
-        // 83 bytes are 12 calls, and one more says that they end.
-        for call in 0..15 {
-            let (code, text, printed) = if call < 13 {
-                (3, "", "keyconv: read fault\n")
-            } else {
-                (0, *text, "")
-            };
-            let mut source = MemorySource::new(rt.alloc(), FIRST_LINE.as_bytes(), 7, &[call])?;
-            let end = run_on(rt.alloc(), &[*command], &mut source, 400, 400)?;
-            assert_eq!(rt; end.status.exit_code(), code, "{command}: call {call}");
-            assert_eq!(rt;
-                end.out.written(),
-                text.as_bytes(),
-                "{command}: call {call}"
-            );
-            assert_eq!(rt;
-                end.err.written(),
-                printed.as_bytes(),
-                "{command}: call {call}"
-            );
-        }
-    }
-    Ok(())
-}
-
-#[test]
-fn says_that_out_failed(rt: HostRuntime) -> Result<(), Fail> {
-    for (command, text) in &FIRST_TEXTS {
-        let text = text.as_bytes();
-        for room in 0..text.len() {
-            let mut source = SliceSource::new(FIRST_LINE.as_bytes());
-            let end = run_on(rt.alloc(), &[*command], &mut source, room, 400)?;
-            assert_eq!(rt; end.status.exit_code(), 4, "{command}: room {room}");
-            assert_eq!(rt; end.out.written(), &text[..room], "{command}: room {room}");
-            assert_eq!(rt;
-                end.err.written(),
-                "keyconv: write fault\n".as_bytes(),
-                "{command}: room {room}"
-            );
         }
     }
     Ok(())

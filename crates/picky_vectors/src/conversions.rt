@@ -1,0 +1,150 @@
+//! Lines converted: what puttygen and ssh-keygen write for the same key.
+
+use crate::keys::KEY_ROWS;
+use crate::runs::{converts, refuses, writes};
+use picky_convert::{ConvertError, Target, convert};
+use picky_ppk::PuttyError;
+use picky_suite::PlainSuite;
+use picky_wire::Text;
+use std::alloc::Global;
+use std::process::Abort;
+use std::test::Fail;
+
+const KEY_WORD: &str = "AAAAC3NzaC1lZDI1NTE5AAAAIPaSiDKIdwa2ceSmAajZPTAKx5U9jncB9LlE67abXQ2F";
+
+// The name, what follows the key in the line, and the comment in PuTTY's text.
+//
+// Up to "white space alone*" `ssh-keygen -q -c -C COMMENT -P '' -f KEY` made the lines, and the
+// others were edited by hand. What is wanted is `puttygen -p KEY.pub` with CRLF for LF, but for the
+// rows with a star: there PuTTYgen keeps the white space or the CR, or writes no comment line.
+static COMMENTS: [(&str, &str, &str); 18] = [
+    ("a word", " me@example.org\n", "me@example.org"),
+    ("spaces", " two  words\n", "two  words"),
+    ("quotes", " a \"quoted\" word\n", "a \\\"quoted\\\" word"),
+    ("backslashes", " C:\\keys\\me\n", "C:\\\\keys\\\\me"),
+    ("one of each", " a\"b\\c\n", "a\\\"b\\\\c"),
+    ("three backslashes", " \\\\\\\n", "\\\\\\\\\\\\"),
+    (
+        "both at the end",
+        " both \\\" at the end\\\n",
+        "both \\\\\\\" at the end\\\\",
+    ),
+    ("not ASCII", " ünïcödé 日本 🔑\n", "ünïcödé 日本 🔑"),
+    ("empty", " \n", ""),
+    ("white space at the end*", " k  \t\u{a0}\n", "k"),
+    ("white space alone*", "  \t\n", ""),
+    ("CRLF", " k\r\n", "k"),
+    ("no line end", " k", "k"),
+    ("a second line", " k\nssh-rsa more\n", "k"),
+    ("a space in front", "  k\n", " k"),
+    ("none*", "\n", ""),
+    ("none and no line end*", "", ""),
+    ("a CR inside*", " a\rb\n", "a"),
+];
+
+// The name, a line whose key is 32 zero bytes, and the comment in PuTTY's text. PuTTYgen writes no
+// comment line for the first and AAAAAA== for the second, the byte after the key in it, and it
+// refuses the third.
+static ZERO_KEYS: [(&str, &str, &str); 3] = [
+    (
+        "no comment",
+        "ssh-ed25519 AAAAC3NzaC1lZDI1NTE5AAAAIAAAAAAAAAAAAAAAAAAAAAAAAAAAAAAAAAAAAAAAAAAA",
+        "",
+    ),
+    (
+        "a byte after the key",
+        "ssh-ed25519 AAAAC3NzaC1lZDI1NTE5AAAAIAAAAAAAAAAAAAAAAAAAAAAAAAAAAAAAAAAAAAAAAAAAAA== k",
+        "k",
+    ),
+    (
+        "another first word",
+        "ssh-rsa AAAAC3NzaC1lZDI1NTE5AAAAIAAAAAAAAAAAAAAAAAAAAAAAAAAAAAAAAAAAAAAAAAAA k\n",
+        "k",
+    ),
+];
+
+/// For the line PuTTY's text with this quoted comment and these rows is written.
+fn converts_to_putty(
+    rt: &impl Abort,
+    alloc: Global,
+    name: &str,
+    line: &str,
+    quoted: &str,
+    rows: &str,
+) -> Result<(), Fail> {
+    let text = format!(in alloc;
+        "---- BEGIN SSH2 PUBLIC KEY ----\r\nComment: \"{quoted}\"\r\n{rows}\r\n\
+         ---- END SSH2 PUBLIC KEY ----\r\n"
+    )?;
+    converts(rt, alloc, name, line, &Target::PuttyPublic, text.as_str())
+}
+
+#[test]
+fn quotes_a_comment_as_puttygen_does(rt: HostRuntime) -> Result<(), Fail> {
+    for (name, comment, quoted) in &COMMENTS {
+        let line = format!(in rt.alloc(); "ssh-ed25519 {KEY_WORD}{comment}")?;
+        let rows = "AAAAC3NzaC1lZDI1NTE5AAAAIPaSiDKIdwa2ceSmAajZPTAKx5U9jncB9LlE67ab\r\nXQ2F";
+        converts_to_putty(&rt, rt.alloc(), name, line.as_str(), quoted, rows)?;
+    }
+    for (name, line, quoted) in &ZERO_KEYS {
+        let rows = "AAAAC3NzaC1lZDI1NTE5AAAAIAAAAAAAAAAAAAAAAAAAAAAAAAAAAAAAAAAAAAAA\r\nAAAA";
+        converts_to_putty(&rt, rt.alloc(), name, line, quoted, rows)?;
+    }
+    Ok(())
+}
+
+#[test]
+fn keeps_the_line_of_ssh_keygen(rt: HostRuntime) -> Result<(), Fail> {
+    for row in &KEY_ROWS {
+        let line = format!(in rt.alloc(); "{}\n", row.line)?;
+        let text = format!(in rt.alloc(); "{}\r\n", row.line)?;
+        writes(
+            &rt,
+            rt.alloc(),
+            row.name,
+            "ssh-pub",
+            line.as_str(),
+            text.as_str(),
+        )?;
+    }
+    Ok(())
+}
+
+#[test]
+fn writes_the_text_of_puttygen(rt: HostRuntime) -> Result<(), Fail> {
+    let refusal = (1, "keyconv: refused: output.putty.NotSupported\n");
+    for row in &KEY_ROWS {
+        let line = format!(in rt.alloc(); "{}\n", row.line)?;
+        match row.putty {
+            Some(text) => writes(&rt, rt.alloc(), row.name, "putty-pub", line.as_str(), text)?,
+            None => refuses(
+                &rt,
+                rt.alloc(),
+                row.name,
+                "putty-pub",
+                line.as_bytes(),
+                refusal,
+            )?,
+        }
+    }
+    Ok(())
+}
+
+fn is_unwritten(alloc: Global, text: &str, target: &Target, wanted: &ConvertError) -> bool {
+    match convert(alloc, &mut PlainSuite::new(), text, target) {
+        Ok(_) => false,
+        Err(why) => why == *wanted,
+    }
+}
+
+#[test]
+fn has_no_putty_text_for_a_device(rt: HostRuntime) -> Result<(), Fail> {
+    let wanted = ConvertError::Putty(PuttyError::NotSupported {
+        feature: Text::new(rt.alloc(), "SK keys")?,
+    });
+    for row in &KEY_ROWS {
+        let is_lacked = is_unwritten(rt.alloc(), row.line, &Target::PuttyPublic, &wanted);
+        assert_eq!(rt; is_lacked, row.putty.is_none(), "{}", row.name);
+    }
+    Ok(())
+}

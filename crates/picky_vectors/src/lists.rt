@@ -1,0 +1,92 @@
+//! Lists keep their order, and elements are read back.
+
+use crate::keys::{KEY_ROWS, key_of};
+use picky_sshpub::SshBasePublicKey;
+use picky_wire::{
+    CodecError, List, MemorySink, MemorySource, SliceSource, SshComplexTypeDecode,
+    SshComplexTypeEncode, SshElement, SshLayout, Text, Timestamp, TryClone, WireError, decode_list,
+    encode_list, laws,
+};
+use std::alloc::Global;
+use std::test::Fail;
+
+#[test]
+fn lists_keep_their_order(rt: HostRuntime) -> Result<(), Fail> {
+    let alloc = rt.alloc();
+    let moment = Timestamp::from(258).try_clone(alloc)?;
+    assert_eq!(rt; moment.secs(), 258);
+    assert!(rt; Timestamp(257) < moment);
+    let mut moments = List::new(alloc);
+    assert!(rt; moments.push(moment).is_ok());
+    let copy = List::from_vec(moments.try_clone(alloc)?.into_vec());
+    assert!(rt; copy == moments);
+    assert_eq!(rt; copy.as_slice(), [Timestamp(258)].as_slice());
+    Ok(())
+}
+
+// What an element writes is read back, asked as a list's codec asks it.
+fn is_read_back<T: SshElement + PartialEq>(
+    alloc: Global,
+    value: &T,
+    len: u64,
+) -> Result<bool, <T as SshComplexTypeDecode>::Error> {
+    let mut sink = match MemorySink::new(alloc, 100, 3, &[]) {
+        Ok(sink) => sink,
+        Err(_) => return Err(T::refusal(WireError::NoMemory)),
+    };
+    if value.encode(&mut sink).is_err() {
+        return Err(T::refusal(WireError::WriteFault));
+    }
+    let mut source = SliceSource::new(sink.written());
+    match T::decode(alloc, &mut source) {
+        Ok(read) => Ok(read == *value && value.spelling_len() == len && source.rest().is_empty()),
+        Err(e) => Err(e),
+    }
+}
+
+#[test]
+fn elements_are_read_back(rt: HostRuntime) -> Result<(), Fail> {
+    let alloc = rt.alloc();
+    assert!(rt; is_read_back(alloc, &Timestamp(258), 8)?);
+    assert!(rt; is_read_back(alloc, &Text::new(alloc, "ab")?, 6)?);
+    assert!(rt; Text::no_memory(&Text::refusal(WireError::NoMemory)));
+    assert!(rt; !Timestamp::no_memory(&Timestamp::refusal(WireError::TooLong)));
+    assert!(rt; !WireError::from_wire(WireError::ReadFault).is_no_memory());
+    assert_eq!(rt; Text::write_refusal(WireError::TooLong), WireError::TooLong);
+    assert_eq!(rt;
+        Timestamp::write_refusal(WireError::WriteFault),
+        WireError::WriteFault
+    );
+    laws::fields_take_the_standards_pieces::<MemorySource>();
+    laws::elements_are_read_one_way::<Timestamp>();
+    laws::elements_are_read_back::<Text>();
+    laws::blocks_are_refused_at_one_place::<Text>();
+    laws::no_piece_is_a_front_of_another::<Timestamp>();
+    Ok(())
+}
+
+/// A list of the line's key twice.
+fn twice(alloc: Global, line: &str) -> Result<List<SshBasePublicKey>, Fail> {
+    let mut keys = List::new(alloc);
+    keys.push(key_of(alloc, line)?)?;
+    keys.push(key_of(alloc, line)?)?;
+    Ok(keys)
+}
+
+/// The list is written and read back.
+fn is_list(alloc: Global, keys: &List<SshBasePublicKey>) -> Result<bool, Fail> {
+    let mut sink = MemorySink::new(alloc, 9999, 100, &[])?;
+    encode_list(keys.as_slice(), &mut sink)?;
+    let mut source = SliceSource::new(sink.written());
+    let again: List<SshBasePublicKey> = decode_list(alloc, &mut source)?;
+    Ok(again == *keys && source.rest().is_empty())
+}
+
+#[test]
+fn makes_lists_of_keys(rt: HostRuntime) -> Result<(), Fail> {
+    for row in &KEY_ROWS {
+        let keys = twice(rt.alloc(), row.line)?;
+        assert!(rt; is_list(rt.alloc(), &keys)?, "{}", row.name);
+    }
+    Ok(())
+}

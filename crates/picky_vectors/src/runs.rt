@@ -1,0 +1,105 @@
+//! Runs of the program over streams in memory.
+
+use picky_convert::{Status, Target, convert, run};
+use picky_suite::PlainSuite;
+use picky_wire::{MemorySink, SliceSource, Source, Text};
+use std::alloc::Global;
+use std::process::Abort;
+use std::test::Fail;
+
+/// The words that name a command.
+pub const COMMANDS: [&str; 3] = ["ssh-pub", "putty-pub", "fingerprint"];
+
+/// How a run ended, and what it wrote.
+#[derive(Drop)]
+pub struct Ran {
+    pub status: Status,
+    pub out: MemorySink,
+    pub err: MemorySink,
+}
+
+/// A run where `out` and `err` have so much room.
+pub fn run_on<S: Source>(
+    alloc: Global,
+    words: &[&str],
+    source: &mut S,
+    room: usize,
+    err_room: usize,
+) -> Result<Ran, Fail> {
+    let mut texts = Vec::new(alloc);
+    for word in words {
+        texts.push(Text::new(alloc, word)?)?;
+    }
+    let mut out = MemorySink::new(alloc, room, 64, &[])?;
+    let mut err = MemorySink::new(alloc, err_room, 64, &[])?;
+    let status = run(
+        alloc,
+        texts.as_slice(),
+        &mut PlainSuite::new(),
+        source,
+        &mut out,
+        &mut err,
+    );
+    Ok(Ran { status, out, err })
+}
+
+/// Whether the run ended with this exit code, and wrote this to `out` and to `err`.
+pub fn ended(ran: &Ran, code: u8, out: &[u8], err: &str) -> bool {
+    ran.status.exit_code() == code
+        && ran.out.written() == out
+        && ran.err.written() == err.as_bytes()
+}
+
+/// The command writes this text for the input, and nothing on `err`.
+pub fn writes(
+    rt: &impl Abort,
+    alloc: Global,
+    name: &str,
+    command: &str,
+    input: &str,
+    text: &str,
+) -> Result<(), Fail> {
+    let mut source = SliceSource::new(input.as_bytes());
+    let end = run_on(alloc, &[command], &mut source, 999, 999)?;
+    assert!(rt; ended(&end, 0, text.as_bytes(), ""), "{command}: {name}");
+    Ok(())
+}
+
+/// An exit code, and the line on `err`.
+pub type Refusal = (u8, &'static str);
+
+/// The command refuses the input so, and alike where `err` takes nothing.
+pub fn refuses(
+    rt: &impl Abort,
+    alloc: Global,
+    name: &str,
+    command: &str,
+    input: &[u8],
+    refusal: Refusal,
+) -> Result<(), Fail> {
+    let (code, line) = refusal;
+    for (err_room, printed) in [(999, line), (0, "")] {
+        let mut source = SliceSource::new(input);
+        let end = run_on(alloc, &[command], &mut source, 999, err_room)?;
+        assert!(rt; ended(&end, code, b"", printed), "{command}: {name}");
+    }
+    Ok(())
+}
+
+/// The call and the command write this text for the line.
+pub fn converts(
+    rt: &impl Abort,
+    alloc: Global,
+    name: &str,
+    line: &str,
+    target: &Target,
+    text: &str,
+) -> Result<(), Fail> {
+    let answer = convert(alloc, &mut PlainSuite::new(), line, target)?;
+    assert_eq!(rt; answer.as_str(), text, "{name}");
+    let command = match target {
+        Target::OpenSshPublic => "ssh-pub",
+        Target::PuttyPublic => "putty-pub",
+    };
+    writes(rt, alloc, name, command, line, text)
+}

@@ -1,0 +1,174 @@
+//! How a run ends: its status, its line on standard error, and what devices that fail make of both.
+
+use crate::runs::{ended, run_on};
+use picky_convert::{ConvertError, ReadError, Status, report};
+use picky_ppk::PuttyError;
+use picky_sshpub::SshPublicKeyError;
+use picky_wire::{MemorySource, SliceSource};
+use std::alloc::Global;
+use std::test::Fail;
+
+// A line whose key is 32 zero bytes.
+const FIRST_LINE: &str =
+    "ssh-ed25519 AAAAC3NzaC1lZDI1NTE5AAAAIAAAAAAAAAAAAAAAAAAAAAAAAAAAAAAAAAAAAAAAAAAA k\n";
+
+// Each command, and what it writes for the line.
+// puttygen -L FIRST_LINE.pub | sed 's/$/\r/'; puttygen -p FIRST_LINE.pub | sed 's/$/\r/';
+// for h in md5 sha1 sha256; do ssh-keygen -l -E $h -f FIRST_LINE.pub; done | cut -d' ' -f2, MD5's
+// digest without its colons.
+static FIRST_TEXTS: [(&str, &str); 3] = [
+    (
+        "ssh-pub",
+        "ssh-ed25519 AAAAC3NzaC1lZDI1NTE5AAAAIAAAAAAAAAAAAAAAAAAAAAAAAAAAAAAAAAAAAAAAAAAA k\r\n",
+    ),
+    (
+        "putty-pub",
+        "---- BEGIN SSH2 PUBLIC KEY ----\r
+Comment: \"k\"\r
+AAAAC3NzaC1lZDI1NTE5AAAAIAAAAAAAAAAAAAAAAAAAAAAAAAAAAAAAAAAAAAAA\r
+AAAA\r
+---- END SSH2 PUBLIC KEY ----\r
+",
+    ),
+    (
+        "fingerprint",
+        "MD5:3d5238ceff94f5d781a4a4f92b4ffea0
+SHA1:tBSuaYQghm80Yfylv/VK07xH9c0
+SHA256:kmYcvdi2GkPeWxB6XLjrZB8JHsy2Hm8luHMFp9GMvqk
+",
+    ),
+];
+
+// Words that name no command.
+static NO_COMMANDS: [&[&str]; 11] = [
+    &[],
+    &[""],
+    &["putty-pub", "putty-pub"],
+    &["ssh-pub", "fingerprint"],
+    &["fingerprint", ""],
+    &["putty-pub "],
+    &["PUTTY-PUB"],
+    &["putty"],
+    &["fingerprints"],
+    &["--help"],
+    &["--version"],
+];
+
+const USAGE: &str =
+    "keyconv: usage: keyconv openssh|ppk2|ppk3|ssh-pub|putty-pub|cert|tbs|fingerprint|sample\n";
+
+// A status, its exit code and its line (docs/FORMATS.md, "The line on standard error").
+const REPORTS: [(Status, u8, &str); 10] = [
+    (
+        Status::Usage,
+        2,
+        "keyconv: usage: keyconv openssh|ppk2|ppk3|ssh-pub|putty-pub|cert|tbs|fingerprint|sample\n",
+    ),
+    (Status::ReadFault, 3, "keyconv: read fault\n"),
+    (Status::WriteFault, 4, "keyconv: write fault\n"),
+    (Status::NoMemory, 6, "keyconv: out of memory\n"),
+    (Status::InputTooLong, 7, "keyconv: input too long\n"),
+    (Status::InputNotUtf8, 8, "keyconv: input not UTF-8\n"),
+    (
+        Status::Refused(ConvertError::TooLong),
+        1,
+        "keyconv: refused: TooLong\n",
+    ),
+    (
+        Status::Refused(ConvertError::CommentNotCarried),
+        1,
+        "keyconv: refused: CommentNotCarried\n",
+    ),
+    (
+        Status::Refused(ConvertError::Input(ReadError::Public(SshPublicKeyError::TooLong))),
+        1,
+        "keyconv: refused: input.public.TooLong\n",
+    ),
+    (
+        Status::Refused(ConvertError::Putty(PuttyError::TooManyLines)),
+        1,
+        "keyconv: refused: output.putty.TooManyLines\n",
+    ),
+];
+
+#[test]
+fn prints_a_line_for_each_status(rt: HostRuntime) {
+    for (status, code, line) in &REPORTS {
+        assert_eq!(rt; report(status), *line);
+        assert_eq!(rt; status.exit_code(), *code, "{line}");
+    }
+}
+
+#[test]
+fn answers_usage(rt: HostRuntime) -> Result<(), Fail> {
+    for words in &NO_COMMANDS {
+        let mut source = SliceSource::new(FIRST_LINE.as_bytes());
+        let end = run_on(rt.alloc(), words, &mut source, 400, 400)?;
+        assert!(rt; ended(&end, 2, b"", USAGE), "{words:?}");
+        assert_eq!(rt; source.rest(), FIRST_LINE.as_bytes(), "{words:?}");
+    }
+    Ok(())
+}
+
+// So many bytes, the first line in front.
+fn first_line_within(alloc: Global, len: usize) -> Result<Vec<u8>, Fail> {
+    let mut input = Vec::from_slice(alloc, FIRST_LINE.as_bytes())?;
+    input.resize(len, b'x')?;
+    Ok(input)
+}
+
+#[test]
+fn takes_16_mib_and_no_more(rt: HostRuntime) -> Result<(), Fail> {
+    for (command, text) in &FIRST_TEXTS {
+        for (len, code, text, printed) in [
+            (16_777_216, 0, *text, ""),
+            (16_777_217, 7, "", "keyconv: input too long\n"),
+        ] {
+            let input = first_line_within(rt.alloc(), len)?;
+            let mut source = SliceSource::new(input.as_slice());
+            let end = run_on(rt.alloc(), &[*command], &mut source, 400, 400)?;
+            assert!(rt;
+                ended(&end, code, text.as_bytes(), printed),
+                "{command}: {len}"
+            );
+        }
+    }
+    Ok(())
+}
+
+#[test]
+fn says_that_the_source_failed(rt: HostRuntime) -> Result<(), Fail> {
+    for (command, text) in &FIRST_TEXTS {
+        // 83 bytes are 12 calls, and one more says that they end.
+        for call in 0..15 {
+            let (code, text, printed) = if call < 13 {
+                (3, "", "keyconv: read fault\n")
+            } else {
+                (0, *text, "")
+            };
+            let mut source = MemorySource::new(rt.alloc(), FIRST_LINE.as_bytes(), 7, &[call])?;
+            let end = run_on(rt.alloc(), &[*command], &mut source, 400, 400)?;
+            assert!(rt;
+                ended(&end, code, text.as_bytes(), printed),
+                "{command}: call {call}"
+            );
+        }
+    }
+    Ok(())
+}
+
+#[test]
+fn says_that_out_failed(rt: HostRuntime) -> Result<(), Fail> {
+    for (command, text) in &FIRST_TEXTS {
+        let text = text.as_bytes();
+        for room in 0..text.len() {
+            let mut source = SliceSource::new(FIRST_LINE.as_bytes());
+            let end = run_on(rt.alloc(), &[*command], &mut source, room, 400)?;
+            assert!(rt;
+                ended(&end, 4, &text[..room], "keyconv: write fault\n"),
+                "{command}: room {room}"
+            );
+        }
+    }
+    Ok(())
+}

@@ -1,0 +1,35 @@
+//! The words of a key line, PuTTY's quoting, and lines.
+
+use picky_text::{LineReader, after_word, first_word, push_quoted, rest_of_line, unquoted};
+use std::test::Fail;
+
+// 'ssh-ed25519 AAAAC3Nz my key \t\r\n'.split(' ', 2) of Python, the last part by its rstrip
+#[test]
+fn reads_the_words_of_a_line(rt: HostRuntime) {
+    let line = b"ssh-ed25519 AAAAC3Nz my key \t\r\nssh-rsa";
+    assert_eq!(rt; first_word(line), b"ssh-ed25519".as_slice());
+    let body = after_word(line);
+    assert_eq!(rt; first_word(body), b"AAAAC3Nz".as_slice());
+    assert_eq!(rt; rest_of_line(after_word(body)), Some("my key"));
+}
+
+// ssh-keygen -t ed25519 -C 'a "b" c:\d', then the comment that puttygen -p shows of the key
+#[test]
+fn quotes_as_puttygen_does(rt: HostRuntime) -> Result<(), Fail> {
+    let mut out = String::new(rt.alloc());
+    push_quoted(&mut out, "a \"b\" c:\\d")?;
+    assert_eq!(rt; out.as_str(), "a \\\"b\\\" c:\\\\d");
+    let back = unquoted(rt.alloc(), out.as_str())?;
+    assert_eq!(rt; back.as_str(), "a \"b\" c:\\d");
+    Ok(())
+}
+
+// the example of Rust's documentation of str::lines
+#[test]
+fn splits_lines_as_rust_does(rt: HostRuntime) {
+    let mut reader = LineReader::new("foo\r\nbar\n\nbaz\r");
+    for line in ["foo", "bar", "", "baz\r"] {
+        assert_eq!(rt; reader.next_line(), Some(line));
+    }
+    assert_eq!(rt; reader.next_line(), None);
+}
