@@ -5,7 +5,7 @@ use Rattle.std.proofs.Common.{◌∷◌, ◌++◌, length, drop, refl, ap, arith
 use Rattle.std.proofs.Common.{Err}
 use Rattle.std.proofs.lemmas.Bool.Decides.{nat_tests}
 use Rattle.std.proofs.lemmas.List.{append-nil, length-append, length-drop}
-use Rattle.std.specs.Prelude.{nat_lt}
+use Rattle.std.specs.Prelude.{nat_lt, codes}
 use Rattle.std.specs.Fmt.{decimal}
 use Rattle.std.specs.Int.{div_ceil}
 use Rattle.std.specs.List.{concat}
@@ -15,7 +15,6 @@ use Rattle.picky_text.specs.RowLaws.{rows_of_are_rows}
 use Rattle.picky_text.specs.declared.lines.LineEnd.{LineEnd}
 use Rattle.picky_kv.specs.Output.{Output, extended, with_lines, with_block, pair_line, block_lines}
 use Rattle.picky_kv.specs.declared.error.KvError.TheVariants.{TooLong}
-use Rattle.picky_kv.specs.declared.literals.TheConstants.{SEPARATOR}
 
 -- a line before others
 pub text_of_cons : (end : LineEnd) (line : List ℕ) (more : List (List ℕ))
@@ -63,7 +62,7 @@ pub pair_too_long : (out : Output) (key value : List ℕ) → 2 ^ 32 ≤ length 
     → with_lines out (pair_line key value ∷ []) ≡ Err TooLong
 pair_too_long out key value long =
     let line : List ℕ = pair_line key value in
-    let front = length-append (key ++ SEPARATOR.now) value in
+    let front = length-append (key ++ codes ": ") value in
     let whole = length-append line (end_of out.end) in
     extended_too_long out (text_of out.end (line ∷ []))
     (rw (text_of_one out.end line) (omega arith))

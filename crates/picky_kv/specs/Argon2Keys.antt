@@ -1,10 +1,7 @@
 -- The keys of Argon2, one literal each, after PuTTY's manual, Appendix C.
-use Rattle.std.specs.Prelude.{refl}
+use Rattle.std.specs.Prelude.{[], ◌∷◌, codes, refl}
 use Rattle.picky_kv.specs.Field.{Field}
-use Rattle.picky_kv.specs.Literal.{single_field, IsPlain}
-use Rattle.picky_kv.specs.declared.literals.TheConstants.{ARGON2_MEMORY, ARGON2_PARALLELISM}
-use Rattle.picky_kv.specs.declared.literals.TheConstants.{ARGON2_PASSES, ARGON2_SALT}
-use Rattle.picky_kv.specs.declared.literals.TheConstants.{KEY_DERIVATION}
+use Rattle.picky_kv.specs.Literal.{LiteralRow, single_row, literal_field, IsPlain}
 use Rattle.picky_kv.specs.declared.argon2_keys.PpkKeyDerivationKey.{PpkKeyDerivationKey}
 use Rattle.picky_kv.specs.declared.argon2_keys.PpkArgon2MemoryKey.{PpkArgon2MemoryKey}
 use Rattle.picky_kv.specs.declared.argon2_keys.PpkArgon2PassesKey.{PpkArgon2PassesKey}
@@ -12,8 +9,12 @@ use Rattle.picky_kv.specs.declared.argon2_keys.PpkArgon2ParallelismKey.{PpkArgon
 use Rattle.picky_kv.specs.declared.argon2_keys.PpkArgon2SaltKey.{PpkArgon2SaltKey}
 
 -- the key of the line that names the flavour of Argon2
+abbrev pub key_derivation_key_row : LiteralRow PpkKeyDerivationKey
+key_derivation_key_row = single_row (codes "PpkKeyDerivationKey") (codes "Key-Derivation")
+
+-- its type
 unfoldable pub key_derivation_key : Field PpkKeyDerivationKey
-key_derivation_key = single_field (record {}) KEY_DERIVATION.now (λ _. refl)
+key_derivation_key = literal_field key_derivation_key_row (record {} ∷ []) (λ _. refl)
 
 -- it is plain
 pub key_derivation_key_is_plain : IsPlain key_derivation_key
@@ -21,8 +22,12 @@ unfolding key_derivation_key
 key_derivation_key_is_plain _ = refl
 
 -- the key of the line of Argon2's memory
+abbrev pub argon2_memory_key_row : LiteralRow PpkArgon2MemoryKey
+argon2_memory_key_row = single_row (codes "PpkArgon2MemoryKey") (codes "Argon2-Memory")
+
+-- its type
 unfoldable pub argon2_memory_key : Field PpkArgon2MemoryKey
-argon2_memory_key = single_field (record {}) ARGON2_MEMORY.now (λ _. refl)
+argon2_memory_key = literal_field argon2_memory_key_row (record {} ∷ []) (λ _. refl)
 
 -- it is plain
 pub argon2_memory_key_is_plain : IsPlain argon2_memory_key
@@ -30,8 +35,12 @@ unfolding argon2_memory_key
 argon2_memory_key_is_plain _ = refl
 
 -- the key of the line of Argon2's passes
+abbrev pub argon2_passes_key_row : LiteralRow PpkArgon2PassesKey
+argon2_passes_key_row = single_row (codes "PpkArgon2PassesKey") (codes "Argon2-Passes")
+
+-- its type
 unfoldable pub argon2_passes_key : Field PpkArgon2PassesKey
-argon2_passes_key = single_field (record {}) ARGON2_PASSES.now (λ _. refl)
+argon2_passes_key = literal_field argon2_passes_key_row (record {} ∷ []) (λ _. refl)
 
 -- it is plain
 pub argon2_passes_key_is_plain : IsPlain argon2_passes_key
@@ -39,8 +48,12 @@ unfolding argon2_passes_key
 argon2_passes_key_is_plain _ = refl
 
 -- the key of the line of Argon2's parallelism
+abbrev pub argon2_parallelism_key_row : LiteralRow PpkArgon2ParallelismKey
+argon2_parallelism_key_row = single_row (codes "PpkArgon2ParallelismKey") (codes "Argon2-Parallelism")
+
+-- its type
 unfoldable pub argon2_parallelism_key : Field PpkArgon2ParallelismKey
-argon2_parallelism_key = single_field (record {}) ARGON2_PARALLELISM.now (λ _. refl)
+argon2_parallelism_key = literal_field argon2_parallelism_key_row (record {} ∷ []) (λ _. refl)
 
 -- it is plain
 pub argon2_parallelism_key_is_plain : IsPlain argon2_parallelism_key
@@ -48,8 +61,12 @@ unfolding argon2_parallelism_key
 argon2_parallelism_key_is_plain _ = refl
 
 -- the key of the line of Argon2's salt
+abbrev pub argon2_salt_key_row : LiteralRow PpkArgon2SaltKey
+argon2_salt_key_row = single_row (codes "PpkArgon2SaltKey") (codes "Argon2-Salt")
+
+-- its type
 unfoldable pub argon2_salt_key : Field PpkArgon2SaltKey
-argon2_salt_key = single_field (record {}) ARGON2_SALT.now (λ _. refl)
+argon2_salt_key = literal_field argon2_salt_key_row (record {} ∷ []) (λ _. refl)
 
 -- it is plain
 pub argon2_salt_key_is_plain : IsPlain argon2_salt_key

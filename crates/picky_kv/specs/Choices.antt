@@ -1,13 +1,7 @@
 -- The types of several literals each, after PuTTY's manual, Appendix C.
-use Rattle.std.specs.Prelude.{ℕ, List, [], ◌∷◌, refl}
+use Rattle.std.specs.Prelude.{ℕ, List, [], ◌∷◌, codes, refl, ◌++◌}
 use Rattle.picky_kv.specs.Field.{Field}
-use Rattle.picky_kv.specs.Literal.{choice_field, AreNamed, IsPlain}
-use Rattle.picky_kv.specs.declared.literals.TheConstants.{PUTTY_USER_KEY_FILE_2}
-use Rattle.picky_kv.specs.declared.literals.TheConstants.{PUTTY_USER_KEY_FILE_3}
-use Rattle.picky_kv.specs.declared.literals.TheConstants.{SSH_RSA, SSH_DSS, ECDSA_SHA2_NISTP256}
-use Rattle.picky_kv.specs.declared.literals.TheConstants.{ECDSA_SHA2_NISTP384, ECDSA_SHA2_NISTP521}
-use Rattle.picky_kv.specs.declared.literals.TheConstants.{SSH_ED25519, SSH_ED448, NONE, AES256_CBC}
-use Rattle.picky_kv.specs.declared.literals.TheConstants.{ARGON2D, ARGON2I, ARGON2ID}
+use Rattle.picky_kv.specs.Literal.{LiteralRow, literal_field, AreNamed, IsPlain}
 use Rattle.picky_kv.specs.declared.choices.PpkVersionKey.{PpkVersionKey}
 use Rattle.picky_kv.specs.declared.choices.PpkVersionKey.TheVariants.{V2, V3}
 use Rattle.picky_kv.specs.declared.choices.PpkKeyAlgorithmValue.{PpkKeyAlgorithmValue}
@@ -24,8 +18,16 @@ use Rattle.picky_kv.specs.declared.choices.Argon2FlavourValue.TheVariants.{Argon
 
 -- the key of the first line: PuTTY-User-Key-File-2 or PuTTY-User-Key-File-3
 abbrev pub version_literal : PpkVersionKey → List ℕ
-version_literal V2 = PUTTY_USER_KEY_FILE_2.now
-version_literal V3 = PUTTY_USER_KEY_FILE_3.now
+version_literal V2 = codes "PuTTY-User-Key-File-2"
+version_literal V3 = codes "PuTTY-User-Key-File-3"
+
+-- its row
+abbrev pub version_row : LiteralRow PpkVersionKey
+version_row = record {
+  name = codes "PpkVersionKey";
+  literal = version_literal;
+  expected = codes "[PuTTY-User-Key-File-2, PuTTY-User-Key-File-3]";
+}
 
 -- in this order
 abbrev pub versions : List PpkVersionKey
@@ -38,7 +40,7 @@ versions_are_named V3 = refl
 
 -- the type of the first line's key
 unfoldable pub version_field : Field PpkVersionKey
-version_field = choice_field version_literal versions versions_are_named
+version_field = literal_field version_row versions versions_are_named
 
 -- it is plain
 pub version_field_is_plain : IsPlain version_field
@@ -48,13 +50,22 @@ version_field_is_plain V3 = refl
 
 -- its value, the key's algorithm
 abbrev pub algorithm_literal : PpkKeyAlgorithmValue → List ℕ
-algorithm_literal Rsa = SSH_RSA.now
-algorithm_literal Dss = SSH_DSS.now
-algorithm_literal EcdsaSha2Nistp256 = ECDSA_SHA2_NISTP256.now
-algorithm_literal EcdsaSha2Nistp384 = ECDSA_SHA2_NISTP384.now
-algorithm_literal EcdsaSha2Nistp521 = ECDSA_SHA2_NISTP521.now
-algorithm_literal Ed25519 = SSH_ED25519.now
-algorithm_literal Ed448 = SSH_ED448.now
+algorithm_literal Rsa = codes "ssh-rsa"
+algorithm_literal Dss = codes "ssh-dss"
+algorithm_literal EcdsaSha2Nistp256 = codes "ecdsa-sha2-nistp256"
+algorithm_literal EcdsaSha2Nistp384 = codes "ecdsa-sha2-nistp384"
+algorithm_literal EcdsaSha2Nistp521 = codes "ecdsa-sha2-nistp521"
+algorithm_literal Ed25519 = codes "ssh-ed25519"
+algorithm_literal Ed448 = codes "ssh-ed448"
+
+-- its row
+abbrev pub algorithm_row : LiteralRow PpkKeyAlgorithmValue
+algorithm_row = record {
+  name = codes "PpkKeyAlgorithmValue";
+  literal = algorithm_literal;
+  expected = codes "[ssh-rsa, ssh-dss, ecdsa-sha2-nistp256, ecdsa-sha2-nistp384, "
+      ++ codes "ecdsa-sha2-nistp521, ssh-ed25519, ssh-ed448]";
+}
 
 -- in this order
 abbrev pub algorithms : List PpkKeyAlgorithmValue
@@ -73,7 +84,7 @@ algorithms_are_named Ed448 = refl
 
 -- the type of the key's algorithm
 unfoldable pub algorithm_field : Field PpkKeyAlgorithmValue
-algorithm_field = choice_field algorithm_literal algorithms algorithms_are_named
+algorithm_field = literal_field algorithm_row algorithms algorithms_are_named
 
 -- how many mpints a private key of the algorithm has in a file
 abbrev pub mpint_values_count : PpkKeyAlgorithmValue → ℕ
@@ -87,8 +98,16 @@ mpint_values_count Ed448 = 1
 
 -- how the private key is encrypted
 abbrev pub encryption_literal : PpkEncryptionValue → List ℕ
-encryption_literal None = NONE.now
-encryption_literal Aes256Cbc = AES256_CBC.now
+encryption_literal None = codes "none"
+encryption_literal Aes256Cbc = codes "aes256-cbc"
+
+-- its row
+abbrev pub encryption_row : LiteralRow PpkEncryptionValue
+encryption_row = record {
+  name = codes "PpkEncryptionValue";
+  literal = encryption_literal;
+  expected = codes "[none, aes256-cbc]";
+}
 
 -- in this order
 abbrev pub encryptions : List PpkEncryptionValue
@@ -101,13 +120,21 @@ encryptions_are_named Aes256Cbc = refl
 
 -- the type of the encryption
 unfoldable pub encryption_field : Field PpkEncryptionValue
-encryption_field = choice_field encryption_literal encryptions encryptions_are_named
+encryption_field = literal_field encryption_row encryptions encryptions_are_named
 
 -- the flavour of Argon2
 abbrev pub flavour_literal : Argon2FlavourValue → List ℕ
-flavour_literal Argon2d = ARGON2D.now
-flavour_literal Argon2i = ARGON2I.now
-flavour_literal Argon2id = ARGON2ID.now
+flavour_literal Argon2d = codes "Argon2d"
+flavour_literal Argon2i = codes "Argon2i"
+flavour_literal Argon2id = codes "Argon2id"
+
+-- its row
+abbrev pub flavour_row : LiteralRow Argon2FlavourValue
+flavour_row = record {
+  name = codes "Argon2FlavourValue";
+  literal = flavour_literal;
+  expected = codes "[Argon2d, Argon2i, Argon2id]";
+}
 
 -- in this order
 abbrev pub flavours : List Argon2FlavourValue
@@ -121,4 +148,4 @@ flavours_are_named Argon2id = refl
 
 -- the type of the flavour
 unfoldable pub flavour_field : Field Argon2FlavourValue
-flavour_field = choice_field flavour_literal flavours flavours_are_named
+flavour_field = literal_field flavour_row flavours flavours_are_named

@@ -1,9 +1,7 @@
 -- The keys that each file has, one literal each, after PuTTY's manual, Appendix C.
-use Rattle.std.specs.Prelude.{refl}
+use Rattle.std.specs.Prelude.{[], ◌∷◌, codes, refl}
 use Rattle.picky_kv.specs.Field.{Field}
-use Rattle.picky_kv.specs.Literal.{single_field, IsPlain}
-use Rattle.picky_kv.specs.declared.literals.TheConstants.{COMMENT, ENCRYPTION, PRIVATE_LINES}
-use Rattle.picky_kv.specs.declared.literals.TheConstants.{PRIVATE_MAC, PUBLIC_LINES}
+use Rattle.picky_kv.specs.Literal.{LiteralRow, single_row, literal_field, IsPlain}
 use Rattle.picky_kv.specs.declared.keys.PpkEncryptionKey.{PpkEncryptionKey}
 use Rattle.picky_kv.specs.declared.keys.PpkCommentKey.{PpkCommentKey}
 use Rattle.picky_kv.specs.declared.keys.PpkPublicLinesKey.{PpkPublicLinesKey}
@@ -11,8 +9,12 @@ use Rattle.picky_kv.specs.declared.keys.PpkPrivateLinesKey.{PpkPrivateLinesKey}
 use Rattle.picky_kv.specs.declared.keys.PpkPrivateMacKey.{PpkPrivateMacKey}
 
 -- the key of the line that names the encryption
+abbrev pub encryption_key_row : LiteralRow PpkEncryptionKey
+encryption_key_row = single_row (codes "PpkEncryptionKey") (codes "Encryption")
+
+-- its type
 unfoldable pub encryption_key : Field PpkEncryptionKey
-encryption_key = single_field (record {}) ENCRYPTION.now (λ _. refl)
+encryption_key = literal_field encryption_key_row (record {} ∷ []) (λ _. refl)
 
 -- it is plain
 pub encryption_key_is_plain : IsPlain encryption_key
@@ -20,8 +22,12 @@ unfolding encryption_key
 encryption_key_is_plain _ = refl
 
 -- the key of the comment's line
+abbrev pub comment_key_row : LiteralRow PpkCommentKey
+comment_key_row = single_row (codes "PpkCommentKey") (codes "Comment")
+
+-- its type
 unfoldable pub comment_key : Field PpkCommentKey
-comment_key = single_field (record {}) COMMENT.now (λ _. refl)
+comment_key = literal_field comment_key_row (record {} ∷ []) (λ _. refl)
 
 -- it is plain
 pub comment_key_is_plain : IsPlain comment_key
@@ -29,8 +35,12 @@ unfolding comment_key
 comment_key_is_plain _ = refl
 
 -- the key of the block of the public key
+abbrev pub public_lines_key_row : LiteralRow PpkPublicLinesKey
+public_lines_key_row = single_row (codes "PpkPublicLinesKey") (codes "Public-Lines")
+
+-- its type
 unfoldable pub public_lines_key : Field PpkPublicLinesKey
-public_lines_key = single_field (record {}) PUBLIC_LINES.now (λ _. refl)
+public_lines_key = literal_field public_lines_key_row (record {} ∷ []) (λ _. refl)
 
 -- it is plain
 pub public_lines_key_is_plain : IsPlain public_lines_key
@@ -38,8 +48,12 @@ unfolding public_lines_key
 public_lines_key_is_plain _ = refl
 
 -- the key of the block of the private key
+abbrev pub private_lines_key_row : LiteralRow PpkPrivateLinesKey
+private_lines_key_row = single_row (codes "PpkPrivateLinesKey") (codes "Private-Lines")
+
+-- its type
 unfoldable pub private_lines_key : Field PpkPrivateLinesKey
-private_lines_key = single_field (record {}) PRIVATE_LINES.now (λ _. refl)
+private_lines_key = literal_field private_lines_key_row (record {} ∷ []) (λ _. refl)
 
 -- it is plain
 pub private_lines_key_is_plain : IsPlain private_lines_key
@@ -47,8 +61,12 @@ unfolding private_lines_key
 private_lines_key_is_plain _ = refl
 
 -- the key of the line of the MAC
+abbrev pub private_mac_key_row : LiteralRow PpkPrivateMacKey
+private_mac_key_row = single_row (codes "PpkPrivateMacKey") (codes "Private-MAC")
+
+-- its type
 unfoldable pub private_mac_key : Field PpkPrivateMacKey
-private_mac_key = single_field (record {}) PRIVATE_MAC.now (λ _. refl)
+private_mac_key = literal_field private_mac_key_row (record {} ∷ []) (λ _. refl)
 
 -- it is plain
 pub private_mac_key_is_plain : IsPlain private_mac_key

@@ -1,7 +1,7 @@
 -- Numbers in decimal, as std's `parse` reads them: a plus and leading zeros may stand first.
 use Rattle.std.proofs.Common.{◌≡◌, ℕ, ◌^◌, ◌<◌, ◌≤◌, ◌==◌, ◌&&◌, Bool, true, false, List, [], ◌∷◌}
 use Rattle.std.proofs.Common.{length, refl, sym, ◌∙◌, ap, arith, subst, inl, inr}
-use Rattle.std.specs.Prelude.{nat_lt, if◌then◌else◌, Option, Some, None}
+use Rattle.std.specs.Prelude.{nat_lt, if◌then◌else◌, Option, Some, None, codes}
 use Rattle.std.specs.Char.{is_digit, digit_value}
 use Rattle.std.specs.Fmt.{decimal}
 use Rattle.std.specs.List.{list_all}
@@ -10,7 +10,6 @@ use Rattle.std.proofs.lemmas.Bool.{and_parts, and_from, cases_Bool}
 use Rattle.std.proofs.lemmas.Bool.Decides.{nat_tests}
 use Rattle.std.proofs.lemmas.Fmt.{decimal_is_IsNumeral}
 use Rattle.picky_kv.specs.Field.{Field}
-use Rattle.picky_kv.specs.declared.literals.TheConstants.{VALID_U32, VALID_COUNT}
 
 -- one digit or more, and nothing else
 abbrev pub is_numeral : List ℕ → Bool
@@ -126,8 +125,8 @@ u16_is_narrow = omega arith
 
 -- the numbers of Argon2
 unfoldable pub u32_field : Field ℕ
-u32_field = number_field (2 ^ 32) u32_is_narrow VALID_U32.now
+u32_field = number_field (2 ^ 32) u32_is_narrow (codes "<valid u32 value>")
 
 -- how many lines a block has
 unfoldable pub count_field : Field ℕ
-count_field = number_field (2 ^ 16) u16_is_narrow VALID_COUNT.now
+count_field = number_field (2 ^ 16) u16_is_narrow (codes "<valid lines count>")

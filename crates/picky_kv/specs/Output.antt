@@ -1,6 +1,6 @@
 -- What a writer of lines holds, and what its calls append, after PuTTY's manual, Appendix C.
 use Rattle.std.specs.Prelude.{◌^◌, ℕ, Bool, List, ◌∷◌, ◌++◌, length, nat_lt}
-use Rattle.std.specs.Prelude.{if◌then◌else◌, Result, Ok, Err}
+use Rattle.std.specs.Prelude.{if◌then◌else◌, Result, Ok, Err, codes}
 use Rattle.std.specs.Fmt.{decimal}
 use Rattle.picky_layout.specs.Outcome.{and_then}
 use Rattle.picky_text.specs.Lines.{text_of}
@@ -9,7 +9,6 @@ use Rattle.picky_text.specs.declared.lines.LineEnd.{LineEnd}
 use Rattle.picky_text.specs.declared.lines.LineEnd.TheVariants.{Lf, CrLf}
 use Rattle.picky_kv.specs.declared.error.KvError.{KvError}
 use Rattle.picky_kv.specs.declared.error.KvError.TheVariants.{TooLong, TooManyLines}
-use Rattle.picky_kv.specs.declared.literals.TheConstants.{SEPARATOR}
 
 -- what ends each line, and the text so far
 pub record Output : Type 0 where
@@ -22,7 +21,7 @@ line_end crlf = if crlf then CrLf else Lf
 
 -- the line of a key and a value
 abbrev pub pair_line : List ℕ → List ℕ → List ℕ
-pair_line key value = key ++ SEPARATOR.now ++ value
+pair_line key value = key ++ codes ": " ++ value
 
 -- the lines of a block: how many follow, and the value's text in lines of 64 characters
 abbrev pub block_lines : List ℕ → List ℕ → List (List ℕ)

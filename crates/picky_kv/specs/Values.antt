@@ -1,17 +1,16 @@
 -- Values of text and bytes: a comment, base64 as RFC 4648, section 4, and hex as its section 8.
 use Rattle.std.specs.Prelude.{◌≡◌, ℕ, ◌^◌, ◌<◌, Bool, false, List, [], length, nat_lt, not}
-use Rattle.std.specs.Prelude.{refl, Option, Some}
+use Rattle.std.specs.Prelude.{refl, Option, Some, codes}
 use Rattle.std.proofs.Common.{arith, ap}
 use Rattle.std.proofs.lemmas.Bool.Decides.{nat_tests}
 use Rattle.std.specs.Result.{result_ok}
 use Rattle.std.specs.Str.{IsAscii}
-use Rattle.base64.specs.GeneralPurpose.{IsBytes}
+use Rattle.picky_layout.specs.Numbers.{IsBytes}
 use Rattle.hex.specs.Hex.{encode_lower, decode_of}
 use Rattle.hex.proofs.HexLemmas.{decode_of-encode_lower}
 use Rattle.picky_text.specs.Base64.{base64_of, decoded}
 use Rattle.picky_text.specs.Base64Laws.{base64_is_read_back, base64_is_ascii}
 use Rattle.picky_kv.specs.Field.{Field}
-use Rattle.picky_kv.specs.declared.literals.TheConstants.{VALID_BASE64, VALID_HEX}
 
 -- there are 2^32 bytes or more
 abbrev pub is_long : List ℕ → Bool
@@ -42,7 +41,7 @@ unfoldable pub base64_field : Field (List ℕ)
 base64_field = record {
   meaning = decoded;
   is_big = is_long;
-  expected = VALID_BASE64.now;
+  expected = codes "<valid base64 data>";
   spelling = base64_of;
   fits = AreFewBytes;
   short = λ bytes few. short_is_not_long bytes few.0;
@@ -69,7 +68,7 @@ unfoldable pub hex_field : Field (List ℕ)
 hex_field = record {
   meaning = hex_decoded;
   is_big = is_long;
-  expected = VALID_HEX.now;
+  expected = codes "<valid hex data>";
   spelling = encode_lower;
   fits = AreFewBytes;
   short = λ bytes few. short_is_not_long bytes few.0;

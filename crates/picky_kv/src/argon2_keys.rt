@@ -4,14 +4,9 @@ ghost use Rattle.std.specs.Prelude.{refl};
 ghost use Rattle.picky_kv.specs.Argon2Keys.{key_derivation_key, argon2_memory_key};
 ghost use Rattle.picky_kv.specs.Argon2Keys.{argon2_passes_key, argon2_parallelism_key};
 ghost use Rattle.picky_kv.specs.Argon2Keys.{argon2_salt_key};
-ghost use Rattle.picky_kv.specs.declared.literals.TheConstants.{ARGON2_MEMORY, ARGON2_PARALLELISM};
-ghost use Rattle.picky_kv.specs.declared.literals.TheConstants.{ARGON2_PASSES, ARGON2_SALT};
-ghost use Rattle.picky_kv.specs.declared.literals.TheConstants.{KEY_DERIVATION};
-ghost use Rattle.picky_kv.specs.declared.literals.TheConstants.{PPK_ARGON2_MEMORY_KEY};
-ghost use Rattle.picky_kv.specs.declared.literals.TheConstants.{PPK_ARGON2_PARALLELISM_KEY};
-ghost use Rattle.picky_kv.specs.declared.literals.TheConstants.{PPK_ARGON2_PASSES_KEY};
-ghost use Rattle.picky_kv.specs.declared.literals.TheConstants.{PPK_ARGON2_SALT_KEY};
-ghost use Rattle.picky_kv.specs.declared.literals.TheConstants.{PPK_KEY_DERIVATION_KEY};
+ghost use Rattle.picky_kv.specs.Argon2Keys.{key_derivation_key_row, argon2_memory_key_row};
+ghost use Rattle.picky_kv.specs.Argon2Keys.{argon2_passes_key_row, argon2_parallelism_key_row};
+ghost use Rattle.picky_kv.specs.Argon2Keys.{argon2_salt_key_row};
 
 use crate::error::PpkValueError;
 use crate::field::{PpkField, PpkLiteral, PpkSingle, refused};
@@ -45,7 +40,7 @@ impl PpkField for PpkKeyDerivationKey {
 
 #[tactic(auto, unfolding(crate::specs::Argon2Keys::key_derivation_key))]
 impl PpkLiteral for PpkKeyDerivationKey {
-    ghost name = { PPK_KEY_DERIVATION_KEY.now };
+    ghost name = { key_derivation_key_row.name };
 
     ghost literal = { key_derivation_key.spelling };
 
@@ -90,7 +85,7 @@ impl PpkField for PpkArgon2MemoryKey {
 
 #[tactic(auto, unfolding(crate::specs::Argon2Keys::argon2_memory_key))]
 impl PpkLiteral for PpkArgon2MemoryKey {
-    ghost name = { PPK_ARGON2_MEMORY_KEY.now };
+    ghost name = { argon2_memory_key_row.name };
 
     ghost literal = { argon2_memory_key.spelling };
 
@@ -135,7 +130,7 @@ impl PpkField for PpkArgon2PassesKey {
 
 #[tactic(auto, unfolding(crate::specs::Argon2Keys::argon2_passes_key))]
 impl PpkLiteral for PpkArgon2PassesKey {
-    ghost name = { PPK_ARGON2_PASSES_KEY.now };
+    ghost name = { argon2_passes_key_row.name };
 
     ghost literal = { argon2_passes_key.spelling };
 
@@ -180,7 +175,7 @@ impl PpkField for PpkArgon2ParallelismKey {
 
 #[tactic(auto, unfolding(crate::specs::Argon2Keys::argon2_parallelism_key))]
 impl PpkLiteral for PpkArgon2ParallelismKey {
-    ghost name = { PPK_ARGON2_PARALLELISM_KEY.now };
+    ghost name = { argon2_parallelism_key_row.name };
 
     ghost literal = { argon2_parallelism_key.spelling };
 
@@ -225,7 +220,7 @@ impl PpkField for PpkArgon2SaltKey {
 
 #[tactic(auto, unfolding(crate::specs::Argon2Keys::argon2_salt_key))]
 impl PpkLiteral for PpkArgon2SaltKey {
-    ghost name = { PPK_ARGON2_SALT_KEY.now };
+    ghost name = { argon2_salt_key_row.name };
 
     ghost literal = { argon2_salt_key.spelling };
 

@@ -5,10 +5,7 @@ ghost use Rattle.picky_kv.specs.Choices.{version_field, version_literal, algorit
 ghost use Rattle.picky_kv.specs.Choices.{algorithm_literal, mpint_values_count};
 ghost use Rattle.picky_kv.specs.Choices.{encryption_field, encryption_literal, flavour_field};
 ghost use Rattle.picky_kv.specs.Choices.{flavour_literal};
-ghost use Rattle.picky_kv.specs.declared.literals.TheConstants.{ARGON2_FLAVOUR_VALUE};
-ghost use Rattle.picky_kv.specs.declared.literals.TheConstants.{PPK_ENCRYPTION_VALUE};
-ghost use Rattle.picky_kv.specs.declared.literals.TheConstants.{PPK_KEY_ALGORITHM_VALUE};
-ghost use Rattle.picky_kv.specs.declared.literals.TheConstants.{PPK_VERSION_KEY};
+ghost use Rattle.picky_kv.specs.Choices.{version_row, algorithm_row, encryption_row, flavour_row};
 
 use crate::error::PpkValueError;
 use crate::field::{PpkField, PpkLiteral, refused};
@@ -49,7 +46,7 @@ impl PpkField for PpkVersionKey {
 
 #[tactic(auto, unfolding(crate::specs::Choices::version_field))]
 impl PpkLiteral for PpkVersionKey {
-    ghost name = { PPK_VERSION_KEY.now };
+    ghost name = { version_row.name };
 
     ghost literal = { version_field.spelling };
 
@@ -130,7 +127,7 @@ impl PpkField for PpkKeyAlgorithmValue {
 
 #[tactic(auto, unfolding(crate::specs::Choices::algorithm_field))]
 impl PpkLiteral for PpkKeyAlgorithmValue {
-    ghost name = { PPK_KEY_ALGORITHM_VALUE.now };
+    ghost name = { algorithm_row.name };
 
     ghost literal = { algorithm_field.spelling };
 
@@ -179,7 +176,7 @@ impl PpkField for PpkEncryptionValue {
 
 #[tactic(auto, unfolding(crate::specs::Choices::encryption_field))]
 impl PpkLiteral for PpkEncryptionValue {
-    ghost name = { PPK_ENCRYPTION_VALUE.now };
+    ghost name = { encryption_row.name };
 
     ghost literal = { encryption_field.spelling };
 
@@ -227,7 +224,7 @@ impl PpkField for Argon2FlavourValue {
 
 #[tactic(auto, unfolding(crate::specs::Choices::flavour_field))]
 impl PpkLiteral for Argon2FlavourValue {
-    ghost name = { ARGON2_FLAVOUR_VALUE.now };
+    ghost name = { flavour_row.name };
 
     ghost literal = { flavour_field.spelling };
 

@@ -3,14 +3,8 @@
 ghost use Rattle.std.specs.Prelude.{refl};
 ghost use Rattle.picky_kv.specs.Keys.{encryption_key, comment_key, public_lines_key};
 ghost use Rattle.picky_kv.specs.Keys.{private_lines_key, private_mac_key};
-ghost use Rattle.picky_kv.specs.declared.literals.TheConstants.{COMMENT, ENCRYPTION};
-ghost use Rattle.picky_kv.specs.declared.literals.TheConstants.{PPK_COMMENT_KEY};
-ghost use Rattle.picky_kv.specs.declared.literals.TheConstants.{PPK_ENCRYPTION_KEY};
-ghost use Rattle.picky_kv.specs.declared.literals.TheConstants.{PPK_PRIVATE_LINES_KEY};
-ghost use Rattle.picky_kv.specs.declared.literals.TheConstants.{PPK_PRIVATE_MAC_KEY};
-ghost use Rattle.picky_kv.specs.declared.literals.TheConstants.{PPK_PUBLIC_LINES_KEY};
-ghost use Rattle.picky_kv.specs.declared.literals.TheConstants.{PRIVATE_LINES, PRIVATE_MAC};
-ghost use Rattle.picky_kv.specs.declared.literals.TheConstants.{PUBLIC_LINES};
+ghost use Rattle.picky_kv.specs.Keys.{encryption_key_row, comment_key_row, public_lines_key_row};
+ghost use Rattle.picky_kv.specs.Keys.{private_lines_key_row, private_mac_key_row};
 
 use crate::error::PpkValueError;
 use crate::field::{PpkField, PpkLiteral, PpkSingle, refused};
@@ -43,7 +37,7 @@ impl PpkField for PpkEncryptionKey {
 
 #[tactic(auto, unfolding(crate::specs::Keys::encryption_key))]
 impl PpkLiteral for PpkEncryptionKey {
-    ghost name = { PPK_ENCRYPTION_KEY.now };
+    ghost name = { encryption_key_row.name };
 
     ghost literal = { encryption_key.spelling };
 
@@ -88,7 +82,7 @@ impl PpkField for PpkCommentKey {
 
 #[tactic(auto, unfolding(crate::specs::Keys::comment_key))]
 impl PpkLiteral for PpkCommentKey {
-    ghost name = { PPK_COMMENT_KEY.now };
+    ghost name = { comment_key_row.name };
 
     ghost literal = { comment_key.spelling };
 
@@ -133,7 +127,7 @@ impl PpkField for PpkPublicLinesKey {
 
 #[tactic(auto, unfolding(crate::specs::Keys::public_lines_key))]
 impl PpkLiteral for PpkPublicLinesKey {
-    ghost name = { PPK_PUBLIC_LINES_KEY.now };
+    ghost name = { public_lines_key_row.name };
 
     ghost literal = { public_lines_key.spelling };
 
@@ -178,7 +172,7 @@ impl PpkField for PpkPrivateLinesKey {
 
 #[tactic(auto, unfolding(crate::specs::Keys::private_lines_key))]
 impl PpkLiteral for PpkPrivateLinesKey {
-    ghost name = { PPK_PRIVATE_LINES_KEY.now };
+    ghost name = { private_lines_key_row.name };
 
     ghost literal = { private_lines_key.spelling };
 
@@ -223,7 +217,7 @@ impl PpkField for PpkPrivateMacKey {
 
 #[tactic(auto, unfolding(crate::specs::Keys::private_mac_key))]
 impl PpkLiteral for PpkPrivateMacKey {
-    ghost name = { PPK_PRIVATE_MAC_KEY.now };
+    ghost name = { private_mac_key_row.name };
 
     ghost literal = { private_mac_key.spelling };
 

@@ -1,7 +1,7 @@
 //! Values of text and bytes: a comment, base64 and hex.
 
 ghost use Rattle.std.specs.Prelude.{◌≡◌, ℕ, List};
-ghost use Rattle.base64.specs.GeneralPurpose.{IsBytes};
+ghost use Rattle.picky_layout.specs.Numbers.{IsBytes};
 ghost use Rattle.hex.specs.Hex.{encode_lower};
 ghost use Rattle.picky_text.specs.Base64.{base64_of};
 ghost use Rattle.picky_kv.specs.Field.{Writes};
