@@ -1,7 +1,8 @@
 -- What a typed key or value of a line stands for, after PuTTY's manual, Appendix C.
-use Rattle.std.specs.Prelude.{◌≡◌, ◌^◌, ◌≤◌, ◌<◌, ℕ, Bool, false, List, length, nat_lt}
+use Rattle.std.specs.Prelude.{◌≡◌, ◌↔◌, ◌^◌, ◌≤◌, ◌<◌, ℕ, Bool, false, List, length, nat_lt}
 use Rattle.std.specs.Prelude.{if◌then◌else◌}
 use Rattle.std.specs.Prelude.{Option, Some, None, Result, Ok, Err}
+use Rattle.picky_layout.specs.Numbers.{IsBytes}
 use Rattle.picky_wire.specs.declared.error.SizeError.{SizeError}
 use Rattle.picky_wire.specs.declared.error.SizeError.TheVariants as size
 use Rattle.picky_kv.specs.declared.error.PpkValueError.{PpkValueError}
@@ -17,6 +18,22 @@ pub record Field (A : Type 0) : Type 1 where
   pub fits : A → Type 0
   pub short : (v : A) → fits v → is_big v ≡ false
   pub read_back : (v : A) → fits v → meaning (spelling v) ≡ Some v
+
+-- a row of the format: which texts stand for a value, which one is written, which values are too
+-- big to be given, and what a refusal says was expected
+pub record Row (A : Type 0) : Type 1 where
+  pub StandsFor : List ℕ → A → Type 0
+  pub written : A → List ℕ
+  pub is_big : A → Bool
+  pub expected : List ℕ
+
+-- a type of keys or values is the row's: it reads the texts that stand for a value, and no other
+pub record IsOfRow {A : Type 0} (field : Field A) (row : Row A) : Type 0 where
+  pub reads : (text : List ℕ) (v : A) → IsBytes text
+      → field.meaning text ≡ Some v ↔ row.StandsFor text v
+  pub writes : (v : A) → field.spelling v ≡ row.written v
+  pub gives : (v : A) → field.is_big v ≡ row.is_big v
+  pub expects : field.expected ≡ row.expected
 
 -- a text that stands for no value is refused with itself, where it is short enough for a refusal
 abbrev pub refusal : List ℕ → List ℕ → PpkValueError

@@ -4,7 +4,7 @@ use Rattle.std.specs.Prelude.{if◌then◌else◌}
 use Rattle.std.specs.Prelude.{Option, Some, None, nat_eq, refl}
 use Rattle.std.specs.List.{list_all}
 use Rattle.std.specs.Cmp.Lexicographic.{pointwise}
-use Rattle.picky_kv.specs.Field.{Field}
+use Rattle.picky_kv.specs.Field.{Field, Row, IsOfRow}
 
 -- a type of literals: its name, which refusals give, each value's literal, and what is expected
 pub record LiteralRow (A : Type 0) : Type 0 where
@@ -15,6 +15,22 @@ pub record LiteralRow (A : Type 0) : Type 0 where
 -- a type of one value, whose literal is what is expected
 abbrev pub single_row : {A : Type 0} → List ℕ → List ℕ → LiteralRow A
 single_row name literal = record { name = name; literal = λ _. literal; expected = literal }
+
+-- a text stands for the value whose literal it is
+abbrev pub literals_of : {A : Type 0} → LiteralRow A → Row A
+literals_of row = record {
+  StandsFor = λ text v. text ≡ row.literal v;
+  written = row.literal;
+  is_big = λ _. false;
+  expected = row.expected;
+}
+
+-- a type of literals is the row's
+pub record IsOfLiterals {A : Type 0} (field : Field A) (literal : A → List ℕ) (name : List ℕ)
+    (row : LiteralRow A) : Type 0 where
+  pub texts : IsOfRow field (literals_of row)
+  pub literals : (v : A) → literal v ≡ row.literal v
+  pub named : name ≡ row.name
 
 -- the first of the values whose literal the text is
 abbrev pub value_named : {A : Type 0} → (A → List ℕ) → List A → List ℕ → Option A

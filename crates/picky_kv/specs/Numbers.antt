@@ -1,7 +1,8 @@
 -- Numbers in decimal, as std's `parse` reads them: a plus and leading zeros may stand first.
 use Rattle.std.proofs.Common.{◌≡◌, ℕ, ◌^◌, ◌<◌, ◌≤◌, ◌==◌, ◌&&◌, Bool, true, false, List, [], ◌∷◌}
+use Rattle.std.proofs.Common.{◌++◌, ◌⊎◌, replicate, codes}
 use Rattle.std.proofs.Common.{length, refl, sym, ◌∙◌, ap, arith, subst, inl, inr}
-use Rattle.std.specs.Prelude.{nat_lt, if◌then◌else◌, Option, Some, None, codes}
+use Rattle.std.specs.Prelude.{nat_lt, if◌then◌else◌, Option, Some, None}
 use Rattle.std.specs.Char.{is_digit, digit_value}
 use Rattle.std.specs.Fmt.{decimal}
 use Rattle.std.specs.List.{list_all}
@@ -9,7 +10,32 @@ use Rattle.std.specs.Str.Parse.{AllDigits, IsNumeral, digits_value, without_lead
 use Rattle.std.proofs.lemmas.Bool.{and_parts, and_from, cases_Bool}
 use Rattle.std.proofs.lemmas.Bool.Decides.{nat_tests}
 use Rattle.std.proofs.lemmas.Fmt.{decimal_is_IsNumeral}
-use Rattle.picky_kv.specs.Field.{Field}
+use Rattle.picky_kv.specs.Field.{Field, Row}
+
+-- a number below the limit in decimal: a plus may stand first, and then zeros
+pub record IsNumberText (limit : ℕ) (text : List ℕ) (n : ℕ) : Type 0 where
+  pub sign : List ℕ
+  pub zeros : ℕ
+  pub joined : text ≡ sign ++ (replicate zeros 48 ++ decimal n)
+  pub plus : (sign ≡ []) ⊎ (sign ≡ codes "+")
+  pub below : n < limit
+
+-- the row of the numbers below a limit
+abbrev pub numbers_below : ℕ → List ℕ → Row ℕ
+numbers_below limit expected = record {
+  StandsFor = IsNumberText limit;
+  written = decimal;
+  is_big = λ _. false;
+  expected = expected;
+}
+
+-- the row of Argon2's numbers
+abbrev pub u32_row : Row ℕ
+u32_row = numbers_below (2 ^ 32) (codes "<valid u32 value>")
+
+-- the row of a block's count of lines
+abbrev pub count_row : Row ℕ
+count_row = numbers_below (2 ^ 16) (codes "<valid lines count>")
 
 -- one digit or more, and nothing else
 abbrev pub is_numeral : List ℕ → Bool
@@ -45,7 +71,7 @@ numeral_passes digits numeral =
     and_from _ _ (grind (arith, nat_tests, numeral.0)) (digits_pass digits numeral.1)
 
 -- and what passes is one
-passing_is_numeral : (digits : List ℕ) → is_numeral digits ≡ true → IsNumeral 10 digits
+pub passing_is_numeral : (digits : List ℕ) → is_numeral digits ≡ true → IsNumeral 10 digits
 passing_is_numeral digits pass =
     let all : Bool = list_all (λ c. is_digit c 10) digits in
     let parts = and_parts (nat_lt 0 (length digits)) all pass in
@@ -81,7 +107,7 @@ number_below_none limit text neither =
     ]
 
 -- a digit is no plus
-no_plus_first : (digits : List ℕ) → IsNumeral 10 digits → without_leading_plus digits ≡ digits
+pub no_plus_first : (digits : List ℕ) → IsNumeral 10 digits → without_leading_plus digits ≡ digits
 no_plus_first [] numeral = absurd (omega (arith, numeral.0))
 no_plus_first (c ∷ cs) numeral =
     let other : (c == 43) ≡ false = elim (cases_Bool (c == 43)) [
@@ -125,8 +151,8 @@ u16_is_narrow = omega arith
 
 -- the numbers of Argon2
 unfoldable pub u32_field : Field ℕ
-u32_field = number_field (2 ^ 32) u32_is_narrow (codes "<valid u32 value>")
+u32_field = number_field (2 ^ 32) u32_is_narrow u32_row.expected
 
 -- how many lines a block has
 unfoldable pub count_field : Field ℕ
-count_field = number_field (2 ^ 16) u16_is_narrow (codes "<valid lines count>")
+count_field = number_field (2 ^ 16) u16_is_narrow count_row.expected
