@@ -5,3 +5,5 @@ pub mod ReadBackLemmas
 pub mod LiteralLemmas
 pub mod NumberLemmas
 pub mod ValueLemmas
+pub mod PartLemmas
+pub mod OneLineLemmas

@@ -30,10 +30,10 @@ pub outcome_of_spelling : {A : Type 0} (field : Field A) (v : A) → field.fits 
 outcome_of_spelling field v fits = rw (field.read_back v fits, field.short v fits) refl
 
 -- a plain text has no colon, CR and LF
-record IsPlain (text : List ℕ) : Type 0 where
-  colon : HasNo 58 text
-  cr : HasNo 13 text
-  lf : HasNo 10 text
+pub record IsPlain (text : List ℕ) : Type 0 where
+  pub colon : HasNo 58 text
+  pub cr : HasNo 13 text
+  pub lf : HasNo 10 text
 
 plain_byte : (b : ℕ) → not (b == 58 || b == 13 || b == 10) ≡ true → (b ≢ 58) × (b ≢ 13) × (b ≢ 10)
 plain_byte b test = (
@@ -42,7 +42,7 @@ plain_byte b test = (
   λ same. grind (arith, nat_tests, test, same),
 )
 
-plain : (text : List ℕ) → is_plain text ≡ true → IsPlain text
+pub plain : (text : List ℕ) → is_plain text ≡ true → IsPlain text
 plain [] test = record { colon = tt; cr = tt; lf = tt }
 plain (b ∷ text) test =
     let parts = and_parts (not (b == 58 || b == 13 || b == 10)) (is_plain text) test in
@@ -118,7 +118,7 @@ pair_is_line Lf key value is line =
 pair_is_line CrLf key value is line = rw (separated key value) (pair_has_no_lf key value is line)
 
 -- a digit is no CR and no LF
-digits_have_no : (b : ℕ) (digits : List ℕ) → b < 48 → AllDigits 10 digits → HasNo b digits
+pub digits_have_no : (b : ℕ) (digits : List ℕ) → b < 48 → AllDigits 10 digits → HasNo b digits
 digits_have_no b [] low all = tt
 digits_have_no b (c ∷ cs) low all =
     (λ same. grind (arith, nat_tests, all.0, same), digits_have_no b cs low all.1)

@@ -31,7 +31,7 @@ comment_field_is = record {
 
 -- ---- base64
 
-base64_is_padded : (bytes : List ℕ) → base64_of bytes ≡ padded_base64 bytes
+pub base64_is_padded : (bytes : List ℕ) → base64_of bytes ≡ padded_base64 bytes
 unfolding base64_of
 base64_is_padded bytes = refl
 

@@ -7,5 +7,6 @@ pub mod Numbers
 pub mod Values
 pub mod Steps
 pub mod Lines
+pub mod Parts
 pub mod Output
 pub mod ReadBack

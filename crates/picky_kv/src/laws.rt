@@ -1,6 +1,9 @@
 //! The laws of a file's lines, each as the contract of a function that does nothing.
 
-ghost use Rattle.std.specs.Prelude.{◌≡◌, [], Err};
+ghost use Rattle.std.specs.Prelude.{◌≡◌, ◌↔◌, ◌<◌, ℕ, List, [], length, Err};
+ghost use Rattle.std.specs.List.{AllByRecursion};
+ghost use Rattle.picky_layout.specs.Numbers.{IsBytes};
+ghost use Rattle.picky_text.specs.Rows.{rows_of};
 ghost use Rattle.picky_kv.specs.Argon2Keys.{argon2_memory_key_row, argon2_parallelism_key_row};
 ghost use Rattle.picky_kv.specs.Argon2Keys.{argon2_passes_key_row, argon2_salt_key_row};
 ghost use Rattle.picky_kv.specs.Argon2Keys.{key_derivation_key_row};
@@ -8,11 +11,14 @@ ghost use Rattle.picky_kv.specs.Choices.{algorithm_row, encryption_row, flavour_
 ghost use Rattle.picky_kv.specs.Field.{IsOfRow};
 ghost use Rattle.picky_kv.specs.Keys.{comment_key_row, encryption_key_row, private_lines_key_row};
 ghost use Rattle.picky_kv.specs.Keys.{private_mac_key_row, public_lines_key_row};
-ghost use Rattle.picky_kv.specs.Lines.{next_pair, next_block};
+ghost use Rattle.picky_kv.specs.Lines.{key_and_value, first_joined, next_pair, next_block};
 ghost use Rattle.picky_kv.specs.Literal.{IsOfLiterals};
 ghost use Rattle.picky_kv.specs.Numbers.{count_field, count_row, u32_row};
+ghost use Rattle.picky_kv.specs.Parts.{HasNoSeparator, AreParts, AreJoined, PairsAreRead};
+ghost use Rattle.picky_kv.specs.Parts.{BlocksAreRead, HasNoLineEnd, AreOneLine};
 ghost use Rattle.picky_kv.specs.ReadBack.{PairIsReadBack, BlockIsReadBack};
-ghost use Rattle.picky_kv.specs.Values.{base64_row, comment_row, hex_row};
+ghost use Rattle.picky_kv.specs.Values.{base64_row, comment_row, hex_row, padded_base64};
+ghost use Rattle.picky_kv.specs.Values.{AreHexPairs, IsLowerDigit};
 
 use crate::argon2_keys::{
     PpkArgon2MemoryKey, PpkArgon2ParallelismKey, PpkArgon2PassesKey, PpkArgon2SaltKey,
@@ -167,6 +173,54 @@ pub fn pairs_have_their_types(
         private_lines,
     )
 }
+
+/// A line's key and value stand before and after its first `: `, in one way; a line without one has
+/// none.
+pub fn lines_are_cut_at_their_first_separator()
+    ensures parts { (line front rest : List ℕ)
+        → key_and_value line ≡ Some (front, rest) ↔ AreParts line front rest }
+    ensures none { (line : List ℕ) → key_and_value line ≡ None ↔ HasNoSeparator line }
+    ensures unique { (line front rest other more : List ℕ) → AreParts line front rest
+        → AreParts line other more → (front ≡ other) × (rest ≡ more) }
+{}
+
+/// A block's text is that of its counted lines, joined; there is none where fewer lines are left.
+pub fn blocks_are_their_lines_joined()
+    ensures joined { (count : ℕ) (lines : List (List ℕ)) (text : List ℕ) (after : List (List ℕ))
+        → first_joined count lines ≡ Some (text, after) ↔ AreJoined count lines text after }
+    ensures none { (count : ℕ) (lines : List (List ℕ))
+        → first_joined count lines ≡ None ↔ length lines < count }
+{}
+
+/// A pair and a block are read exactly where they stand first, with the lines after them left.
+pub fn pairs_and_blocks_are_read_where_they_stand<T: PpkKeyValue, B: PpkMultilineKeyValue>()
+    ensures pair { PairsAreRead T.Key.field T.Value.field T.Key.name }
+    ensures block { BlocksAreRead B.Key.field B.Value.field B.Key.name }
+{}
+
+/// What is written has no CR and no LF, unless it is a comment: a key, a value, a count, and each
+/// line of a block.
+pub fn written_texts_are_one_line<T: PpkKeyValue, B: PpkMultilineKeyValue>()
+    ensures key { (k : T.Key) → HasNoLineEnd (T.Key.field.spelling k) }
+    ensures block_key { (k : B.Key) → HasNoLineEnd (B.Key.field.spelling k) }
+    ensures algorithm { AreOneLine ⟦<PpkKeyAlgorithmValue as PpkField>⟧.field }
+    ensures encryption { AreOneLine ⟦<PpkEncryptionValue as PpkField>⟧.field }
+    ensures flavour { AreOneLine ⟦<Argon2FlavourValue as PpkField>⟧.field }
+    ensures memory { AreOneLine ⟦<PpkArgon2MemoryValue as PpkField>⟧.field }
+    ensures passes { AreOneLine ⟦<PpkArgon2PassesValue as PpkField>⟧.field }
+    ensures parallelism { AreOneLine ⟦<PpkArgon2ParallelismValue as PpkField>⟧.field }
+    ensures hex { AreOneLine ⟦<HexPpkValue as PpkField>⟧.field }
+    ensures base64 { AreOneLine ⟦<Base64PpkValue as PpkField>⟧.field }
+    ensures count { AreOneLine count_field }
+    ensures lines { (bytes : List ℕ) → IsBytes bytes
+        → AllByRecursion HasNoLineEnd (rows_of (padded_base64 bytes)) }
+{}
+
+/// Bytes are written in hex by two digits each, in lower case.
+pub fn hex_is_written_in_lower_case()
+    ensures { (bytes : List ℕ) → IsBytes bytes
+        → AreHexPairs IsLowerDigit (⟦<HexPpkValue as PpkField>⟧.field.spelling bytes) bytes }
+{}
 
 /// Where no line is left, as after each refused read, each later read answers `EndOfInput`.
 pub fn refused_reader_stays_at_its_end<T: PpkKeyValue, B: PpkMultilineKeyValue>()
