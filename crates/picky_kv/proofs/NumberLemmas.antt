@@ -39,9 +39,11 @@ digit_more z n d low below = elim (cases_lt 0 n) [
   | inl some ↦
       let front : (n * 10 + d) / 10 ≡ n = omega arith in
       let last : (n * 10 + d) % 10 ≡ d = omega arith in
-      let step = decimal_step (n * 10 + d) (omega arith) below in
-      (z, append_assoc (replicate z 48) (decimal n) ((48 + d) ∷ [])
-      ∙ ap (λ l. replicate z 48 ++ l) (sym (rw (front, last) at step)))
+      let step = decimal_step (n * 10 + d) (omega arith) below in (
+        z,
+        append_assoc (replicate z 48) (decimal n) ((48 + d) ∷ [])
+            ∙ ap (λ l. replicate z 48 ++ l) (sym (rw (front, last) at step)),
+      )
   | inr none ↦
       let is : n ≡ 0 = omega arith in
       let whole : n * 10 + d ≡ d = omega arith in
@@ -61,10 +63,10 @@ digits_more z n (c ∷ cs) all below =
     let step = digit_more z n d low (omega arith) in
     let later = digits_more step.0 (n * 10 + d) cs all.1 below in
     let push : (replicate z 48 ++ decimal n) ++ c ∷ cs
-        ≡ ((replicate z 48 ++ decimal n) ++ c ∷ []) ++ cs =
+    ≡ ((replicate z 48 ++ decimal n) ++ c ∷ []) ++ cs =
     sym (append_assoc (replicate z 48 ++ decimal n) (c ∷ []) cs) in
     let digit : (replicate z 48 ++ decimal n) ++ c ∷ []
-        ≡ (replicate z 48 ++ decimal n) ++ (48 + d) ∷ [] =
+    ≡ (replicate z 48 ++ decimal n) ++ (48 + d) ∷ [] =
     ap (λ b. (replicate z 48 ++ decimal n) ++ b ∷ []) (digit_is c low) in
     (later.0, push ∙ ap (λ l. l ++ cs) (digit ∙ step.1) ∙ later.1)
 
@@ -158,7 +160,7 @@ read_text limit text n wide reads =
             sign = signed.0;
             zeros = is.0;
             joined = behind_its_plus text signed.0 digits (replicate is.0 48)
-            (digits_value 10 digits) n signed.1 is.1 value;
+                (digits_value 10 digits) n signed.1 is.1 value;
             plus = signed.2;
             below = omega (arith, value);
           }

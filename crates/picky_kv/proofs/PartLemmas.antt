@@ -71,7 +71,7 @@ cut_is (a ∷ b ∷ text) front rest is = elim (cases_Bool (a == 58 && b == 32))
       let parts = and_parts (a == 58) (b == 32) here in
       let colon : a ≡ 58 = eqb-true a 58 parts.0 in
       let space : b ≡ 32 = eqb-true b 32 parts.1 in
-      let cut : Some ([], text) ≡ Some (front, rest) = rw here at is in
+      let cut : some_of [] text ≡ some_of front rest = rw here at is in
       let ends = some_parts [] front text rest cut in
       rw (← ends.0, ← ends.1, colon, space) (record { joined = refl; first = none_in_none })
   | inr other ↦
@@ -81,10 +81,10 @@ cut_is (a ∷ b ∷ text) front rest is = elim (cases_Bool (a == 58 && b == 32))
         | inl some ↦
             let p = some.0 in
             let found = cut_is (b ∷ text) p.0 p.1 some.1 in
-            let cut : Some (a ∷ p.0, p.1) ≡ Some (front, rest) = rw some.1 at more in
+            let cut : some_of (a ∷ p.0) p.1 ≡ some_of front rest = rw some.1 at more in
             let ends = some_parts (a ∷ p.0) front p.1 rest cut in
             let none : (r : List ℕ) → a ∷ p.0 ≢ 58 ∷ 32 ∷ r = λ r is.
-                absurd (no_space a b text p.0 p.1 r other found.joined is) in
+            absurd (no_space a b text p.0 p.1 r other found.joined is) in
             rw (← ends.0, ← ends.1) (record {
               joined = ap (λ l. a ∷ l) found.joined;
               first = none_behind a p.0 none found.first;
@@ -172,11 +172,12 @@ joined_is (suc count) (line ∷ lines) text after is =
       | inl some ↦
           let p = some.0 in
           let found = joined_is count lines p.0 p.1 some.1 in
-          let cut : Some (line ++ p.0, p.1) ≡ Some (text, after) = rw some.1 at is in
+          let cut : some_of (line ++ p.0) p.1 ≡ some_of text after = rw some.1 at is in
           let ends = some_parts (line ++ p.0) text p.1 after cut in
+          let longer : length (line ∷ found.block) ≡ suc count = omega (arith, found.counted) in
           rw (← ends.0, ← ends.1) (record {
             block = line ∷ found.block;
-            counted = omega (arith, found.counted);
+            counted = longer;
             joined = ap (λ l. line ++ l) found.joined;
             split = ap (λ l. line ∷ l) found.split;
           })

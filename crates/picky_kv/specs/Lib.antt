@@ -1,3 +1,4 @@
+pub mod Equality
 pub mod Field
 pub mod Literal
 pub mod Choices

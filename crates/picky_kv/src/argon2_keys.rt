@@ -15,7 +15,7 @@ use crate::literals::{
     PPK_ARGON2_MEMORY_KEY, PPK_ARGON2_PARALLELISM_KEY, PPK_ARGON2_PASSES_KEY, PPK_ARGON2_SALT_KEY,
     PPK_KEY_DERIVATION_KEY,
 };
-use picky_wire::{SizeError, Text};
+use picky_wire::{NoMemory, SizeError, Text, TryClone};
 use std::alloc::Global;
 
 /// The key of the line that names the flavour of Argon2.
@@ -63,6 +63,12 @@ impl PpkSingle for PpkKeyDerivationKey {
     ghost only = { λ _. refl };
 }
 
+impl TryClone for PpkKeyDerivationKey {
+    fn try_clone(&self, _alloc: Global) -> Result<PpkKeyDerivationKey, NoMemory> {
+        Ok(*self)
+    }
+}
+
 /// The key of the line of Argon2's memory.
 #[derive(Clone, Copy, Debug, Default, PartialEq, Eq)]
 pub struct PpkArgon2MemoryKey;
@@ -106,6 +112,12 @@ impl PpkSingle for PpkArgon2MemoryKey {
     }
 
     ghost only = { λ _. refl };
+}
+
+impl TryClone for PpkArgon2MemoryKey {
+    fn try_clone(&self, _alloc: Global) -> Result<PpkArgon2MemoryKey, NoMemory> {
+        Ok(*self)
+    }
 }
 
 /// The key of the line of Argon2's passes.
@@ -153,6 +165,12 @@ impl PpkSingle for PpkArgon2PassesKey {
     ghost only = { λ _. refl };
 }
 
+impl TryClone for PpkArgon2PassesKey {
+    fn try_clone(&self, _alloc: Global) -> Result<PpkArgon2PassesKey, NoMemory> {
+        Ok(*self)
+    }
+}
+
 /// The key of the line of Argon2's parallelism.
 #[derive(Clone, Copy, Debug, Default, PartialEq, Eq)]
 pub struct PpkArgon2ParallelismKey;
@@ -198,6 +216,12 @@ impl PpkSingle for PpkArgon2ParallelismKey {
     ghost only = { λ _. refl };
 }
 
+impl TryClone for PpkArgon2ParallelismKey {
+    fn try_clone(&self, _alloc: Global) -> Result<PpkArgon2ParallelismKey, NoMemory> {
+        Ok(*self)
+    }
+}
+
 /// The key of the line of Argon2's salt.
 #[derive(Clone, Copy, Debug, Default, PartialEq, Eq)]
 pub struct PpkArgon2SaltKey;
@@ -241,4 +265,10 @@ impl PpkSingle for PpkArgon2SaltKey {
     }
 
     ghost only = { λ _. refl };
+}
+
+impl TryClone for PpkArgon2SaltKey {
+    fn try_clone(&self, _alloc: Global) -> Result<PpkArgon2SaltKey, NoMemory> {
+        Ok(*self)
+    }
 }

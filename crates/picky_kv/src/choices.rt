@@ -15,7 +15,7 @@ use crate::literals::{
     NONE, PPK_ENCRYPTION_VALUE, PPK_KEY_ALGORITHM_VALUE, PPK_VERSION_KEY, PUTTY_USER_KEY_FILE_2,
     PUTTY_USER_KEY_FILE_3, SSH_DSS, SSH_ED448, SSH_ED25519, SSH_RSA,
 };
-use picky_wire::{SizeError, Text};
+use picky_wire::{NoMemory, SizeError, Text, TryClone};
 use std::alloc::Global;
 
 /// The key of the first line, which is the version of the file.
@@ -59,6 +59,12 @@ impl PpkLiteral for PpkVersionKey {
             PpkVersionKey::V2 => PUTTY_USER_KEY_FILE_2,
             PpkVersionKey::V3 => PUTTY_USER_KEY_FILE_3,
         }
+    }
+}
+
+impl TryClone for PpkVersionKey {
+    fn try_clone(&self, _alloc: Global) -> Result<PpkVersionKey, NoMemory> {
+        Ok(*self)
     }
 }
 
@@ -148,6 +154,12 @@ impl PpkLiteral for PpkKeyAlgorithmValue {
     }
 }
 
+impl TryClone for PpkKeyAlgorithmValue {
+    fn try_clone(&self, _alloc: Global) -> Result<PpkKeyAlgorithmValue, NoMemory> {
+        Ok(*self)
+    }
+}
+
 /// How the private key is encrypted.
 #[derive(Clone, Copy, Debug, PartialEq, Eq)]
 pub enum PpkEncryptionValue {
@@ -189,6 +201,12 @@ impl PpkLiteral for PpkEncryptionValue {
             PpkEncryptionValue::None => NONE,
             PpkEncryptionValue::Aes256Cbc => AES256_CBC,
         }
+    }
+}
+
+impl TryClone for PpkEncryptionValue {
+    fn try_clone(&self, _alloc: Global) -> Result<PpkEncryptionValue, NoMemory> {
+        Ok(*self)
     }
 }
 
@@ -238,5 +256,11 @@ impl PpkLiteral for Argon2FlavourValue {
             Argon2FlavourValue::Argon2i => ARGON2I,
             Argon2FlavourValue::Argon2id => ARGON2ID,
         }
+    }
+}
+
+impl TryClone for Argon2FlavourValue {
+    fn try_clone(&self, _alloc: Global) -> Result<Argon2FlavourValue, NoMemory> {
+        Ok(*self)
     }
 }

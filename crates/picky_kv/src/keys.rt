@@ -12,7 +12,7 @@ use crate::literals::{
     COMMENT, ENCRYPTION, PPK_COMMENT_KEY, PPK_ENCRYPTION_KEY, PPK_PRIVATE_LINES_KEY,
     PPK_PRIVATE_MAC_KEY, PPK_PUBLIC_LINES_KEY, PRIVATE_LINES, PRIVATE_MAC, PUBLIC_LINES,
 };
-use picky_wire::{SizeError, Text};
+use picky_wire::{NoMemory, SizeError, Text, TryClone};
 use std::alloc::Global;
 
 /// The key of the line that names the encryption.
@@ -60,6 +60,12 @@ impl PpkSingle for PpkEncryptionKey {
     ghost only = { λ _. refl };
 }
 
+impl TryClone for PpkEncryptionKey {
+    fn try_clone(&self, _alloc: Global) -> Result<PpkEncryptionKey, NoMemory> {
+        Ok(*self)
+    }
+}
+
 /// The key of the comment's line.
 #[derive(Clone, Copy, Debug, Default, PartialEq, Eq)]
 pub struct PpkCommentKey;
@@ -103,6 +109,12 @@ impl PpkSingle for PpkCommentKey {
     }
 
     ghost only = { λ _. refl };
+}
+
+impl TryClone for PpkCommentKey {
+    fn try_clone(&self, _alloc: Global) -> Result<PpkCommentKey, NoMemory> {
+        Ok(*self)
+    }
 }
 
 /// The key of the block of the public key.
@@ -150,6 +162,12 @@ impl PpkSingle for PpkPublicLinesKey {
     ghost only = { λ _. refl };
 }
 
+impl TryClone for PpkPublicLinesKey {
+    fn try_clone(&self, _alloc: Global) -> Result<PpkPublicLinesKey, NoMemory> {
+        Ok(*self)
+    }
+}
+
 /// The key of the block of the private key.
 #[derive(Clone, Copy, Debug, Default, PartialEq, Eq)]
 pub struct PpkPrivateLinesKey;
@@ -195,6 +213,12 @@ impl PpkSingle for PpkPrivateLinesKey {
     ghost only = { λ _. refl };
 }
 
+impl TryClone for PpkPrivateLinesKey {
+    fn try_clone(&self, _alloc: Global) -> Result<PpkPrivateLinesKey, NoMemory> {
+        Ok(*self)
+    }
+}
+
 /// The key of the line of the MAC.
 #[derive(Clone, Copy, Debug, Default, PartialEq, Eq)]
 pub struct PpkPrivateMacKey;
@@ -238,4 +262,10 @@ impl PpkSingle for PpkPrivateMacKey {
     }
 
     ghost only = { λ _. refl };
+}
+
+impl TryClone for PpkPrivateMacKey {
+    fn try_clone(&self, _alloc: Global) -> Result<PpkPrivateMacKey, NoMemory> {
+        Ok(*self)
+    }
 }

@@ -8,6 +8,7 @@ ghost use Rattle.picky_kv.specs.Argon2Keys.{argon2_memory_key_row, argon2_parall
 ghost use Rattle.picky_kv.specs.Argon2Keys.{argon2_passes_key_row, argon2_salt_key_row};
 ghost use Rattle.picky_kv.specs.Argon2Keys.{key_derivation_key_row};
 ghost use Rattle.picky_kv.specs.Choices.{algorithm_row, encryption_row, flavour_row, version_row};
+ghost use Rattle.picky_kv.specs.Equality.{IsEquality};
 ghost use Rattle.picky_kv.specs.Field.{IsOfRow};
 ghost use Rattle.picky_kv.specs.Keys.{comment_key_row, encryption_key_row, private_lines_key_row};
 ghost use Rattle.picky_kv.specs.Keys.{private_mac_key_row, public_lines_key_row};
@@ -25,7 +26,7 @@ use crate::argon2_keys::{
     PpkKeyDerivationKey,
 };
 use crate::choices::{Argon2FlavourValue, PpkEncryptionValue, PpkKeyAlgorithmValue, PpkVersionKey};
-use crate::error::KvError;
+use crate::error::{KvError, PpkValueError, PpkValueParsingError};
 use crate::field::{PpkField, PpkKeyValue, PpkLiteral, PpkMultilineKeyValue};
 use crate::keys::{
     PpkCommentKey, PpkEncryptionKey, PpkPrivateLinesKey, PpkPrivateMacKey, PpkPublicLinesKey,
@@ -122,6 +123,10 @@ pub fn values_have_their_texts()
     ensures public_lines { IsOfRow ⟦<<PpkPublicLines as PpkMultilineKeyValue>::Value as PpkField>⟧.field base64_row }
     ensures private_lines { IsOfRow ⟦<<PpkPrivateLines as PpkMultilineKeyValue>::Value as PpkField>⟧.field base64_row }
     ensures count { IsOfRow count_field count_row }
+
+    // Bytes are written in hex by two digits each, in lower case.
+    ensures lower { (bytes : List ℕ) → IsBytes bytes
+        → AreHexPairs IsLowerDigit (⟦<HexPpkValue as PpkField>⟧.field.spelling bytes) bytes }
 {}
 
 /// The key and the value of a line.
@@ -216,10 +221,21 @@ pub fn written_texts_are_one_line<T: PpkKeyValue, B: PpkMultilineKeyValue>()
         → AllByRecursion HasNoLineEnd (rows_of (padded_base64 bytes)) }
 {}
 
-/// Bytes are written in hex by two digits each, in lower case.
-pub fn hex_is_written_in_lower_case()
-    ensures { (bytes : List ℕ) → IsBytes bytes
-        → AreHexPairs IsLowerDigit (⟦<HexPpkValue as PpkField>⟧.field.spelling bytes) bytes }
+/// Two values are equal exactly where their contents are, and so are two refusals.
+pub fn equality_is_of_contents()
+    ensures version { IsEquality ⟦<PpkVersionKey as PartialEq>⟧.eq }
+    ensures algorithm { IsEquality ⟦<PpkKeyAlgorithmValue as PartialEq>⟧.eq }
+    ensures encryption { IsEquality ⟦<PpkEncryptionValue as PartialEq>⟧.eq }
+    ensures flavour { IsEquality ⟦<Argon2FlavourValue as PartialEq>⟧.eq }
+    ensures memory { IsEquality ⟦<PpkArgon2MemoryValue as PartialEq>⟧.eq }
+    ensures passes { IsEquality ⟦<PpkArgon2PassesValue as PartialEq>⟧.eq }
+    ensures parallelism { IsEquality ⟦<PpkArgon2ParallelismValue as PartialEq>⟧.eq }
+    ensures comment { IsEquality ⟦<PpkCommentValue as PartialEq>⟧.eq }
+    ensures base64 { IsEquality ⟦<Base64PpkValue as PartialEq>⟧.eq }
+    ensures hex { IsEquality ⟦<HexPpkValue as PartialEq>⟧.eq }
+    ensures parsing_error { IsEquality ⟦<PpkValueParsingError as PartialEq>⟧.eq }
+    ensures value_error { IsEquality ⟦<PpkValueError as PartialEq>⟧.eq }
+    ensures error { IsEquality ⟦<KvError as PartialEq>⟧.eq }
 {}
 
 /// Where no line is left, as after each refused read, each later read answers `EndOfInput`.

@@ -175,7 +175,7 @@ impl From<PpkArgon2ParallelismValue> for u32 {
 }
 
 /// How many lines follow in a block.
-#[derive(Clone, Copy, Debug)]
+#[derive(Clone, Copy)]
 pub(crate) struct LineCount {
     number: u16,
 }

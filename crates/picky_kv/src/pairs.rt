@@ -24,7 +24,7 @@ use crate::numbers::{PpkArgon2MemoryValue, PpkArgon2ParallelismValue, PpkArgon2P
 use crate::values::{Base64PpkValue, HexPpkValue, PpkCommentValue};
 
 /// The first line: the version and the key's algorithm.
-#[derive(Drop)]
+#[derive(Debug, Drop, PartialEq, Eq)]
 pub struct PpkHeader;
 
 impl PpkKeyValue for PpkHeader {
@@ -38,7 +38,7 @@ impl PpkKeyValue for PpkHeader {
 }
 
 /// The line of the encryption.
-#[derive(Drop)]
+#[derive(Debug, Drop, PartialEq, Eq)]
 pub struct PpkEncryption;
 
 impl PpkKeyValue for PpkEncryption {
@@ -52,7 +52,7 @@ impl PpkKeyValue for PpkEncryption {
 }
 
 /// The line of the comment.
-#[derive(Drop)]
+#[derive(Debug, Drop, PartialEq, Eq)]
 pub struct PpkComment;
 
 impl PpkKeyValue for PpkComment {
@@ -66,7 +66,7 @@ impl PpkKeyValue for PpkComment {
 }
 
 /// The line of the flavour of Argon2.
-#[derive(Drop)]
+#[derive(Debug, Drop, PartialEq, Eq)]
 pub struct PpkKeyDerivation;
 
 impl PpkKeyValue for PpkKeyDerivation {
@@ -80,7 +80,7 @@ impl PpkKeyValue for PpkKeyDerivation {
 }
 
 /// The line of Argon2's memory.
-#[derive(Drop)]
+#[derive(Debug, Drop, PartialEq, Eq)]
 pub struct PpkArgon2Memory;
 
 impl PpkKeyValue for PpkArgon2Memory {
@@ -94,7 +94,7 @@ impl PpkKeyValue for PpkArgon2Memory {
 }
 
 /// The line of Argon2's passes.
-#[derive(Drop)]
+#[derive(Debug, Drop, PartialEq, Eq)]
 pub struct PpkArgon2Passes;
 
 impl PpkKeyValue for PpkArgon2Passes {
@@ -108,7 +108,7 @@ impl PpkKeyValue for PpkArgon2Passes {
 }
 
 /// The line of Argon2's parallelism.
-#[derive(Drop)]
+#[derive(Debug, Drop, PartialEq, Eq)]
 pub struct PpkArgon2Parallelism;
 
 impl PpkKeyValue for PpkArgon2Parallelism {
@@ -122,7 +122,7 @@ impl PpkKeyValue for PpkArgon2Parallelism {
 }
 
 /// The line of Argon2's salt.
-#[derive(Drop)]
+#[derive(Debug, Drop, PartialEq, Eq)]
 pub struct PpkArgon2Salt;
 
 impl PpkKeyValue for PpkArgon2Salt {
@@ -136,7 +136,7 @@ impl PpkKeyValue for PpkArgon2Salt {
 }
 
 /// The line of the MAC.
-#[derive(Drop)]
+#[derive(Debug, Drop, PartialEq, Eq)]
 pub struct PpkPrivateMac;
 
 impl PpkKeyValue for PpkPrivateMac {
@@ -150,7 +150,7 @@ impl PpkKeyValue for PpkPrivateMac {
 }
 
 /// The block of the public key.
-#[derive(Drop)]
+#[derive(Debug, Drop, PartialEq, Eq)]
 pub struct PpkPublicLines;
 
 impl PpkMultilineKeyValue for PpkPublicLines {
@@ -166,7 +166,7 @@ impl PpkMultilineKeyValue for PpkPublicLines {
 }
 
 /// The block of the private key.
-#[derive(Drop)]
+#[derive(Debug, Drop, PartialEq, Eq)]
 pub struct PpkPrivateLines;
 
 impl PpkMultilineKeyValue for PpkPrivateLines {

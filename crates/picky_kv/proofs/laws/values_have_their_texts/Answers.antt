@@ -9,6 +9,8 @@ use Rattle.picky_kv.specs.Numbers.{u16_is_narrow}
 use Rattle.picky_kv.proofs.LiteralLemmas.{literal_type_is}
 use Rattle.picky_kv.proofs.NumberLemmas.{number_field_is}
 use Rattle.picky_kv.proofs.ValueLemmas.{comment_field_is, base64_field_is, hex_field_is}
+use Rattle.picky_kv.proofs.ValueLemmas.{hex_is_lower}
+use Rattle.picky_kv.specs.Values.{hex_field}
 use Rattle.picky_kv.proofs.laws.values_have_their_texts.Goals as goal
 
 pub returns-clause-header : goal.returns-clause-header
@@ -53,3 +55,7 @@ returns-clause-public_lines c = base64_field_is
 
 pub returns-clause-private_lines : goal.returns-clause-private_lines
 returns-clause-private_lines c = base64_field_is
+
+pub returns-clause-lower : goal.returns-clause-lower
+unfolding hex_field
+returns-clause-lower c = hex_is_lower
