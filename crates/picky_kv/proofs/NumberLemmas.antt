@@ -1,10 +1,11 @@
 -- A number is read from its decimal, behind zeros and a plus, and from no other text.
 use Rattle.std.proofs.Common.{◌≡◌, ℕ, zero, suc, ◌+◌, ◌*◌, ◌/◌, ◌%◌, ◌^◌, ◌<◌, ◌≤◌, ◌==◌, ◌&&◌}
-use Rattle.std.proofs.Common.{◌⊎◌, Bool}
+use Rattle.std.proofs.Common.{◌⊎◌, Bool, true}
+use Rattle.std.specs.List.{list_all}
 use Rattle.std.proofs.Common.{List, [], ◌∷◌, ◌++◌, length, replicate, codes, Some, None}
 use Rattle.std.proofs.Common.{refl, sym, ◌∙◌, ap, arith, subst, inl, inr}
 use Rattle.std.specs.Prelude.{nat_lt}
-use Rattle.std.specs.Char.{digit_value}
+use Rattle.std.specs.Char.{is_digit, digit_value}
 use Rattle.std.specs.Fmt.{decimal}
 use Rattle.std.specs.Str.Parse.{AllDigits, IsNumeral, digits_value, digits_value_after}
 use Rattle.std.specs.Str.Parse.{without_leading_plus}
@@ -14,7 +15,44 @@ use Rattle.std.proofs.lemmas.Fmt.{decimal_is_IsNumeral, decimal_digit, decimal_s
 use Rattle.std.proofs.lemmas.List.{append_assoc, append-nil}
 use Rattle.picky_kv.specs.Field.{IsOfRow}
 use Rattle.picky_kv.specs.Numbers.{IsNumberText, is_numeral, number_below, number_below_numeral}
-use Rattle.picky_kv.specs.Numbers.{passing_is_numeral, no_plus_first, number_field, numbers_below}
+use Rattle.picky_kv.specs.Numbers.{no_plus_first, number_field, numbers_below}
+
+-- ---- which texts are read
+
+-- what passes is digits
+passing_are_digits : (digits : List ℕ) → list_all (λ c. is_digit c 10) digits ≡ true
+    → AllDigits 10 digits
+passing_are_digits [] pass = tt
+passing_are_digits (c ∷ cs) pass =
+    let parts = and_parts (is_digit c 10) (list_all (λ d. is_digit d 10) cs) pass in
+    let small : digit_value c < 10 = grind (arith, nat_tests, parts.0) in
+    (small, passing_are_digits cs parts.1)
+
+-- and what passes as a numeral is one
+passing_is_numeral : (digits : List ℕ) → is_numeral digits ≡ true → IsNumeral 10 digits
+passing_is_numeral digits pass =
+    let all : Bool = list_all (λ c. is_digit c 10) digits in
+    let parts = and_parts (nat_lt 0 (length digits)) all pass in
+    let some : 0 < length digits = grind (arith, nat_tests, parts.0) in
+    (some, passing_are_digits digits parts.1)
+
+-- a text that is no numeral below the limit writes no number
+pub number_below_none : (limit : ℕ) (text : List ℕ)
+    → (IsNumeral 10 (without_leading_plus text)
+    × (digits_value 10 (without_leading_plus text) < limit) → ⊥)
+    → number_below limit text ≡ None
+unfolding number_below
+number_below_none limit text neither =
+    let digits : List ℕ = without_leading_plus text in
+    let passes : Bool = is_numeral digits && nat_lt (digits_value 10 digits) limit in
+    elim (cases_Bool passes) [
+      | inl passed ↦
+          let small : Bool = nat_lt (digits_value 10 digits) limit in
+          let parts = and_parts (is_numeral digits) small passed in
+          let below : digits_value 10 digits < limit = grind (arith, nat_tests, parts.1) in
+          absurd (neither (passing_is_numeral digits parts.0, below))
+      | inr failed ↦ rw failed refl
+    ]
 
 -- ---- a numeral is zeros and a decimal
 

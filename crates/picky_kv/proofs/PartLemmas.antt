@@ -5,7 +5,6 @@ use Rattle.std.proofs.Common.{sym}
 use Rattle.std.proofs.Common.{◌∙◌, ap, arith, inl, inr}
 use Rattle.std.proofs.lemmas.Bool.{cases_Bool, and_parts, eqb-true}
 use Rattle.std.proofs.lemmas.List.{append_assoc}
-use Rattle.std.specs.List.{concat}
 use Rattle.std.specs.Prelude.{unwrap_or}
 use Rattle.picky_layout.specs.Outcome.{and_then, same_pair}
 use Rattle.picky_kv.specs.Field.{Field, outcome}
@@ -13,10 +12,11 @@ use Rattle.picky_kv.specs.Lines.{key_and_value, prefixed, first_joined, next_pai
 use Rattle.picky_kv.specs.Numbers.{count_field}
 use Rattle.picky_kv.specs.Parts.{HasNoSeparator, AreParts, AreJoined, IsPair, IsBlock}
 use Rattle.picky_kv.specs.Parts.{PairsAreRead, BlocksAreRead}
-use Rattle.picky_kv.specs.Steps.{need, in_context}
+use Rattle.picky_kv.specs.Steps.{need, in_context, refusal_in}
 use Rattle.picky_kv.specs.declared.error.KvError.{KvError}
 use Rattle.picky_kv.specs.declared.error.KvError.TheVariants.{EndOfInput, InvalidKeyValueFormat}
 use Rattle.picky_kv.specs.declared.error.PpkValueError.{PpkValueError}
+use Rattle.picky_kv.specs.declared.error.PpkValueError.TheVariants as value
 use Rattle.picky_kv.proofs.ReadBackLemmas.{first_joined_lines}
 
 option_cases : {A : Type 0} (o : Option A) → ((x : A) × (o ≡ Some x)) ⊎ (o ≡ None)
@@ -284,6 +284,80 @@ pub pairs_are_read : {K V : Type 0} (key : Field K) (value : Field V) (context :
     → PairsAreRead key value context
 pairs_are_read key value context lines k v after =
     (pair_is key value context lines k v after, is_pair key value context lines k v after)
+
+-- ---- what is refused
+
+-- the refusal of a text is neither for want of a line nor for want of a separator
+refused_text : {A B : Type 0} (context : List ℕ) (read : Result A PpkValueError)
+    (next : A → Result B KvError) (e : KvError)
+    → ((x : A) → next x ≡ Err e → ⊥) → ((r : PpkValueError) → refusal_in context r ≡ e → ⊥)
+    → and_then (in_context context read) next ≡ Err e → ⊥
+refused_text context (Ok x) next e later other is = later x is
+refused_text context (Err r) next e later other is = other r (cc is)
+
+-- nor that of a key and a value
+refused_texts : {K V : Type 0} (context : List ℕ) (key : Result K PpkValueError)
+    (value : Result V PpkValueError) (lines : List (List ℕ)) (e : KvError)
+    → ((r : PpkValueError) → refusal_in context r ≡ e → ⊥)
+    → and_then (in_context context key) (λ x.
+    and_then (in_context context value) (λ y. read_as x y lines)) ≡ Err e → ⊥
+refused_texts context key value lines e other is =
+    refused_text context key (λ x. and_then (in_context context value) (λ y. read_as x y lines)) e
+    (λ x. refused_text context value (λ y. read_as x y lines) e (λ y same. cc same) other) other is
+
+never_ended : (context : List ℕ) (r : PpkValueError) → refusal_in context r ≡ EndOfInput → ⊥
+never_ended context (value.Parsing p) same = cc same
+never_ended context value.TooLong same = cc same
+never_ended context value.NoMemory same = cc same
+
+never_unseparated : (context : List ℕ) (r : PpkValueError)
+    → refusal_in context r ≡ InvalidKeyValueFormat → ⊥
+never_unseparated context (value.Parsing p) same = cc same
+never_unseparated context value.TooLong same = cc same
+never_unseparated context value.NoMemory same = cc same
+
+-- with a line left, a pair is not refused for want of one
+line_is_left : {K V : Type 0} (context : List ℕ) (key : Field K) (value : Field V)
+    (found : Option (List ℕ × List ℕ)) (lines : List (List ℕ))
+    → need InvalidKeyValueFormat found (λ texts.
+    and_then (in_context context (outcome key texts.0)) (λ x.
+    and_then (in_context context (outcome value texts.1)) (λ y. read_as x y lines)))
+    ≡ Err EndOfInput → ⊥
+line_is_left context key value (Some p) lines is =
+    refused_texts context (outcome key p.0) (outcome value p.1) lines EndOfInput
+    (never_ended context) is
+line_is_left context key value None lines is = cc is
+
+-- nor for want of a separator where there is one
+is_separated : {K V : Type 0} (context : List ℕ) (key : Field K) (value : Field V)
+    (found : Option (List ℕ × List ℕ)) (lines : List (List ℕ))
+    → need InvalidKeyValueFormat found (λ texts.
+    and_then (in_context context (outcome key texts.0)) (λ x.
+    and_then (in_context context (outcome value texts.1)) (λ y. read_as x y lines)))
+    ≡ Err InvalidKeyValueFormat → found ≡ None
+is_separated context key value (Some p) lines is =
+    absurd (refused_texts context (outcome key p.0) (outcome value p.1) lines
+    InvalidKeyValueFormat (never_unseparated context) is)
+is_separated context key value None lines is = refl
+
+ended_is : {K V : Type 0} (key : Field K) (value : Field V) (context : List ℕ)
+    (lines : List (List ℕ)) → next_pair key value context lines ≡ Err EndOfInput → lines ≡ []
+ended_is key value context [] is = refl
+ended_is key value context (line ∷ lines) is =
+    absurd (line_is_left context key value (key_and_value line) lines is)
+
+pub ended_iff : {K V : Type 0} (key : Field K) (value : Field V) (context : List ℕ)
+    (lines : List (List ℕ)) → next_pair key value context lines ≡ Err EndOfInput ↔ (lines ≡ [])
+ended_iff key value context lines = (ended_is key value context lines, λ is. rw is refl)
+
+pub unseparated_iff : {K V : Type 0} (key : Field K) (value : Field V) (context : List ℕ)
+    (line : List ℕ) (lines : List (List ℕ))
+    → next_pair key value context (line ∷ lines) ≡ Err InvalidKeyValueFormat
+    ↔ HasNoSeparator line
+unseparated_iff key value context line lines = (
+  λ is. uncut_has_none line (is_separated context key value (key_and_value line) lines is),
+  λ none. rw (none_is_uncut line none) refl,
+)
 
 -- a block whose lines are joined and read
 joined_step : {K V : Type 0} (context : List ℕ) (value : Field V) (e : KvError)

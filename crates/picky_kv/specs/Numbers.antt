@@ -3,11 +3,11 @@ use Rattle.std.proofs.Common.{◌≡◌, ℕ, ◌^◌, ◌<◌, ◌≤◌, ◌==
 use Rattle.std.proofs.Common.{◌++◌, ◌⊎◌, replicate, codes}
 use Rattle.std.proofs.Common.{length, refl, sym, ◌∙◌, ap, arith, subst, inl, inr}
 use Rattle.std.specs.Prelude.{nat_lt, if◌then◌else◌, Option, Some, None}
-use Rattle.std.specs.Char.{is_digit, digit_value}
+use Rattle.std.specs.Char.{is_digit}
 use Rattle.std.specs.Fmt.{decimal}
 use Rattle.std.specs.List.{list_all}
 use Rattle.std.specs.Str.Parse.{AllDigits, IsNumeral, digits_value, without_leading_plus}
-use Rattle.std.proofs.lemmas.Bool.{and_parts, and_from, cases_Bool}
+use Rattle.std.proofs.lemmas.Bool.{and_from, cases_Bool}
 use Rattle.std.proofs.lemmas.Bool.Decides.{nat_tests}
 use Rattle.std.proofs.lemmas.Fmt.{decimal_is_IsNumeral}
 use Rattle.picky_kv.specs.Field.{Field, Row}
@@ -56,27 +56,10 @@ digits_pass [] all = refl
 digits_pass (c ∷ cs) all =
     and_from _ _ (grind (arith, nat_tests, all.0)) (digits_pass cs all.1)
 
--- and what passes is digits
-passing_are_digits : (digits : List ℕ) → list_all (λ c. is_digit c 10) digits ≡ true
-    → AllDigits 10 digits
-passing_are_digits [] pass = tt
-passing_are_digits (c ∷ cs) pass =
-    let parts = and_parts (is_digit c 10) (list_all (λ d. is_digit d 10) cs) pass in
-    let small : digit_value c < 10 = grind (arith, nat_tests, parts.0) in
-    (small, passing_are_digits cs parts.1)
-
 -- so does a numeral
 numeral_passes : (digits : List ℕ) → IsNumeral 10 digits → is_numeral digits ≡ true
 numeral_passes digits numeral =
     and_from _ _ (grind (arith, nat_tests, numeral.0)) (digits_pass digits numeral.1)
-
--- and what passes is one
-pub passing_is_numeral : (digits : List ℕ) → is_numeral digits ≡ true → IsNumeral 10 digits
-passing_is_numeral digits pass =
-    let all : Bool = list_all (λ c. is_digit c 10) digits in
-    let parts = and_parts (nat_lt 0 (length digits)) all pass in
-    let some : 0 < length digits = grind (arith, nat_tests, parts.0) in
-    (some, passing_are_digits digits parts.1)
 
 -- what the text of a numeral writes, where it is below the limit
 pub number_below_numeral : (limit : ℕ) (text : List ℕ) → IsNumeral 10 (without_leading_plus text)
@@ -87,24 +70,6 @@ number_below_numeral limit text numeral below =
     let digits : List ℕ = without_leading_plus text in
     let small : nat_lt (digits_value 10 digits) limit ≡ true = grind (arith, nat_tests, below) in
     rw (and_from _ _ (numeral_passes digits numeral) small) refl
-
--- no other text writes one
-pub number_below_none : (limit : ℕ) (text : List ℕ)
-    → (IsNumeral 10 (without_leading_plus text)
-    × (digits_value 10 (without_leading_plus text) < limit) → ⊥)
-    → number_below limit text ≡ None
-unfolding number_below
-number_below_none limit text neither =
-    let digits : List ℕ = without_leading_plus text in
-    let passes : Bool = is_numeral digits && nat_lt (digits_value 10 digits) limit in
-    elim (cases_Bool passes) [
-      | inl passed ↦
-          let small : Bool = nat_lt (digits_value 10 digits) limit in
-          let parts = and_parts (is_numeral digits) small passed in
-          let below : digits_value 10 digits < limit = grind (arith, nat_tests, parts.1) in
-          absurd (neither (passing_is_numeral digits parts.0, below))
-      | inr failed ↦ rw failed refl
-    ]
 
 -- a digit is no plus
 pub no_plus_first : (digits : List ℕ) → IsNumeral 10 digits → without_leading_plus digits ≡ digits

@@ -1,6 +1,6 @@
 //! The laws of a file's lines, each as the contract of a function that does nothing.
 
-ghost use Rattle.std.specs.Prelude.{◌≡◌, ◌↔◌, ◌<◌, ℕ, List, [], length, Err};
+ghost use Rattle.std.specs.Prelude.{◌≡◌, ◌↔◌, ◌<◌, ℕ, List, [], ◌∷◌, length, Err};
 ghost use Rattle.std.specs.List.{AllByRecursion};
 ghost use Rattle.picky_layout.specs.Numbers.{IsBytes};
 ghost use Rattle.picky_text.specs.Rows.{rows_of};
@@ -163,7 +163,21 @@ pub fn pairs_have_their_types(
     (PpkPrivateMacKey, HexPpkValue),
     (PpkPublicLinesKey, Base64PpkValue),
     (PpkPrivateLinesKey, Base64PpkValue),
-) {
+)
+    ensures { result ≡ (
+      header,
+      encryption,
+      comment,
+      key_derivation,
+      memory,
+      passes,
+      parallelism,
+      salt,
+      mac,
+      public_lines,
+      private_lines,
+    ) }
+{
     (
         header,
         encryption,
@@ -197,10 +211,18 @@ pub fn blocks_are_their_lines_joined()
         → first_joined count lines ≡ None ↔ length lines < count }
 {}
 
-/// A pair and a block are read exactly where they stand first, with the lines after them left.
+/// A pair and a block are read exactly where they stand first, with the lines after them left. A
+/// read is refused for want of a line exactly where none is left, and for want of a separator
+/// exactly where the first has none.
 pub fn pairs_and_blocks_are_read_where_they_stand<T: PpkKeyValue, B: PpkMultilineKeyValue>()
     ensures pair { PairsAreRead T.Key.field T.Value.field T.Key.name }
     ensures block { BlocksAreRead B.Key.field B.Value.field B.Key.name }
+    ensures ended { (lines : List (List ℕ))
+        → next_pair T.Key.field T.Value.field T.Key.name lines ≡ Err KvError.EndOfInput
+        ↔ (lines ≡ []) }
+    ensures unseparated { (line : List ℕ) (lines : List (List ℕ))
+        → next_pair T.Key.field T.Value.field T.Key.name (line ∷ lines)
+        ≡ Err KvError.InvalidKeyValueFormat ↔ HasNoSeparator line }
 {}
 
 /// What is written has no CR and no LF, unless it is a comment: a key, a value, a count, and each
