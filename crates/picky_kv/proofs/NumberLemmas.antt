@@ -86,7 +86,8 @@ digit_more z n d low below = elim (cases_lt 0 n) [
       let is : n ≡ 0 = omega arith in
       let whole : n * 10 + d ≡ d = omega arith in
       let first : decimal 0 ≡ 48 ∷ [] = decimal_digit 0 (omega arith) in
-      (suc z, rw (whole, is, first, decimal_digit d low, append_assoc) (zeros_push z ((48 + d) ∷ [])))
+      let digit = decimal_digit d low in
+      (suc z, rw (whole, is, first, digit, append_assoc) (zeros_push z ((48 + d) ∷ [])))
 ]
 
 -- so many digits more
@@ -170,7 +171,8 @@ text_reads limit text n wide is =
     let bare : without_leading_plus text ≡ digits =
     ap without_leading_plus is.joined ∙ without_its_plus is.sign digits numeral is.plus in
     let Q : List ℕ → Type 0 = λ l. IsNumeral 10 l in
-    let whole : digits_value 10 (without_leading_plus text) ≡ n = ap (digits_value 10) bare ∙ value in
+    let whole : digits_value 10 (without_leading_plus text) ≡ n =
+    ap (digits_value 10) bare ∙ value in
     number_below_numeral limit text (subst Q (sym bare) numeral) (omega (arith, whole))
     ∙ ap Some whole
 

@@ -108,7 +108,8 @@ hex_is_one_line bytes few = (
 
 pub padded_is_one_line : (bytes : List ℕ) → IsBytes bytes → HasNoLineEnd (padded_base64 bytes)
 padded_is_one_line bytes small =
-    rw (← base64_is_padded bytes) (base64_has_no 13 bytes small refl, base64_has_no 10 bytes small refl)
+    rw (← base64_is_padded bytes)
+    (base64_has_no 13 bytes small refl, base64_has_no 10 bytes small refl)
 
 pub base64_is_one_line : AreOneLine base64_field
 unfolding base64_field

@@ -49,7 +49,8 @@ argon2_passes_key_is_plain _ = refl
 
 -- the key of the line of Argon2's parallelism
 abbrev pub argon2_parallelism_key_row : LiteralRow PpkArgon2ParallelismKey
-argon2_parallelism_key_row = single_row (codes "PpkArgon2ParallelismKey") (codes "Argon2-Parallelism")
+argon2_parallelism_key_row =
+    single_row (codes "PpkArgon2ParallelismKey") (codes "Argon2-Parallelism")
 
 -- its type
 unfoldable pub argon2_parallelism_key : Field PpkArgon2ParallelismKey

@@ -12,7 +12,7 @@ use Rattle.std.proofs.lemmas.Bool.Decides.{nat_tests}
 use Rattle.std.proofs.lemmas.Fmt.{decimal_is_IsNumeral}
 use Rattle.picky_kv.specs.Field.{Field, Row}
 
--- a number below the limit in decimal: a plus may stand first, and then zeros
+-- a number below the limit in decimal: a plus may stand first, and then zeros, which are 48
 pub record IsNumberText (limit : ℕ) (text : List ℕ) (n : ℕ) : Type 0 where
   pub sign : List ℕ
   pub zeros : ℕ

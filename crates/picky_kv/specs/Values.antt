@@ -38,7 +38,7 @@ comment_field = record {
   read_back = λ _ _. refl;
 }
 
--- the bytes in base64: padded, and with no other symbols
+-- the bytes in base64, padded by `=`, which is 61
 abbrev pub padded_base64 : List ℕ → List ℕ
 padded_base64 bytes =
     encode (codes "ABCDEFGHIJKLMNOPQRSTUVWXYZabcdefghijklmnopqrstuvwxyz0123456789+/") 61 true bytes

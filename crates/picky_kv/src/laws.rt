@@ -38,7 +38,8 @@ use crate::pairs::{
 };
 use crate::values::{Base64PpkValue, HexPpkValue, PpkCommentValue};
 
-/// Each line's key: its literal alone stands for it, is written and is expected; the name of its type.
+/// Each line's key: its literal alone stands for it, is written and is expected. Refusals give its
+/// type's name.
 pub fn keys_have_their_literals()
     ensures header { IsOfLiterals
         ⟦<<PpkHeader as PpkKeyValue>::Key as PpkField>⟧.field
@@ -97,7 +98,8 @@ pub fn keys_have_their_literals()
         private_lines_key_row }
 {}
 
-/// Each line's value: which texts stand for it, which is written, and what is expected.
+/// Each line's value, and a block's count: which texts stand for it, which is written, and what is
+/// expected.
 pub fn values_have_their_texts()
     ensures header { IsOfLiterals
         ⟦<<PpkHeader as PpkKeyValue>::Value as PpkField>⟧.field
@@ -117,11 +119,17 @@ pub fn values_have_their_texts()
         flavour_row }
     ensures memory { IsOfRow ⟦<<PpkArgon2Memory as PpkKeyValue>::Value as PpkField>⟧.field u32_row }
     ensures passes { IsOfRow ⟦<<PpkArgon2Passes as PpkKeyValue>::Value as PpkField>⟧.field u32_row }
-    ensures parallelism { IsOfRow ⟦<<PpkArgon2Parallelism as PpkKeyValue>::Value as PpkField>⟧.field u32_row }
+    ensures parallelism { IsOfRow
+        ⟦<<PpkArgon2Parallelism as PpkKeyValue>::Value as PpkField>⟧.field
+        u32_row }
     ensures salt { IsOfRow ⟦<<PpkArgon2Salt as PpkKeyValue>::Value as PpkField>⟧.field hex_row }
     ensures mac { IsOfRow ⟦<<PpkPrivateMac as PpkKeyValue>::Value as PpkField>⟧.field hex_row }
-    ensures public_lines { IsOfRow ⟦<<PpkPublicLines as PpkMultilineKeyValue>::Value as PpkField>⟧.field base64_row }
-    ensures private_lines { IsOfRow ⟦<<PpkPrivateLines as PpkMultilineKeyValue>::Value as PpkField>⟧.field base64_row }
+    ensures public_lines { IsOfRow
+        ⟦<<PpkPublicLines as PpkMultilineKeyValue>::Value as PpkField>⟧.field
+        base64_row }
+    ensures private_lines { IsOfRow
+        ⟦<<PpkPrivateLines as PpkMultilineKeyValue>::Value as PpkField>⟧.field
+        base64_row }
     ensures count { IsOfRow count_field count_row }
 
     // Bytes are written in hex by two digits each, in lower case.
