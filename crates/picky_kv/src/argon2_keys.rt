@@ -1,6 +1,6 @@
 //! The keys of Argon2, which an encrypted file of version 3 has, one literal each.
 
-ghost use Rattle.std.specs.Prelude.{refl};
+ghost use Rattle.std.specs.Prelude.{◌≡◌, IfOk, IsOk, refl};
 ghost use Rattle.picky_kv.specs.Argon2Keys.{key_derivation_key, argon2_memory_key};
 ghost use Rattle.picky_kv.specs.Argon2Keys.{argon2_passes_key, argon2_parallelism_key};
 ghost use Rattle.picky_kv.specs.Argon2Keys.{argon2_salt_key};
@@ -64,7 +64,10 @@ impl PpkSingle for PpkKeyDerivationKey {
 }
 
 impl TryClone for PpkKeyDerivationKey {
-    fn try_clone(&self, _alloc: Global) -> Result<PpkKeyDerivationKey, NoMemory> {
+    fn try_clone(&self, _alloc: Global) -> Result<PpkKeyDerivationKey, NoMemory>
+        ensures ok { IfOk result (λ copy. copy ≡ self.now) }
+        ensures always { IsOk result }
+    {
         Ok(*self)
     }
 }
@@ -115,7 +118,10 @@ impl PpkSingle for PpkArgon2MemoryKey {
 }
 
 impl TryClone for PpkArgon2MemoryKey {
-    fn try_clone(&self, _alloc: Global) -> Result<PpkArgon2MemoryKey, NoMemory> {
+    fn try_clone(&self, _alloc: Global) -> Result<PpkArgon2MemoryKey, NoMemory>
+        ensures ok { IfOk result (λ copy. copy ≡ self.now) }
+        ensures always { IsOk result }
+    {
         Ok(*self)
     }
 }
@@ -166,7 +172,10 @@ impl PpkSingle for PpkArgon2PassesKey {
 }
 
 impl TryClone for PpkArgon2PassesKey {
-    fn try_clone(&self, _alloc: Global) -> Result<PpkArgon2PassesKey, NoMemory> {
+    fn try_clone(&self, _alloc: Global) -> Result<PpkArgon2PassesKey, NoMemory>
+        ensures ok { IfOk result (λ copy. copy ≡ self.now) }
+        ensures always { IsOk result }
+    {
         Ok(*self)
     }
 }
@@ -217,7 +226,10 @@ impl PpkSingle for PpkArgon2ParallelismKey {
 }
 
 impl TryClone for PpkArgon2ParallelismKey {
-    fn try_clone(&self, _alloc: Global) -> Result<PpkArgon2ParallelismKey, NoMemory> {
+    fn try_clone(&self, _alloc: Global) -> Result<PpkArgon2ParallelismKey, NoMemory>
+        ensures ok { IfOk result (λ copy. copy ≡ self.now) }
+        ensures always { IsOk result }
+    {
         Ok(*self)
     }
 }
@@ -268,7 +280,10 @@ impl PpkSingle for PpkArgon2SaltKey {
 }
 
 impl TryClone for PpkArgon2SaltKey {
-    fn try_clone(&self, _alloc: Global) -> Result<PpkArgon2SaltKey, NoMemory> {
+    fn try_clone(&self, _alloc: Global) -> Result<PpkArgon2SaltKey, NoMemory>
+        ensures ok { IfOk result (λ copy. copy ≡ self.now) }
+        ensures always { IsOk result }
+    {
         Ok(*self)
     }
 }

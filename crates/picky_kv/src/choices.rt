@@ -1,6 +1,6 @@
 //! The types of several literals each: version, algorithm, encryption and Argon2's flavour.
 
-ghost use Rattle.std.specs.Prelude.{◌≡◌};
+ghost use Rattle.std.specs.Prelude.{◌≡◌, IfOk, IsOk};
 ghost use Rattle.picky_kv.specs.Choices.{version_field, version_literal, algorithm_field};
 ghost use Rattle.picky_kv.specs.Choices.{algorithm_literal, mpint_values_count};
 ghost use Rattle.picky_kv.specs.Choices.{encryption_field, encryption_literal, flavour_field};
@@ -63,7 +63,10 @@ impl PpkLiteral for PpkVersionKey {
 }
 
 impl TryClone for PpkVersionKey {
-    fn try_clone(&self, _alloc: Global) -> Result<PpkVersionKey, NoMemory> {
+    fn try_clone(&self, _alloc: Global) -> Result<PpkVersionKey, NoMemory>
+        ensures ok { IfOk result (λ copy. copy ≡ self.now) }
+        ensures always { IsOk result }
+    {
         Ok(*self)
     }
 }
@@ -155,7 +158,10 @@ impl PpkLiteral for PpkKeyAlgorithmValue {
 }
 
 impl TryClone for PpkKeyAlgorithmValue {
-    fn try_clone(&self, _alloc: Global) -> Result<PpkKeyAlgorithmValue, NoMemory> {
+    fn try_clone(&self, _alloc: Global) -> Result<PpkKeyAlgorithmValue, NoMemory>
+        ensures ok { IfOk result (λ copy. copy ≡ self.now) }
+        ensures always { IsOk result }
+    {
         Ok(*self)
     }
 }
@@ -205,7 +211,10 @@ impl PpkLiteral for PpkEncryptionValue {
 }
 
 impl TryClone for PpkEncryptionValue {
-    fn try_clone(&self, _alloc: Global) -> Result<PpkEncryptionValue, NoMemory> {
+    fn try_clone(&self, _alloc: Global) -> Result<PpkEncryptionValue, NoMemory>
+        ensures ok { IfOk result (λ copy. copy ≡ self.now) }
+        ensures always { IsOk result }
+    {
         Ok(*self)
     }
 }
@@ -260,7 +269,10 @@ impl PpkLiteral for Argon2FlavourValue {
 }
 
 impl TryClone for Argon2FlavourValue {
-    fn try_clone(&self, _alloc: Global) -> Result<Argon2FlavourValue, NoMemory> {
+    fn try_clone(&self, _alloc: Global) -> Result<Argon2FlavourValue, NoMemory>
+        ensures ok { IfOk result (λ copy. copy ≡ self.now) }
+        ensures always { IsOk result }
+    {
         Ok(*self)
     }
 }

@@ -1,6 +1,6 @@
 //! The keys that each file has, one literal each.
 
-ghost use Rattle.std.specs.Prelude.{refl};
+ghost use Rattle.std.specs.Prelude.{◌≡◌, IfOk, IsOk, refl};
 ghost use Rattle.picky_kv.specs.Keys.{encryption_key, comment_key, public_lines_key};
 ghost use Rattle.picky_kv.specs.Keys.{private_lines_key, private_mac_key};
 ghost use Rattle.picky_kv.specs.Keys.{encryption_key_row, comment_key_row, public_lines_key_row};
@@ -61,7 +61,10 @@ impl PpkSingle for PpkEncryptionKey {
 }
 
 impl TryClone for PpkEncryptionKey {
-    fn try_clone(&self, _alloc: Global) -> Result<PpkEncryptionKey, NoMemory> {
+    fn try_clone(&self, _alloc: Global) -> Result<PpkEncryptionKey, NoMemory>
+        ensures ok { IfOk result (λ copy. copy ≡ self.now) }
+        ensures always { IsOk result }
+    {
         Ok(*self)
     }
 }
@@ -112,7 +115,10 @@ impl PpkSingle for PpkCommentKey {
 }
 
 impl TryClone for PpkCommentKey {
-    fn try_clone(&self, _alloc: Global) -> Result<PpkCommentKey, NoMemory> {
+    fn try_clone(&self, _alloc: Global) -> Result<PpkCommentKey, NoMemory>
+        ensures ok { IfOk result (λ copy. copy ≡ self.now) }
+        ensures always { IsOk result }
+    {
         Ok(*self)
     }
 }
@@ -163,7 +169,10 @@ impl PpkSingle for PpkPublicLinesKey {
 }
 
 impl TryClone for PpkPublicLinesKey {
-    fn try_clone(&self, _alloc: Global) -> Result<PpkPublicLinesKey, NoMemory> {
+    fn try_clone(&self, _alloc: Global) -> Result<PpkPublicLinesKey, NoMemory>
+        ensures ok { IfOk result (λ copy. copy ≡ self.now) }
+        ensures always { IsOk result }
+    {
         Ok(*self)
     }
 }
@@ -214,7 +223,10 @@ impl PpkSingle for PpkPrivateLinesKey {
 }
 
 impl TryClone for PpkPrivateLinesKey {
-    fn try_clone(&self, _alloc: Global) -> Result<PpkPrivateLinesKey, NoMemory> {
+    fn try_clone(&self, _alloc: Global) -> Result<PpkPrivateLinesKey, NoMemory>
+        ensures ok { IfOk result (λ copy. copy ≡ self.now) }
+        ensures always { IsOk result }
+    {
         Ok(*self)
     }
 }
@@ -265,7 +277,10 @@ impl PpkSingle for PpkPrivateMacKey {
 }
 
 impl TryClone for PpkPrivateMacKey {
-    fn try_clone(&self, _alloc: Global) -> Result<PpkPrivateMacKey, NoMemory> {
+    fn try_clone(&self, _alloc: Global) -> Result<PpkPrivateMacKey, NoMemory>
+        ensures ok { IfOk result (λ copy. copy ≡ self.now) }
+        ensures always { IsOk result }
+    {
         Ok(*self)
     }
 }

@@ -1,6 +1,6 @@
 //! Numbers in decimal: Argon2's, and how many lines a block has.
 
-ghost use Rattle.std.specs.Prelude.{◌≡◌, ◌^◌, ◌<◌, ℕ};
+ghost use Rattle.std.specs.Prelude.{◌≡◌, ◌^◌, ◌<◌, ℕ, IfOk, IsOk};
 ghost use Rattle.picky_wire.specs.Gives.{Gives};
 ghost use Rattle.picky_kv.specs.Field.{outcome, Writes};
 ghost use Rattle.picky_kv.specs.Numbers.{u32_field, count_field};
@@ -45,7 +45,10 @@ impl PpkField for PpkArgon2MemoryValue {
 }
 
 impl TryClone for PpkArgon2MemoryValue {
-    fn try_clone(&self, _alloc: Global) -> Result<PpkArgon2MemoryValue, NoMemory> {
+    fn try_clone(&self, _alloc: Global) -> Result<PpkArgon2MemoryValue, NoMemory>
+        ensures ok { IfOk result (λ copy. copy ≡ self.now) }
+        ensures always { IsOk result }
+    {
         Ok(*self)
     }
 }
@@ -99,7 +102,10 @@ impl PpkField for PpkArgon2PassesValue {
 }
 
 impl TryClone for PpkArgon2PassesValue {
-    fn try_clone(&self, _alloc: Global) -> Result<PpkArgon2PassesValue, NoMemory> {
+    fn try_clone(&self, _alloc: Global) -> Result<PpkArgon2PassesValue, NoMemory>
+        ensures ok { IfOk result (λ copy. copy ≡ self.now) }
+        ensures always { IsOk result }
+    {
         Ok(*self)
     }
 }
@@ -153,7 +159,10 @@ impl PpkField for PpkArgon2ParallelismValue {
 }
 
 impl TryClone for PpkArgon2ParallelismValue {
-    fn try_clone(&self, _alloc: Global) -> Result<PpkArgon2ParallelismValue, NoMemory> {
+    fn try_clone(&self, _alloc: Global) -> Result<PpkArgon2ParallelismValue, NoMemory>
+        ensures ok { IfOk result (λ copy. copy ≡ self.now) }
+        ensures always { IsOk result }
+    {
         Ok(*self)
     }
 }
