@@ -1,10 +1,8 @@
 //! The types of several literals each: version, algorithm, encryption and Argon2's flavour.
 
 ghost use Rattle.std.specs.Prelude.{◌≡◌, IfOk, IsOk};
-ghost use Rattle.picky_kv.specs.Choices.{version_field, version_literal, algorithm_field};
-ghost use Rattle.picky_kv.specs.Choices.{algorithm_literal, mpint_values_count};
-ghost use Rattle.picky_kv.specs.Choices.{encryption_field, encryption_literal, flavour_field};
-ghost use Rattle.picky_kv.specs.Choices.{flavour_literal};
+ghost use Rattle.picky_kv.specs.Choices.{version_field, algorithm_field, mpint_values_count};
+ghost use Rattle.picky_kv.specs.Choices.{encryption_field, flavour_field};
 ghost use Rattle.picky_kv.specs.Choices.{version_row, algorithm_row, encryption_row, flavour_row};
 
 use crate::error::PpkValueError;
