@@ -3,6 +3,7 @@
 
 ghost use Rattle.std.specs.Prelude.{◌≡◌, ◌≤◌, ℕ, List, length, Ok};
 ghost use Rattle.std.specs.Str.{IsUtf8};
+ghost use Rattle.picky_wire.specs.Equality.{IsEquality};
 ghost use Rattle.picky_convert.specs.declared.meaning.Meaning.{Meaning as Meant};
 ghost use Rattle.picky_convert.specs.declared.command.Command.{Command as Named};
 ghost use Rattle.picky_convert.specs.declared.conversion.Target.{Target as To};
@@ -11,6 +12,10 @@ ghost use Rattle.picky_convert.specs.Reading.{Reads, reading};
 ghost use Rattle.picky_convert.specs.Convert.{Carries, HasRoom, ReadsBack, IsConversion, conversion, written};
 ghost use Rattle.picky_convert.specs.Command.{IsAnswer};
 ghost use Rattle.picky_convert.specs.Run.{input_limit, outcome, IsValid};
+
+use crate::conversion::Target;
+use crate::error::{ConvertError, ReadError, Status};
+use crate::meaning::{Key, Meaning};
 
 /// The order of refusals ends in a meaning exactly where the text has it, and it has one at most.
 pub fn text_has_one_meaning()
@@ -48,4 +53,14 @@ pub fn written_text_is_kept()
 pub fn outcome_is_the_answer_to_its_input()
     ensures text { (c : Named) (input text : List ℕ) → outcome c input ≡ Ok text → IsAnswer c input text }
     ensures valid { (c : Named) (input : List ℕ) → IsValid c input → (text : List ℕ) × (outcome c input ≡ Ok text) }
+{}
+
+/// Two meanings are equal exactly where their contents are, and so are targets, statuses and refusals.
+pub fn equality_is_of_contents()
+    ensures key { IsEquality ⟦<Key as PartialEq>⟧.eq }
+    ensures meaning { IsEquality ⟦<Meaning as PartialEq>⟧.eq }
+    ensures target { IsEquality ⟦<Target as PartialEq>⟧.eq }
+    ensures read_error { IsEquality ⟦<ReadError as PartialEq>⟧.eq }
+    ensures error { IsEquality ⟦<ConvertError as PartialEq>⟧.eq }
+    ensures status { IsEquality ⟦<Status as PartialEq>⟧.eq }
 {}

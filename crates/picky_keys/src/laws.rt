@@ -1,11 +1,14 @@
 //! The laws of this crate, each as the contract of a function that does nothing else.
 
-ghost use Rattle.std.specs.Prelude.{◌≡◌, ◌↔◌, List, ℕ, Some, IsTrue};
+ghost use Rattle.std.specs.Prelude.{◌≡◌, List, ℕ, Some};
 ghost use Rattle.picky_layout.specs.Table.{find_entry};
+ghost use Rattle.picky_wire.specs.Equality.{IsEquality};
 ghost use Rattle.picky_keys.specs.Names.{kind_name, key_types, curve_identifier, curves};
 ghost use Rattle.picky_keys.specs.declared.kind.KeyKind.{KeyKind as Kind};
 ghost use Rattle.picky_keys.specs.declared.curve.EcCurve.{EcCurve as Curve};
 
+use crate::curve::{EcCurve, EdAlgorithm};
+use crate::kind::KeyKind;
 use crate::public_key::PublicKey;
 
 /// A name of a key type stands for its kind, and no other name does.
@@ -22,9 +25,10 @@ pub fn each_curve_has_one_name()
     ensures only { (name : List ℕ) (curve : Curve) → find_entry curves name ≡ Some curve → curve_identifier curve ≡ name }
 {}
 
-/// Two keys are equal where their contents are.
-pub fn equal_keys_have_equal_contents(a: &PublicKey, b: &PublicKey) -> bool
-    ensures { IsTrue result ↔ (a.now ≡ b.now) }
-{
-    a == b
-}
+/// Two keys are equal exactly where their contents are, and so are curves, algorithms and kinds.
+pub fn equality_is_of_contents()
+    ensures key { IsEquality ⟦<PublicKey as PartialEq>⟧.eq }
+    ensures curve { IsEquality ⟦<EcCurve as PartialEq>⟧.eq }
+    ensures algorithm { IsEquality ⟦<EdAlgorithm as PartialEq>⟧.eq }
+    ensures kind { IsEquality ⟦<KeyKind as PartialEq>⟧.eq }
+{}

@@ -1,4 +1,3 @@
-pub mod Equality
 pub mod Field
 pub mod Literal
 pub mod Choices

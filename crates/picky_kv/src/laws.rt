@@ -8,7 +8,7 @@ ghost use Rattle.picky_kv.specs.Argon2Keys.{argon2_memory_key_row, argon2_parall
 ghost use Rattle.picky_kv.specs.Argon2Keys.{argon2_passes_key_row, argon2_salt_key_row};
 ghost use Rattle.picky_kv.specs.Argon2Keys.{key_derivation_key_row};
 ghost use Rattle.picky_kv.specs.Choices.{algorithm_row, encryption_row, flavour_row, version_row};
-ghost use Rattle.picky_kv.specs.Equality.{IsEquality};
+ghost use Rattle.picky_wire.specs.Equality.{IsEquality};
 ghost use Rattle.picky_kv.specs.Field.{IsOfRow};
 ghost use Rattle.picky_kv.specs.Keys.{comment_key_row, encryption_key_row, private_lines_key_row};
 ghost use Rattle.picky_kv.specs.Keys.{private_mac_key_row, public_lines_key_row};

@@ -4,12 +4,16 @@ ghost use Rattle.std.specs.Prelude.{◌≡◌, ◌<◌, ◌^◌, List, ℕ, Ok, 
 ghost use Rattle.picky_layout.specs.Numbers.{IsBytes};
 ghost use Rattle.picky_layout.specs.Outcome.{and_then};
 ghost use Rattle.picky_text.specs.Lines.{HasNo};
+ghost use Rattle.picky_wire.specs.Equality.{IsEquality};
 ghost use Rattle.picky_sshpub.specs.declared.key.SshPublicKey.{SshPublicKey as SshKey};
 ghost use Rattle.picky_sshpub.specs.Key.{IsKey};
 ghost use Rattle.picky_sshpub.specs.Blob.{blob_of};
 ghost use Rattle.picky_ppk.specs.declared.putty_public.PuttyPublicKey.{PuttyPublicKey as Key};
 ghost use Rattle.picky_ppk.specs.PuttyPublic.{putty_public, IsPuttyPublic, SaysPuttyPublic, SpellsPuttyPublic};
 ghost use Rattle.picky_ppk.specs.PuttyRefusal.{putty_meaning, of_openssh, to_openssh};
+
+use crate::error::PuttyError;
+use crate::putty_public::PuttyPublicKey;
 
 /// A text means a blob and a comment exactly where it says them, and it says one of each.
 #[tactic(auto, using(crate::proofs::LawLemmas::meaning_laws))]
@@ -51,4 +55,10 @@ pub fn written_text_means_its_key()
     ensures means { (text : List ℕ) (key : SshKey) → IsPuttyPublic text key → and_then (putty_meaning text) to_openssh ≡ Ok key }
     ensures says { (text : List ℕ) (key : SshKey) → IsBytes text → and_then (putty_meaning text) to_openssh ≡ Ok key
         → IsPuttyPublic text key }
+{}
+
+/// Two keys are equal exactly where their contents are, and so are refusals.
+pub fn equality_is_of_contents()
+    ensures key { IsEquality ⟦<PuttyPublicKey as PartialEq>⟧.eq }
+    ensures error { IsEquality ⟦<PuttyError as PartialEq>⟧.eq }
 {}

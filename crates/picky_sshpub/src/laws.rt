@@ -1,10 +1,11 @@
 //! The laws of this crate, each as the contract of a function that does no more than it says.
 
-ghost use Rattle.std.specs.Prelude.{◌≡◌, ◌++◌, ◌∷◌, ◌<◌, ◌^◌, ◌↔◌, List, ℕ, Ok, Err, IsTrue, IsUtf8, length, true};
+ghost use Rattle.std.specs.Prelude.{◌≡◌, ◌++◌, ◌∷◌, ◌<◌, ◌^◌, List, ℕ, Ok, Err, IsUtf8, length};
 ghost use Rattle.picky_layout.specs.Numbers.{IsBytes};
 ghost use Rattle.picky_layout.specs.Outcome.{and_then};
 ghost use Rattle.picky_layout.specs.Grammar.{Fits};
 ghost use Rattle.picky_text.specs.Words.{after_body, line_in_front};
+ghost use Rattle.picky_wire.specs.Equality.{IsEquality};
 ghost use Rattle.picky_sshpub.specs.declared.key.SshBasePublicKey.{SshBasePublicKey as BaseKey};
 ghost use Rattle.picky_sshpub.specs.declared.key.SshPublicKey.{SshPublicKey as Key};
 ghost use Rattle.picky_sshpub.specs.Key.{IsKey};
@@ -16,6 +17,7 @@ ghost use Rattle.picky_sshpub.specs.LineRefusal.{line_meaning, line_text};
 ghost use Rattle.picky_sshpub.specs.LineLaws.{IsKept};
 ghost use Rattle.picky_sshpub.specs.SourceLine.{after_line, source_meaning};
 
+use crate::error::SshPublicKeyError;
 use crate::key::{SshBasePublicKey, SshPublicKey};
 
 /// A blob that is written is read back, and exactly what follows it is left.
@@ -73,26 +75,9 @@ pub fn source_is_answered_as_its_line()
         → source_meaning bytes ≡ and_then (line_meaning (line_in_front bytes)) (λ key. Ok (key, after_line bytes)) }
 {}
 
-/// The fingerprints don't depend on the comment.
-pub fn fingerprints_are_of_the_key(a: &SshPublicKey, b: &SshPublicKey) -> bool
-    requires { a.now.inner_key ≡ b.now.inner_key }
-    ensures { result ≡ true }
-{
-    a.fingerprint_md5() == b.fingerprint_md5()
-        && a.fingerprint_sha1() == b.fingerprint_sha1()
-        && a.fingerprint_sha256() == b.fingerprint_sha256()
-}
-
-/// Keys are equal where their contents are.
-pub fn equal_keys_have_equal_contents(a: &SshBasePublicKey, b: &SshBasePublicKey) -> bool
-    ensures { IsTrue result ↔ (a.now ≡ b.now) }
-{
-    a == b
-}
-
-/// So are keys with comments.
-pub fn equal_lines_have_equal_contents(a: &SshPublicKey, b: &SshPublicKey) -> bool
-    ensures { IsTrue result ↔ (a.now ≡ b.now) }
-{
-    a == b
-}
+/// Two keys are equal exactly where their contents are, and so are keys with comments, and refusals.
+pub fn equality_is_of_contents()
+    ensures key { IsEquality ⟦<SshBasePublicKey as PartialEq>⟧.eq }
+    ensures line { IsEquality ⟦<SshPublicKey as PartialEq>⟧.eq }
+    ensures error { IsEquality ⟦<SshPublicKeyError as PartialEq>⟧.eq }
+{}

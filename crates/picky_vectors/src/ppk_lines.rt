@@ -83,6 +83,15 @@ fn copied(alloc: Global, text: &str, crlf: bool) -> Result<Text, KvError> {
 }
 
 #[test]
+fn reads_the_mac_in_hex_of_both_cases(rt: HostRuntime) -> Result<(), Fail> {
+    let mut reader = PuttyKvReader::from_str("Private-MAC: 00aBFf");
+    let mac = Bytes::from(reader.next_value::<PpkPrivateMac>(rt.alloc())?);
+    // RFC 4648, section 8: two digits a byte, the high four bits first, in either case
+    assert_eq!(rt; mac.as_slice(), [0x00, 0xab, 0xff].as_slice());
+    Ok(())
+}
+
+#[test]
 fn copies_a_file_of_puttygen(rt: HostRuntime) -> Result<(), Fail> {
     let alloc = rt.alloc();
     let with_crlf = SEALED.replace(alloc, "\n", "\r\n")?;

@@ -1,5 +1,6 @@
 pub mod Count
 pub mod Known
+pub mod Equality
 pub mod Memory
 pub mod Gives
 pub mod Takes

@@ -15,14 +15,20 @@ ghost use Rattle.picky_layout.specs.Names.{named};
 ghost use Rattle.picky_layout.specs.Zeros.{without_zeros};
 ghost use Rattle.picky_layout.specs.Mpint.{IsMpint, IsMpintPiece, mpint, mpint_of};
 ghost use Rattle.picky_layout.specs.When.{IsShortWhere, HoldsString, HasOneFront, followed_by};
+ghost use Rattle.picky_wire.specs.Equality.{IsEquality};
 ghost use Rattle.picky_wire.specs.Laws.{IsReading, IsStuck};
 ghost use Rattle.picky_layout.specs.Inside.{SubPiece, sub};
 ghost use Rattle.picky_layout.specs.Many.{ManyPiece, read_many};
 ghost use Rattle.picky_layout.specs.Row.{read_all};
 ghost use Rattle.picky_wire.specs.Flaws.{wire_error};
 
+use crate::bytes::{Bytes, Text};
 use crate::element::{SshElement, SshLayout};
+use crate::error::{IoKind, SizeError, WireError};
+use crate::mpint::Mpint;
 use crate::source::Source;
+use crate::stop::Stop;
+use crate::timestamp::Timestamp;
 
 /// Each field is read one way or refused for one reason, and no piece is a proper front of another.
 pub fn fields_are_read_one_way()
@@ -292,4 +298,17 @@ pub fn no_piece_is_a_front_of_another<T: SshLayout>()
     ensures element { HasOneFront T.layout.piece }
     ensures list { HasOneFront (ManyPiece T.layout.piece) }
     ensures inside { HasOneFront (SubPiece T.layout.piece) }
+{}
+
+/// Two values are equal exactly where their contents are, and so are two refusals. Of lists it holds where it
+/// does of their items.
+pub fn equality_is_of_contents()
+    ensures bytes { IsEquality ⟦<Bytes as PartialEq>⟧.eq }
+    ensures text { IsEquality ⟦<Text as PartialEq>⟧.eq }
+    ensures number { IsEquality ⟦<Mpint as PartialEq>⟧.eq }
+    ensures moment { IsEquality ⟦<Timestamp as PartialEq>⟧.eq }
+    ensures size_error { IsEquality ⟦<SizeError as PartialEq>⟧.eq }
+    ensures io_kind { IsEquality ⟦<IoKind as PartialEq>⟧.eq }
+    ensures error { IsEquality ⟦<WireError as PartialEq>⟧.eq }
+    ensures stop { IsEquality ⟦<Stop as PartialEq>⟧.eq }
 {}
