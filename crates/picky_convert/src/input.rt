@@ -33,6 +33,8 @@ pub fn read_input<S: Source>(alloc: Global, source: &mut S) -> Result<Vec<u8>, I
     ensures read_fault_only_if_counted { IsErrOf result InputError.ReadFault → Rose (S.faults source.old) (S.faults source.new) }
     ensures too_long { S.tells source.old → IsErrOf result InputError.TooLong → (input_limit < length (S.left source.old))
         × (S.left source.new ≡ drop (input_limit + 1) (S.left source.old)) }
+    ensures cut { S.tells source.old → IsErrOf result InputError.ReadFault
+        → length (S.left source.old) < input_limit + 1 + length (S.left source.new) }
     ensures taken { S.tells source.old → TakesInput (S.left source.old) (S.left source.new) }
     ensures told { S.tells source.old → S.tells source.new }
     ensures knows_on { IsSome (S.known source.old) → IsSome (S.known source.new) }

@@ -79,6 +79,8 @@ pub fn run<S: Suite, I: Source, O: Sink, E: Sink>(
     ensures taken { I.tells source.old → TakesInput (I.left source.old) (I.left source.new) }
     ensures past_limit { result ≡ Status.InputTooLong → I.tells source.old
         → I.left source.new ≡ drop (input_limit + 1) (I.left source.old) }
+    ensures cut { result ≡ Status.ReadFault → I.tells source.old
+        → length (I.left source.old) < input_limit + 1 + length (I.left source.new) }
     ensures unread { result ≡ Status.Usage → source.new ≡ source.old }
     ensures unwritten { result ≢ Status.Done → result ≢ Status.WriteFault → out.new ≡ out.old }
     ensures prefix { (c : Command) → Names words.now c → result ≡ Status.WriteFault
@@ -114,6 +116,8 @@ fn attempt<S: Suite, I: Source, O: Sink>(
     ensures input { I.tells source.old → TakesInput (I.left source.old) (I.left source.new) }
     ensures past_limit { result ≡ Status.InputTooLong → I.tells source.old
         → I.left source.new ≡ drop (input_limit + 1) (I.left source.old) }
+    ensures cut { result ≡ Status.ReadFault → I.tells source.old
+        → length (I.left source.old) < input_limit + 1 + length (I.left source.new) }
     ensures refusal { (c : Command) → Names words.now c → (e : ConvertError) → result ≡ Status.Refused e → CanRefuse c e }
     ensures known { result ≢ Status.Done → result ≢ Status.WriteFault → result ≢ Status.Usage
         → CanCome result (Rose (I.faults source.old) (I.faults source.new)) }
@@ -149,6 +153,8 @@ fn take_text<S: Suite, I: Source>(
     ensures input { I.tells source.old → TakesInput (I.left source.old) (I.left source.new) }
     ensures past_limit { I.tells source.old → IfErr result (λ status. status ≡ Status.InputTooLong
         → I.left source.new ≡ drop (input_limit + 1) (I.left source.old)) }
+    ensures cut { I.tells source.old → IfErr result (λ status. status ≡ Status.ReadFault
+        → length (I.left source.old) < input_limit + 1 + length (I.left source.new)) }
     ensures refusal { IfErr result (λ status. (e : ConvertError) → status ≡ Status.Refused e → CanRefuse command.now e) }
     ensures known { IfErr result (λ status. CanCome status (Rose (I.faults source.old) (I.faults source.new))) }
     ensures refused { I.tells source.old → IfErr result (λ status. Explains status (outcome command.now (I.left source.old))) }

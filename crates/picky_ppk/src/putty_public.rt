@@ -1,6 +1,6 @@
 //! A public key as PuTTYgen saves it.
 
-ghost use Rattle.std.specs.Prelude.{◌≡◌, ◌^◌, ◌<◌, ◌⊎◌, [], length, Ok, IfOk, OnOk, IfNone, IfSome, string_bytes};
+ghost use Rattle.std.specs.Prelude.{◌≡◌, ◌^◌, ◌<◌, ◌≤◌, ◌+◌, ◌/◌, ◌⊎◌, [], length, Ok, IfOk, OnOk, IfNone, IfSome, string_bytes};
 ghost use Rattle.picky_layout.specs.Numbers.{IsBytes};
 ghost use Rattle.picky_text.specs.Lines.{HasNo};
 ghost use Rattle.picky_wire.specs.Gives.{Gives};
@@ -279,7 +279,9 @@ fn putty_key(
 }
 
 /// Room for a text, so that it doesn't grow while it is written, but where its comment has much to quote.
-fn text_room(body_len: usize, comment_len: usize) -> usize {
+fn text_room(body_len: usize, comment_len: usize) -> usize
+    ensures { result ≤ body_len / 32 + body_len + comment_len + 128 }
+{
     (body_len / 32)
         .saturating_add(body_len)
         .saturating_add(comment_len)

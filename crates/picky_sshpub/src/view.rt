@@ -50,7 +50,7 @@ impl<'a> PublicView<'a> {
         key_at(blob, 0)
     }
 
-    /// A copy of the key. Each part is copied once.
+    /// A copy of the key.
     pub fn to_key(&self, alloc: Global) -> Result<SshBasePublicKey, NoMemory>
         requires { IsKey (key_seen self.now) }
         ensures { IfOk result (λ key. key ≡ key_seen self.now) }
@@ -69,7 +69,7 @@ impl<'a> PublicView<'a> {
                 })
             }
             PublicView::Ed { key } => {
-                let key = ed_key_of(key)?;
+                let key = ed_key_of(key);
                 Ok(SshBasePublicKey::Ed { key })
             }
             PublicView::SkEcdsaSha2NistP256 { point, application } => {
@@ -78,7 +78,7 @@ impl<'a> PublicView<'a> {
                 Ok(SshBasePublicKey::SkEcdsaSha2NistP256 { point, application })
             }
             PublicView::SkEd25519 { key, application } => {
-                let key = ed_key_of(key)?;
+                let key = ed_key_of(key);
                 let application = text_of(alloc, application)?;
                 Ok(SshBasePublicKey::SkEd25519 { key, application })
             }
@@ -255,12 +255,12 @@ fn text_of(alloc: Global, part: &Part<'_>) -> Result<Text, NoMemory>
     }
 }
 
-fn ed_key_of(part: &Part<'_>) -> Result<[u8; 32], NoMemory>
+fn ed_key_of(part: &Part<'_>) -> [u8; 32]
     requires { IsEdKey part.now.bytes.now }
-    ensures { IfOk result (λ key. key ≡ part.now.bytes.now) }
+    ensures { result ≡ part.now.bytes.now }
 {
     match <[u8; 32]>::try_from(part.bytes) {
-        Ok(key) => Ok(key),
-        Err(_) => Err(NoMemory),
+        Ok(key) => key,
+        Err(_) => unreachable!(),
     }
 }

@@ -6,7 +6,7 @@ use Rattle.std.specs.List.{list_any}
 abbrev pub count_one : ℕ → ℕ
 count_one n = min (n + 1) (2 ^ 64 - 1)
 
--- in a call one fault was counted, and no other
+-- in a call one fault was counted, and no other; or the count stands at its last value
 abbrev pub Rose : ℕ → ℕ → Type 0
 Rose before after = after ≡ count_one before
 

@@ -10,6 +10,7 @@ ghost use Rattle.picky_wire.specs.Count.{Rose};
 ghost use Rattle.picky_wire.specs.Flaws.{wire_error};
 ghost use Rattle.picky_wire.specs.Gives.{Gives};
 ghost use Rattle.picky_wire.specs.Puts.{Puts};
+ghost use Rattle.picky_wire.specs.Unread.{Unread};
 ghost use Rattle.picky_wire.specs.Takes.{Takes, TakesString, HasCause, causes_of};
 
 use crate::element::{SshComplexTypeDecode, SshComplexTypeEncode, SshLayout};
@@ -33,6 +34,7 @@ pub fn decode_list<T: SshLayout, S: Source>(
         (causes_of T.Error.of_wire)
         (read_many (λ flaw. T.Error.of_wire (wire_error flaw)) T.layout)
         string.used result stream.old stream.new }
+    ensures unread { Unread S.tells S.left S.known (causes_of T.Error.of_wire) result stream.old stream.new }
     ensures taken { S.tells stream.old
         → TakesString (causes_of T.Error.of_wire) result (S.left stream.old) (S.left stream.new) }
     ensures cause { IfErr result (HasCause (causes_of T.Error.of_wire)

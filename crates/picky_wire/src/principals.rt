@@ -6,7 +6,8 @@ ghost use Rattle.picky_layout.specs.Many.{read_many};
 ghost use Rattle.picky_layout.specs.Wire.{string, string_of};
 ghost use Rattle.picky_wire.specs.Count.{Rose};
 ghost use Rattle.picky_wire.specs.Flaws.{wire_causes, wire_error};
-ghost use Rattle.picky_wire.specs.Takes.{Takes, TakesString, HasCause};
+ghost use Rattle.picky_wire.specs.Unread.{Unread};
+ghost use Rattle.picky_wire.specs.Takes.{Takes, TakesString, HasCause, causes_of};
 ghost use Rattle.picky_wire.specs.Principals.{principal, principal_spells, principal_own, principal_solid, IsText};
 ghost use Rattle.picky_wire.specs.Puts.{Puts};
 
@@ -42,6 +43,7 @@ pub fn encode_principals<S: Sink>(items: &[Text], stream: &mut S) -> Result<(), 
 pub fn decode_principals<S: Source>(alloc: Global, stream: &mut S) -> Result<List<Text>, WireError>
     ensures takes { Takes S.tells S.left S.known S.faults wire_causes (read_many wire_error principal)
         string.used result stream.old stream.new }
+    ensures unread { Unread S.tells S.left S.known wire_causes result stream.old stream.new }
     ensures taken { S.tells stream.old → TakesString wire_causes result (S.left stream.old) (S.left stream.new) }
     ensures cause { IfErr result (HasCause wire_causes (read_many wire_error principal)
         (Rose (S.faults stream.old) (S.faults stream.new))) }
@@ -79,7 +81,15 @@ impl SshComplexTypeDecode for Text {
     ghost own = { principal_own };
 
     #[tactic(auto, unfolding(crate::specs::Principals::principal))]
-    fn decode<S: Source>(alloc: Global, stream: &mut S) -> Result<Text, WireError> {
+    fn decode<S: Source>(alloc: Global, stream: &mut S) -> Result<Text, WireError>
+        ensures unread { Unread S.tells S.left S.known wire_causes result stream.old stream.new }
+
+        // What every element promises.
+        ensures takes { Takes S.tells S.left S.known S.faults (causes_of (λ e. e)) principal.read principal.used
+            result stream.old stream.new }
+        ensures cause { IfErr result (HasCause (causes_of (λ e. e)) principal.read
+            (Rose (S.faults stream.old) (S.faults stream.new))) }
+    {
         match stream.read_ssh_string(alloc) {
             Ok(text) => Ok(text),
             Err(e) => Err(e),

@@ -1,7 +1,9 @@
 //! A moment, as certificates have it.
 
-ghost use Rattle.std.specs.Prelude.{◌≡◌, ◌^◌, ◌<◌, None, IfOk, IsOk, refl};
+ghost use Rattle.std.specs.Prelude.{◌≡◌, ◌≢◌, ◌^◌, ◌<◌, None, IfOk, IfErr, IsOk, refl};
 ghost use Rattle.std.specs.Int.{w64, to_be_bytes};
+ghost use Rattle.picky_wire.specs.Count.{Rose};
+ghost use Rattle.picky_wire.specs.Takes.{Takes, HasCause, causes_of};
 ghost use Rattle.picky_wire.specs.Moment.{timestamp, timestamp_spells, timestamp_own, timestamp_solid};
 
 use crate::copy::TryClone;
@@ -74,7 +76,16 @@ impl SshComplexTypeDecode for Timestamp {
     ghost own = { timestamp_own };
 
     #[tactic(auto, unfolding(crate::specs::Moment::timestamp))]
-    fn decode<S: Source>(_alloc: Global, stream: &mut S) -> Result<Timestamp, WireError> {
+    fn decode<S: Source>(_alloc: Global, stream: &mut S) -> Result<Timestamp, WireError>
+        // It takes no memory.
+        ensures no_want { IfErr result (λ e. e ≢ WireError.NoMemory) }
+
+        // What every element promises.
+        ensures takes { Takes S.tells S.left S.known S.faults (causes_of (λ e. e)) timestamp.read timestamp.used
+            result stream.old stream.new }
+        ensures cause { IfErr result (HasCause (causes_of (λ e. e)) timestamp.read
+            (Rose (S.faults stream.old) (S.faults stream.new))) }
+    {
         match read_uint64(stream) {
             Ok(secs) => Ok(Timestamp(secs)),
             Err(e) => Err(e),
