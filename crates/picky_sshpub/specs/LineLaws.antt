@@ -28,7 +28,7 @@ use Rattle.picky_sshpub.specs.Blob.{blob, blob_of, fields_spelled}
 use Rattle.picky_sshpub.specs.BlobRefusal.{blob_error, read_blob}
 use Rattle.picky_sshpub.specs.BlobLaws.{blob_spells}
 use Rattle.picky_sshpub.specs.Line.{IsPublicLine, line_of, line_name, line_body}
-use Rattle.picky_sshpub.specs.LineRefusal.{blob_key, body_key, is_key_type, is_short, line_meaning}
+use Rattle.picky_sshpub.specs.LineRefusal.{blob_key, body_key, is_key_type, is_short, line_meaning, words_meaning}
 use Rattle.picky_sshpub.specs.LineRefusal.{is_short_text, comment_text}
 use Rattle.picky_sshpub.specs.ByteLaws.{bytes_joined, string_bytes_each, mpint_bytes_each, no_bytes, word_bytes, after_bytes, name_is_word, name_bytes, identifier_bytes}
 
@@ -125,7 +125,7 @@ named_of word kind is = ap (λ w. is_some (find_entry key_types w)) is ∙ ap is
 
 -- A line means what it says.
 pub line_meaning_of : (text : List ℕ) (key : SshPublicKey) → IsPublicLine text key → line_meaning text ≡ Ok key
-unfolding line_meaning
+unfolding line_meaning words_meaning
 line_meaning_of text key line =
     let named = named_of (first_word text) line.kind line.name in
     let body = body_key_of (body_word text) line.blob_bytes line.rest key.inner_key line.are_bytes line.body line.fits in
@@ -137,7 +137,7 @@ line_meaning_of text key line =
 -- It says what it means.
 pub line_meaning_says : (text : List ℕ) (key : SshPublicKey) → IsBytes text → line_meaning text ≡ Ok key
     → IsPublicLine text key
-unfolding line_meaning
+unfolding line_meaning words_meaning
 line_meaning_says text key small means =
     let named = chosen (is_key_type (first_word text)) _ errors.UnknownKeyType key means in
     let body_fits = is_short (body_word text) in

@@ -11,7 +11,7 @@ use Rattle.picky_sshpub.specs.declared.error.SshPublicKeyError.TheVariants as er
 use Rattle.picky_sshpub.specs.FromWire.{public_key_error}
 use Rattle.picky_sshpub.specs.BlobRefusal.{read_blob}
 use Rattle.picky_sshpub.specs.Element.{blob_own}
-use Rattle.picky_sshpub.specs.LineRefusal.{blob_key, body_key, comment_text, is_key_type, is_short, is_short_text, line_meaning}
+use Rattle.picky_sshpub.specs.LineRefusal.{blob_key, body_key, comment_text, is_key_type, is_short, is_short_text, line_meaning, words_meaning}
 use Rattle.picky_sshpub.specs.SourceLine.{read_line, source_meaning}
 
 -- the error is the bytes' own
@@ -57,7 +57,7 @@ body_key_own body =
     (own_or (decoded body) errors.Base64DecodeError (λ is. cc is, λ is. cc is)) blob_key_own
 
 pub line_own : (line : List ℕ) → RefusesOwn (line_meaning line)
-unfolding line_meaning
+unfolding line_meaning words_meaning
 line_own line =
     own_if (is_key_type (first_word line)) _ errors.UnknownKeyType
     (own_if (is_short (body_word line) && is_short_text (comment_text line)) _ errors.TooLong

@@ -36,20 +36,24 @@ abbrev pub is_short_text : Option (List ℕ) → Bool
 is_short_text None = true
 is_short_text (Some text) = is_short text
 
+-- what a name, a body and a comment mean, which is none where it isn't UTF-8; or the first reason why they mean nothing
+unfoldable pub words_meaning : (name body : List ℕ) → Option (List ℕ) → Result SshPublicKey SshPublicKeyError
+words_meaning name body comment =
+    if is_key_type name
+    then if is_short body && is_short_text comment
+    then and_then (body_key body) (λ key.
+    and_then (ok_or comment errors.InvalidUtf8) (λ said.
+    Ok (record { inner_key = key; comment = said })))
+    else Err errors.TooLong
+    else Err errors.UnknownKeyType
+
 -- the comment, where it is UTF-8
 abbrev pub comment_text : List ℕ → Option (List ℕ)
 comment_text line = rest_text (after_body line)
 
--- what a line means, or the first reason why it means nothing; its bytes need not be UTF-8
+-- what a line means; its bytes need not be UTF-8
 unfoldable pub line_meaning : List ℕ → Result SshPublicKey SshPublicKeyError
-line_meaning line =
-    if is_key_type (first_word line)
-    then if is_short (body_word line) && is_short_text (comment_text line)
-    then and_then (body_key (body_word line)) (λ key.
-    and_then (ok_or (comment_text line) errors.InvalidUtf8) (λ comment.
-    Ok (record { inner_key = key; comment = comment })))
-    else Err errors.TooLong
-    else Err errors.UnknownKeyType
+line_meaning line = words_meaning (first_word line) (body_word line) (comment_text line)
 
 -- the blob of a key, where a length of the wire can say its length
 unfoldable pub blob_bytes : SshBasePublicKey → Result (List ℕ) SshPublicKeyError

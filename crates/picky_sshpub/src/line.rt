@@ -7,15 +7,15 @@ ghost use Rattle.picky_wire.specs.Puts.{Puts};
 ghost use Rattle.picky_wire.specs.declared.error.IoKind.TheVariants as io_kinds;
 ghost use Rattle.picky_sshpub.specs.Blob.{blob_of};
 ghost use Rattle.picky_sshpub.specs.Line.{line_of};
-ghost use Rattle.picky_sshpub.specs.LineRefusal.{body_key, is_key_type, is_short_text, line_meaning};
-ghost use Rattle.picky_sshpub.specs.LineRefusal.{line_text};
+ghost use Rattle.picky_sshpub.specs.LineRefusal.{body_key, is_key_type, is_short_text};
+ghost use Rattle.picky_sshpub.specs.LineRefusal.{line_meaning, line_text, words_meaning};
 
 use crate::blob_bytes::bytes_of;
 use crate::error::SshPublicKeyError;
 use crate::key::{SshBasePublicKey, SshPublicKey};
 use base64::engine::general_purpose::STANDARD;
 use picky_keys::KeyKind;
-use picky_text::{Base64Error, after_word, decode, first_word, rest_of_line};
+use picky_text::{Base64Error, decode, rest_of_line, rest_of_text, split_word};
 use picky_wire::{NoMemory, Sink, Text, write_all};
 use std::alloc::{AllocError, Global};
 use std::str;
@@ -28,10 +28,14 @@ impl SshPublicKey {
     ///
     /// `name SP base64 [SP comment]`, and what follows the line is ignored. The blob decides the kind.
     /// Refuses, in order: `UnknownKeyType`, `TooLong`, `Base64DecodeError`, the blob's.
+    #[tactic(auto, unfolding(crate::specs::LineRefusal::line_meaning), using(picky_text::specs::WordLaws::text_rests))]
     pub fn from_str(alloc: Global, text: &str) -> Result<SshPublicKey, SshPublicKeyError>
         ensures { Gives SshPublicKeyError.NoMemory (λ key. key) result (line_meaning text.now) }
     {
-        key_of_line(alloc, text.as_bytes())
+        let (name, after_name) = split_word(text.as_bytes());
+        let (body, after_body) = split_word(after_name);
+        let comment = rest_of_text(text, text.len() - after_body.len());
+        key_of_words(alloc, name, body, Some(comment))
     }
 
     /// The line, with CR LF. Refuses, in order: `TooLong`, where it has 2^32 bytes or more.
@@ -77,12 +81,26 @@ pub fn key_of_line(alloc: Global, line: &[u8]) -> Result<SshPublicKey, SshPublic
     ensures gives { Gives SshPublicKeyError.NoMemory (λ key. key) result (line_meaning line.now) }
     ensures no_fault { IfErr result (λ e. e ≢ SshPublicKeyError.IoError io_kinds.ReadFault) }
 {
-    if !names_key_type(first_word(line)) {
+    let (name, after_name) = split_word(line);
+    let (body, after_body) = split_word(after_name);
+    key_of_words(alloc, name, body, rest_of_line(after_body))
+}
+
+/// What a name, a body and a comment mean, which is none where it isn't UTF-8.
+#[tactic(auto, unfolding(crate::specs::LineRefusal::words_meaning))]
+fn key_of_words(
+    alloc: Global,
+    name: &[u8],
+    body: &[u8],
+    comment: Option<&str>,
+) -> Result<SshPublicKey, SshPublicKeyError>
+    ensures gives { Gives SshPublicKeyError.NoMemory (λ key. key) result
+        (words_meaning name.now body.now (option_copied comment.entry)) }
+    ensures no_fault { IfErr result (λ e. e ≢ SshPublicKeyError.IoError io_kinds.ReadFault) }
+{
+    if !names_key_type(name) {
         return Err(SshPublicKeyError::UnknownKeyType);
     }
-    let after = after_word(line);
-    let body = first_word(after);
-    let comment = rest_of_line(after_word(after));
     if body.len() >= TOO_MANY || is_too_long(comment) {
         return Err(SshPublicKeyError::TooLong);
     }

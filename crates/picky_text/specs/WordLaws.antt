@@ -1,15 +1,16 @@
 -- The laws of a key line's words.
-use Rattle.std.proofs.Common.{◌≡◌, ◌≢◌, ℕ, ◌<◌, ◌+◌, ◌==◌, ◌&&◌, Bool, true, false, not, List, []}
+use Rattle.std.proofs.Common.{◌≡◌, ◌≢◌, ℕ, ◌<◌, ◌+◌, ◌-◌, ◌==◌, ◌&&◌, Bool, true, false, not, List, []}
 use Rattle.std.proofs.Common.{◌∷◌, ◌++◌, length, slice_index, refl, sym, ◌∙◌, ap, arith, inl, inr}
-use Rattle.std.proofs.Common.{subst, ◌≤◌, Some, None}
+use Rattle.std.proofs.Common.{subst, ◌≤◌, Some, None, drop}
 use Rattle.std.proofs.lemmas.Bool.{cases_Bool, cases_lt, and_parts, and_from, eqb-true, eq-eqb}
 use Rattle.std.proofs.lemmas.Bool.Decides.{nat_tests}
 use Rattle.std.proofs.lemmas.List.{append_assoc, get_or_past}
-use Rattle.std.proofs.lemmas.List.{length-append, length-drop, length-take}
+use Rattle.std.proofs.lemmas.List.{length-append, length-drop, length-take, drop-drop}
+use Rattle.std.proofs.Math.Seq.{drop-length}
 use Rattle.std.proofs.lemmas.List.Sums.{prefix_len-le-length, passes_at_first}
 use Rattle.std.proofs.lemmas.Str.{encodes-append, encodes-chars, scalars-chars, chars-encodes}
 use Rattle.std.proofs.lemmas.Str.{IsUtf8-nil, IsUtf8-take, IsUtf8-drop, IsCharBoundary-before_ascii}
-use Rattle.std.proofs.lemmas.Str.{IsCharBoundary-after_ascii, IsCharBoundary-end}
+use Rattle.std.proofs.lemmas.Str.{IsCharBoundary-after_ascii, IsCharBoundary-end, IsCharBoundary-from_drop}
 use Rattle.std.proofs.lemmas.Str.{is_utf8-from_IsUtf8, IsUtf8-from_is_utf8}
 use Rattle.std.specs.Char.{is_whitespace}
 use Rattle.std.specs.List.{AllByRecursion, position_or_len}
@@ -148,6 +149,13 @@ unfolding first_word
 first_word_is_text text utf8 = IsUtf8-take text _ utf8
     (boundary_of_first ends_word text ends_word_ascii)
 
+-- a space stands within its text
+space_within : (text : List ℕ) (n : ℕ) → (slice_index text n == 32) ≡ true → n < length text
+space_within text n space = elim (cases_lt n (length text)) [
+  | inl lt ↦ lt
+  | inr past ↦ absurd (omega (arith, eqb-true _ _ space, get_or_past text n 0 past))
+]
+
 -- so is what follows it
 pub after_word_is_text : (text : List ℕ) → IsUtf8 text → IsUtf8 (after_word text)
 unfolding after_word
@@ -155,15 +163,9 @@ after_word_is_text text utf8 =
     let n : ℕ = position_or_len ends_word text in
     elim (cases_Bool (slice_index text n == 32)) [
       | inl space ↦
-          let is : slice_index text n ≡ 32 = eqb-true _ _ space in
-          let within : n < length text = elim (cases_lt n (length text)) [
-            | inl lt ↦ lt
-            | inr past ↦
-                let zero : slice_index text n ≡ 0 = get_or_past text n 0 past in
-                absurd (omega arith)
-          ] in
+          let within = space_within text n space in
           rw space (IsUtf8-drop text (n + 1) utf8 (IsCharBoundary-after_ascii text n utf8 within
-          (omega arith)))
+          (omega (arith, eqb-true _ _ space))))
       | inr other ↦ rw other IsUtf8-nil
     ]
 
@@ -237,6 +239,10 @@ pub rest_is_trimmed : (text : List ℕ) → IsUtf8 (line_in_front text)
 unfolding rest_of_line
 rest_is_trimmed text utf8 = trim_end-trim_end _ utf8
 
+-- a text may be cut where its line ends
+pub line_ends_at_boundary : (text : List ℕ) → IsCharBoundary text (position_or_len ends_line text)
+line_ends_at_boundary text = boundary_of_first ends_line text ends_line_ascii
+
 -- ---- parts are no longer than the whole
 
 pub word_len : (text : List ℕ) → length (first_word text) ≤ length text
@@ -249,6 +255,46 @@ after_len text = elim (cases_Bool (slice_index text (position_or_len ends_word t
   | inl space ↦ rw space (omega (arith, length-drop (position_or_len ends_word text + 1) text))
   | inr other ↦ rw other (omega arith)
 ]
+
+-- what follows a word is the text's end
+pub after_word_is_end : (text : List ℕ) → drop (length text - length (after_word text)) text ≡ after_word text
+unfolding after_word
+after_word_is_end text =
+    let n : ℕ = position_or_len ends_word text in
+    elim (cases_Bool (slice_index text n == 32)) [
+      | inl space ↦
+          let within = space_within text n space in
+          let from : length text - length (drop (n + 1) text) ≡ n + 1 =
+          omega (arith, length-drop (n + 1) text) in
+          rw space (ap (λ i. drop i text) from)
+      | inr other ↦
+          let all : length text - 0 ≡ length text = omega arith in
+          rw other (ap (λ i. drop i text) all ∙ drop-length text)
+    ]
+
+-- and so is what follows the second: a text may be cut there
+pub after_body_is_end : (text : List ℕ) → drop (length text - length (after_body text)) text ≡ after_body text
+after_body_is_end text =
+    let rest : List ℕ = after_word text in
+    let n : ℕ = length text - length rest in
+    let m : ℕ = length rest - length (after_word rest) in
+    let whole : drop n text ≡ rest = after_word_is_end text in
+    let from : length text - length (after_word rest) ≡ n + m = omega (arith, after_len text, after_len rest) in
+    ap (λ i. drop i text) from ∙ sym (drop-drop m n text) ∙ ap (drop m) whole ∙ after_word_is_end rest
+
+pub body_ends_at_boundary : (text : List ℕ) → IsUtf8 text
+    → IsCharBoundary text (length text - length (after_body text))
+body_ends_at_boundary text utf8 =
+    IsCharBoundary-from_drop text _ (omega arith) (subst IsUtf8 (sym (after_body_is_end text))
+    (after_word_is_text _ (after_word_is_text text utf8)))
+
+pub rest_of_end : (text : List ℕ) → IsUtf8 text
+    → rest_text (after_body text) ≡ Some (rest_of_line (drop (length text - length (after_body text)) text))
+rest_of_end text utf8 =
+    rw (after_body_is_end text) (rest_text_is (after_body text) (comment_is_text text utf8))
+
+-- so the comment of a text is taken without a look at its bytes
+pub ruleset text_rests = (after_len, body_ends_at_boundary, rest_of_end)
 
 pub comment_len : (text : List ℕ) → IsUtf8 text → length (comment_of text) ≤ length text
 unfolding rest_of_line

@@ -12,4 +12,4 @@ pub use base64_text::{Base64Error, decode, encode};
 pub use lines::{LineEnd, LineReader};
 pub use quote::{push_quoted, unquoted};
 pub use rows::push_rows;
-pub use words::{after_word, first_word, rest_of_line};
+pub use words::{rest_of_line, rest_of_text, split_word};

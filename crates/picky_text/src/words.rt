@@ -1,31 +1,24 @@
 //! The words of a public key line, as sshd(8) lays it out. The line's bytes need not be UTF-8.
 
-ghost use Rattle.std.specs.Prelude.{◌≡◌, ◌≤◌, length, Some, None, IfNone, IfSome};
+ghost use Rattle.std.specs.Prelude.{◌≡◌, ◌≤◌, length, drop, Some, None, IfNone, IfSome};
 ghost use Rattle.std.specs.List.{position_or_len};
+ghost use Rattle.std.specs.Str.{IsCharBoundary};
 ghost use Rattle.picky_text.specs.Words.{ends_word, ends_line, first_word as word_of};
-ghost use Rattle.picky_text.specs.Words.{after_word as after_of, rest_text};
+ghost use Rattle.picky_text.specs.Words.{after_word as after_of, rest_of_line as rest_of, rest_text};
 
 use memchr::{memchr2, memchr3};
 use std::str;
 
-/// The longest front without a space, CR and LF.
-#[tactic(auto, unfolding(crate::specs::Words::first_word))]
-pub fn first_word(bytes: &[u8]) -> &[u8]
-    ensures { result.now ≡ word_of bytes.now }
+/// The longest front without a space, CR and LF; and what follows the space that ends it, nothing where none does.
+#[tactic(auto, unfolding(crate::specs::Words::first_word, crate::specs::Words::after_word))]
+pub fn split_word(bytes: &[u8]) -> (&[u8], &[u8])
+    ensures word { result.0.now ≡ word_of bytes.now }
+    ensures after { result.1.now ≡ after_of bytes.now }
 {
-    let (word, _) = bytes.split_at(word_end(bytes));
-    word
-}
-
-/// What follows the space that ends the first word, and nothing where no space ends it.
-#[tactic(auto, unfolding(crate::specs::Words::after_word))]
-pub fn after_word(bytes: &[u8]) -> &[u8]
-    ensures { result.now ≡ after_of bytes.now }
-{
-    let (_, rest) = bytes.split_at(word_end(bytes));
+    let (word, rest) = bytes.split_at(word_end(bytes));
     match rest.split_first() {
-        Some((b' ', after)) => after,
-        Some(_) | None => &[],
+        Some((b' ', after)) => (word, after),
+        Some(_) | None => (word, &[]),
     }
 }
 
@@ -40,6 +33,17 @@ pub fn rest_of_line(bytes: &[u8]) -> Option<&str>
         Ok(line) => Some(line.trim_end()),
         Err(_) => None,
     }
+}
+
+/// The same of a text from a place on, whose bytes need not be looked at again.
+#[tactic(auto, unfolding(crate::specs::Words::rest_of_line), using(crate::specs::WordLaws::line_ends_at_boundary))]
+pub fn rest_of_text(text: &str, from: usize) -> &str
+    requires { IsCharBoundary text.now from }
+    ensures { result.now ≡ rest_of (drop from text.now) }
+{
+    let (_, rest) = text.split_at(from);
+    let (line, _) = rest.split_at(line_end(rest.as_bytes()));
+    line.trim_end()
 }
 
 #[tactic(auto, using(crate::proofs::SearchLemmas::first_or_len))]

@@ -1,16 +1,18 @@
 //! The words of a key line, PuTTY's quoting, and lines.
 
-use picky_text::{LineReader, after_word, first_word, push_quoted, rest_of_line, unquoted};
+use picky_text::{LineReader, push_quoted, rest_of_line, rest_of_text, split_word, unquoted};
 use std::test::Fail;
 
 // 'ssh-ed25519 AAAAC3Nz my key \t\r\n'.split(' ', 2) of Python, the last part by its rstrip
 #[test]
 fn reads_the_words_of_a_line(rt: HostRuntime) {
-    let line = b"ssh-ed25519 AAAAC3Nz my key \t\r\nssh-rsa";
-    assert_eq!(rt; first_word(line), b"ssh-ed25519".as_slice());
-    let body = after_word(line);
-    assert_eq!(rt; first_word(body), b"AAAAC3Nz".as_slice());
-    assert_eq!(rt; rest_of_line(after_word(body)), Some("my key"));
+    let text = "ssh-ed25519 AAAAC3Nz my key \t\r\nssh-rsa";
+    let (name, after_name) = split_word(text.as_bytes());
+    assert_eq!(rt; name, b"ssh-ed25519".as_slice());
+    let (body, after_body) = split_word(after_name);
+    assert_eq!(rt; body, b"AAAAC3Nz".as_slice());
+    assert_eq!(rt; rest_of_line(after_body), Some("my key"));
+    assert_eq!(rt; rest_of_text(text, 21), "my key");
 }
 
 // ssh-keygen -t ed25519 -C 'a "b" c:\d', then the comment that puttygen -p shows of the key
