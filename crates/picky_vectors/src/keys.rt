@@ -15,8 +15,8 @@ pub struct KeyRow {
     pub sha256: &'static str,
 }
 
-// line: ssh-keygen -q -t ecdsa -b 256 -N '' -C ecdsa-256@example.com -f key; cat key.pub; and so on. The
-// two of devices are made of such keys by hand, as OpenSSH's PROTOCOL.u2f lays them out.
+// line: ssh-keygen -q -t ecdsa -b 256 -N '' -C ecdsa-256@example.com -f key; cat key.pub; and so on.
+// Those of devices are made of such keys by hand, as OpenSSH's PROTOCOL.u2f lays them out.
 // putty: puttygen key.pub -O public, of release 0.78, which ends lines by LF where there is no Windows;
 // | sed 's/$/\r/'
 // md5: ssh-keygen -l -E md5 -f key.pub | cut -d' ' -f2, without MD5 and colons; and so on.

@@ -43,6 +43,8 @@ mod putty_comments;
 #[cfg(test)]
 mod putty_public;
 #[cfg(test)]
+mod putty_refusals;
+#[cfg(test)]
 mod refused_inputs;
 #[cfg(test)]
 mod refused_lines;

@@ -67,9 +67,10 @@ fn elements_are_read_back(rt: HostRuntime) -> Result<(), Fail> {
 
 /// A list of the line's key twice.
 fn twice(alloc: Global, line: &str) -> Result<List<SshBasePublicKey>, Fail> {
+    let key = key_of(alloc, line)?;
     let mut keys = List::new(alloc);
-    keys.push(key_of(alloc, line)?)?;
-    keys.push(key_of(alloc, line)?)?;
+    keys.push(key.try_clone(alloc)?)?;
+    keys.push(key)?;
     Ok(keys)
 }
 
