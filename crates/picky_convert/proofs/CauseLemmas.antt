@@ -9,7 +9,7 @@ use Rattle.picky_layout.specs.Outcome.{and_then, map_err}
 use Rattle.picky_sshpub.specs.declared.error.SshPublicKeyError.{SshPublicKeyError}
 use Rattle.picky_sshpub.specs.declared.error.SshPublicKeyError.TheVariants as public
 use Rattle.picky_sshpub.specs.LineRefusal.{line_meaning}
-use Rattle.picky_sshpub.specs.LineOwn.{line_own}
+use Rattle.picky_sshpub.specs.carried.SourceLine.{line_own}
 use Rattle.picky_ppk.specs.PuttyRefusal.{no_hardware_keys}
 use Rattle.picky_convert.specs.declared.command.Command.{Command}
 use Rattle.picky_convert.specs.declared.command.Command.TheVariants as commands
@@ -25,7 +25,8 @@ use Rattle.picky_convert.specs.Reading.{reading}
 use Rattle.picky_convert.specs.Convert.{has_kind, carries_comment, has_room, text_for, written, conversion}
 use Rattle.picky_convert.specs.Command.{answer}
 use Rattle.picky_convert.specs.Memory.{WantsMemory}
-use Rattle.picky_convert.specs.Run.{input_limit, outcome, Explains, CanCome, CanRefuse}
+use Rattle.picky_convert.specs.Run.{input_limit, outcome, Explains, CanRefuse}
+use Rattle.picky_convert.specs.inner.Causes.{CanCome}
 use Rattle.picky_convert.proofs.TestLemmas.{refuses}
 
 -- ---- no refusal is want of memory

@@ -1,7 +1,8 @@
 -- Lemmas on the command of some words, and on what it writes.
 use Rattle.std.proofs.Common.{◌≡◌, ◌≤◌, ℕ, List, [], ◌∷◌, length, get_or, Ok, refl, sym, ap, arith}
 use Rattle.std.specs.Str.{IsUtf8}
-use Rattle.picky_layout.specs.Outcome.{and_then_ok, map_err, map_err_ok}
+use Rattle.picky_layout.specs.carried.Outcome.{and_then_ok, map_err_ok}
+use Rattle.picky_layout.specs.Outcome.{map_err}
 use Rattle.picky_convert.specs.declared.command.Command.{Command}
 use Rattle.picky_convert.specs.declared.command.Command.TheVariants as commands
 use Rattle.picky_convert.specs.declared.error.ConvertError.TheVariants as errors

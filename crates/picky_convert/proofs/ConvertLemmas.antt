@@ -5,19 +5,22 @@ use Rattle.std.proofs.lemmas.List.{append-nil}
 use Rattle.std.proofs.lemmas.Slice.Eq.{bytes_eq-Decides}
 use Rattle.std.specs.List.{list_any}
 use Rattle.std.specs.Str.{IsUtf8, bytes_eq, trim_end}
-use Rattle.picky_layout.specs.Outcome.{and_then_ok, map_err, map_err_ok}
-use Rattle.picky_layout.specs.Numbers.{IsBytes, bytes_in_front}
+use Rattle.picky_layout.specs.carried.Outcome.{and_then_ok, map_err_ok}
+use Rattle.picky_layout.specs.Outcome.{map_err}
+use Rattle.picky_layout.specs.Numbers.{IsBytes}
+use Rattle.picky_layout.proofs.Numbers.{bytes_in_front}
 use Rattle.picky_text.specs.Words.{ends_line}
 use Rattle.picky_sshpub.specs.Key.{IsKey}
 use Rattle.picky_sshpub.specs.Blob.{blob_of}
-use Rattle.picky_sshpub.specs.KeyLaws.{spelled_is_key}
+use Rattle.picky_sshpub.proofs.KeyLaws.{spelled_is_key}
 use Rattle.picky_sshpub.specs.Line.{IsPublicLine, line_of}
-use Rattle.picky_sshpub.specs.LineLaws.{IsKept, line_says}
-use Rattle.picky_sshpub.specs.CanonicalLaws.{text_is_kept}
+use Rattle.picky_sshpub.specs.Line.{IsKept}
+use Rattle.picky_sshpub.proofs.LineLaws.{line_says}
+use Rattle.picky_sshpub.proofs.CanonicalLaws.{text_is_kept}
 use Rattle.picky_sshpub.specs.LineRefusal.{is_short}
 use Rattle.picky_ppk.specs.PuttyRefusal.{is_hardware, no_hardware_keys}
-use Rattle.picky_sshpub.specs.ByteLaws.{no_by_test}
-use Rattle.picky_ppk.specs.PuttyLaws.{putty_public_spells, putty_public_only, putty_public_means}
+use Rattle.picky_sshpub.proofs.ByteLaws.{no_by_test}
+use Rattle.picky_ppk.proofs.PuttyLaws.{putty_public_spells, putty_public_only, putty_public_means}
 use Rattle.picky_wire.specs.Gives.{Gives}
 use Rattle.picky_convert.specs.declared.error.ConvertError.{ConvertError}
 use Rattle.picky_convert.specs.declared.error.ConvertError.TheVariants as errors

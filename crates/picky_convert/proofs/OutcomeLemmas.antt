@@ -9,7 +9,7 @@ use Rattle.picky_convert.specs.declared.command.Command.{Command}
 use Rattle.picky_convert.specs.Command.{answer}
 use Rattle.picky_convert.specs.declared.error.ConvertError.TheVariants as convert
 use Rattle.picky_convert.specs.declared.error.Status.{Status}
-use Rattle.picky_convert.specs.Memory.{refusal_status}
+use Rattle.picky_convert.specs.inner.Causes.{refusal_status}
 use Rattle.picky_convert.specs.Run.{input_limit, outcome}
 
 -- the bytes are a text that is converted

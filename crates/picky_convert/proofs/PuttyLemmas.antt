@@ -14,7 +14,8 @@ use Rattle.picky_convert.specs.declared.conversion.Target.TheVariants as targets
 use Rattle.picky_convert.specs.declared.error.ConvertError.{ConvertError}
 use Rattle.picky_convert.specs.declared.error.ConvertError.TheVariants as convert
 use Rattle.picky_convert.specs.Reading.{public_meaning}
-use Rattle.picky_convert.specs.Convert.{putty_refusal, written}
+use Rattle.picky_convert.specs.inner.Causes.{putty_refusal}
+use Rattle.picky_convert.specs.Convert.{written}
 use Rattle.picky_convert.proofs.TestLemmas.{passes, guarded}
 
 abbrev has_lf : SshPublicKey → Bool

@@ -1,10 +1,11 @@
 -- What a key text means: its order of refusals is Ok exactly where the reading relation holds.
 use Rattle.std.proofs.Common.{◌≡◌, ◌⊎◌, inl, inr, ℕ, List, Result, Ok, Err, IfOk, refl, sym, ap, ◌∙◌, subst}
 use Rattle.std.specs.Str.{IsUtf8}
-use Rattle.picky_layout.specs.Outcome.{and_then_ok, map_err, map_err_ok}
+use Rattle.picky_layout.specs.carried.Outcome.{and_then_ok, map_err_ok}
+use Rattle.picky_layout.specs.Outcome.{map_err}
 use Rattle.picky_sshpub.specs.declared.key.SshPublicKey.{SshPublicKey}
 use Rattle.picky_sshpub.specs.LineRefusal.{line_meaning}
-use Rattle.picky_sshpub.specs.LineLaws.{line_meaning_of, line_meaning_says}
+use Rattle.picky_sshpub.proofs.LineLaws.{line_meaning_of, line_meaning_says}
 use Rattle.picky_wire.specs.Gives.{Gives}
 use Rattle.picky_convert.specs.declared.error.ReadError.{ReadError}
 use Rattle.picky_convert.specs.declared.error.ReadError.TheVariants as errors

@@ -8,15 +8,16 @@ use Rattle.base64.specs.Rfc4648.{encode_symbols, padding_len}
 use Rattle.base64.proofs.RoundTrip.{length-encode_symbols}
 use Rattle.picky_layout.specs.Wire.{string_of}
 use Rattle.picky_layout.specs.Mpint.{mpint_of}
-use Rattle.picky_layout.specs.Numbers.{IsBytes, bytes_in_front}
-use Rattle.picky_layout.specs.Zeros.{length_with_zeros}
+use Rattle.picky_layout.specs.Numbers.{IsBytes}
+use Rattle.picky_layout.proofs.Numbers.{bytes_in_front}
+use Rattle.picky_layout.proofs.Zeros.{length_with_zeros}
 use Rattle.picky_text.specs.Base64.{base64_of}
 use Rattle.picky_text.specs.Lines.{text_of}
 use Rattle.picky_text.specs.declared.lines.LineEnd.TheVariants.{CrLf}
 use Rattle.picky_text.specs.Quote.{is_special, quote}
 use Rattle.picky_text.specs.Rows.{rows_within, rows_of}
 use Rattle.picky_text.specs.Words.{after_word, body_word}
-use Rattle.picky_text.specs.WordLaws.{word_len, after_len, comment_len}
+use Rattle.picky_text.proofs.WordLaws.{word_len, after_len, comment_len}
 use Rattle.picky_keys.specs.declared.curve.EcCurve.{EcCurve}
 use Rattle.picky_keys.specs.declared.curve.EcCurve.TheVariants.{NistP256, NistP384, NistP521}
 use Rattle.picky_keys.specs.declared.curve.EdAlgorithm.TheVariants.{Ed25519}
@@ -28,7 +29,8 @@ use Rattle.picky_sshpub.specs.declared.key.SshBasePublicKey.TheVariants as keys
 use Rattle.picky_sshpub.specs.declared.key.SshPublicKey.{SshPublicKey}
 use Rattle.picky_sshpub.specs.Key.{kind_of}
 use Rattle.picky_sshpub.specs.Blob.{fields_spelled, blob_of}
-use Rattle.picky_sshpub.specs.BlobExact.{NumberSpelled, AnyText, FieldsSpelled, blob_exact}
+use Rattle.picky_sshpub.specs.BlobSpelled.{NumberSpelled, AnyText, FieldsSpelled}
+use Rattle.picky_sshpub.proofs.BlobExact.{blob_exact}
 use Rattle.picky_sshpub.specs.Line.{IsPublicLine, line_of, line_name, line_body}
 use Rattle.picky_convert.proofs.SizeLemmas.{length-string_of, length_high, length_low, length_two, length_three, length-blob_of}
 use Rattle.picky_ppk.specs.PuttyPublic.{header, footer, comment_key, comment_line, putty_public}

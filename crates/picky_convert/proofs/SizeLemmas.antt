@@ -4,7 +4,8 @@ use Rattle.std.proofs.lemmas.List.{length-append}
 use Rattle.std.specs.List.{concat}
 use Rattle.std.specs.Int.{w32, to_be_bytes}
 use Rattle.picky_layout.specs.Wire.{string_of}
-use Rattle.picky_layout.specs.Mpint.{mpint_of, mpint_of_high, mpint_of_low}
+use Rattle.picky_layout.specs.Mpint.{mpint_of}
+use Rattle.picky_layout.proofs.Mpint.{mpint_of_high, mpint_of_low}
 use Rattle.picky_keys.specs.Names.{kind_name}
 use Rattle.picky_sshpub.specs.declared.key.SshBasePublicKey.{SshBasePublicKey}
 use Rattle.picky_sshpub.specs.Key.{kind_of}

@@ -5,7 +5,7 @@ use Rattle.std.specs.List.{AllByRecursion}
 use Rattle.std.specs.Str.{IsUtf8}
 use lib.Utf8.{encode, encodes, scalar, scalars, scalar_cases}
 use Rattle.picky_layout.specs.Numbers.{IsBytes}
-use Rattle.picky_text.specs.ListLaws.{all_append}
+use Rattle.picky_text.proofs.ListLaws.{all_append}
 
 abbrev Small : List ℕ → Type 0
 Small bytes = AllByRecursion (λ b. b < 256) bytes

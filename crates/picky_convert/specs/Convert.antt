@@ -1,5 +1,6 @@
 -- The conversion: what each target carries, what is written for it, and the order in which it refuses.
-use Rattle.std.specs.Prelude.{◌≡◌, ◌==◌, ◌&&◌, ◌<◌, ◌^◌, not, length, Bool, true, false, List, ℕ, Result, Ok, Err, if◌then◌else◌}
+use Rattle.std.specs.Prelude.{◌≡◌, ◌==◌, ◌&&◌, ◌<◌, ◌^◌, not, length, Bool, true, false, List, ℕ, Result, Ok}
+use Rattle.std.specs.Prelude.{Err, if◌then◌else◌}
 use Rattle.std.specs.List.{list_any}
 use Rattle.std.specs.Str.{bytes_eq, trim_end}
 use Rattle.picky_layout.specs.Outcome.{and_then, map_err}
@@ -8,8 +9,6 @@ use Rattle.picky_text.specs.Words.{ends_line}
 use Rattle.picky_sshpub.specs.Blob.{blob_of}
 use Rattle.picky_sshpub.specs.Line.{line_of}
 use Rattle.picky_sshpub.specs.LineRefusal.{is_short}
-use Rattle.picky_ppk.specs.declared.error.PuttyError.{PuttyError}
-use Rattle.picky_ppk.specs.declared.error.PuttyError.TheVariants as putty
 use Rattle.picky_ppk.specs.PuttyPublic.{SpellsPuttyPublic, IsPuttyPublic, putty_public}
 use Rattle.picky_ppk.specs.PuttyRefusal.{is_hardware, no_hardware_keys}
 use Rattle.picky_convert.specs.declared.error.ConvertError.{ConvertError}
@@ -91,12 +90,6 @@ written target meaning =
     else Err errors.TooLong
     else Err errors.CommentNotCarried
     else Err (errors.Putty no_hardware_keys)
-
--- the refusal of a key that PuTTY's format lacks or whose blob is too long; the comment is judged between
-abbrev pub putty_refusal : PuttyError → Bool → ConvertError
-putty_refusal putty.NoMemory has_lf = errors.NoMemory
-putty_refusal putty.TooLong has_lf = if has_lf then errors.CommentNotCarried else errors.TooLong
-putty_refusal e has_lf = errors.Putty e
 
 -- the text that is written for a key text, or the first reason why none is
 unfoldable pub conversion : Target → List ℕ → Result (List ℕ) ConvertError

@@ -5,3 +5,4 @@ pub mod Command
 pub mod Memory
 pub mod Report
 pub mod Run
+pub mod inner

@@ -5,16 +5,9 @@ use Rattle.picky_ppk.specs.declared.error.PuttyError.TheVariants as putty
 use Rattle.picky_convert.specs.declared.error.ReadError.TheVariants as input
 use Rattle.picky_convert.specs.declared.error.ConvertError.{ConvertError}
 use Rattle.picky_convert.specs.declared.error.ConvertError.TheVariants as convert
-use Rattle.picky_convert.specs.declared.error.Status.{Status}
-use Rattle.picky_convert.specs.declared.error.Status.TheVariants as statuses
 
 -- the error says at some depth that memory ran out
 abbrev pub WantsMemory : ConvertError → Type 0
 WantsMemory (convert.Input e) = (e ≡ input.NoMemory) ⊎ (e ≡ input.Public public.NoMemory)
 WantsMemory (convert.Putty e) = (e ≡ putty.NoMemory) ⊎ (e ≡ putty.SshPublicKey public.NoMemory)
 WantsMemory e = e ≡ convert.NoMemory
-
--- a refusal as the run's, where want of memory is the outer want
-abbrev pub refusal_status : ConvertError → Status
-refusal_status convert.NoMemory = statuses.NoMemory
-refusal_status e = statuses.Refused e

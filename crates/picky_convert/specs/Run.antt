@@ -1,5 +1,6 @@
 -- A run: what it writes for the bytes of its source, and how it ends.
-use Rattle.std.specs.Prelude.{◌≡◌, ◌<◌, ◌+◌, ◌++◌, ◌≤◌, List, ℕ, length, take, nat_lt, Result, Err, if◌then◌else◌}
+use Rattle.std.specs.Prelude.{◌≡◌, ◌<◌, ◌+◌, ◌++◌, ◌≤◌, List, ℕ, length, take, nat_lt, Result, Err}
+use Rattle.std.specs.Prelude.{if◌then◌else◌}
 use Rattle.std.specs.Str.{IsUtf8, is_utf8}
 use Rattle.picky_layout.specs.Outcome.{map_err}
 use Rattle.picky_wire.specs.Puts.{Puts}
@@ -10,7 +11,6 @@ use Rattle.picky_convert.specs.declared.error.Status.{Status}
 use Rattle.picky_convert.specs.declared.error.Status.TheVariants as statuses
 use Rattle.picky_convert.specs.declared.command.Command.{Command}
 use Rattle.picky_convert.specs.declared.meaning.Meaning.{Meaning}
-use Rattle.picky_convert.specs.Memory.{WantsMemory}
 use Rattle.picky_convert.specs.Reading.{Reads}
 use Rattle.picky_convert.specs.Command.{answer, IsAnswer, CanWrite}
 
@@ -83,14 +83,3 @@ Explains statuses.InputNotUtf8 for_input = for_input ≡ Err statuses.InputNotUt
 -- for some bytes the command is refused so
 abbrev pub CanRefuse : Command → ConvertError → Type 0
 CanRefuse command e = (input : List ℕ) × (outcome command input ≡ Err (statuses.Refused e))
-
--- the same, whether or not the bytes are told
-abbrev pub CanCome : Status → Type 0 → Type 0
-CanCome statuses.Done fault = ⊥
-CanCome statuses.Usage fault = ⊥
-CanCome statuses.WriteFault fault = ⊥
-CanCome statuses.ReadFault fault = fault
-CanCome statuses.NoMemory fault = Unit {0}
-CanCome (statuses.Refused e) fault = WantsMemory e → ⊥
-CanCome statuses.InputTooLong fault = Unit {0}
-CanCome statuses.InputNotUtf8 fault = Unit {0}

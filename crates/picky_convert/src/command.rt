@@ -3,7 +3,7 @@
 ghost use Rattle.std.specs.Prelude.{◌≡◌, ◌≤◌, length, string_bytes, MatchOption};
 ghost use Rattle.std.specs.Str.{IsUtf8};
 ghost use Rattle.picky_wire.specs.Gives.{Gives};
-ghost use Rattle.picky_convert.specs.Memory.{refusal_status};
+ghost use Rattle.picky_convert.specs.inner.Causes.{refusal_status};
 ghost use Rattle.picky_convert.specs.Command.{answer, command_of as command_named, command_of_word};
 ghost use Rattle.picky_convert.specs.Run.{input_limit, outcome};
 

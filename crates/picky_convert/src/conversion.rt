@@ -5,7 +5,8 @@ ghost use Rattle.std.specs.List.{list_any};
 ghost use Rattle.picky_text.specs.Words.{ends_line};
 ghost use Rattle.picky_wire.specs.Gives.{Gives};
 ghost use Rattle.picky_convert.specs.Reading.{public_key as public_key_of, public_meaning, Reads};
-ghost use Rattle.picky_convert.specs.Convert.{Carries, HasRoom, carries_comment, putty_refusal as putty_refusal_of, conversion, written, IsConversion};
+ghost use Rattle.picky_convert.specs.Convert.{Carries, HasRoom, carries_comment, conversion, written, IsConversion};
+ghost use Rattle.picky_convert.specs.inner.Causes.{putty_refusal as putty_refusal_of};
 
 use crate::error::{ConvertError, ReadError};
 use crate::meaning::{Key, Meaning, read_text};

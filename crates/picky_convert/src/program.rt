@@ -7,7 +7,8 @@ ghost use Rattle.picky_wire.specs.Takes.{Calm};
 ghost use Rattle.picky_convert.specs.Command.{Names};
 ghost use Rattle.picky_convert.specs.Memory.{WantsMemory};
 ghost use Rattle.picky_convert.specs.Report.{report as report_of};
-ghost use Rattle.picky_convert.specs.Run.{input_limit, outcome, CanCome, CanRefuse, Explains, IsValid, ReadsToEnd, Says, TakesInput, Writes, WritesPrefix};
+ghost use Rattle.picky_convert.specs.Run.{input_limit, outcome, CanRefuse, Explains, IsValid, ReadsToEnd, Says, TakesInput, Writes, WritesPrefix};
+ghost use Rattle.picky_convert.specs.inner.Causes.{CanCome};
 
 use crate::command::{Command, command_of, perform};
 use crate::error::{ConvertError, Status};

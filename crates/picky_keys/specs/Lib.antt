@@ -1,2 +1,4 @@
 pub mod Names
 pub mod PublicKey
+pub mod NameTables
+pub mod carried

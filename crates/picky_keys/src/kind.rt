@@ -17,7 +17,8 @@ pub enum KeyKind {
 }
 
 impl KeyKind {
-    ghost use Rattle.picky_keys.specs.Names.{kind_name, key_types};
+    ghost use Rattle.picky_keys.specs.Names.{kind_name};
+    ghost use Rattle.picky_keys.specs.NameTables.{key_types};
 
     /// The name of the key type.
     #[tactic(auto, unfolding(crate::specs::Names::kind_name))]
@@ -35,7 +36,7 @@ impl KeyKind {
     }
 
     /// The kind whose key type has this name, where one has.
-    #[tactic(auto, unfolding(crate::specs::Names::key_types))]
+    #[tactic(auto, unfolding(crate::specs::NameTables::key_types))]
     pub fn of_name(name: &str) -> Option<KeyKind>
         ensures { result ≡ find_entry key_types name.now }
     {

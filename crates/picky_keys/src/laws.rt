@@ -3,7 +3,8 @@
 ghost use Rattle.std.specs.Prelude.{◌≡◌, List, ℕ, Some};
 ghost use Rattle.picky_layout.specs.Table.{find_entry};
 ghost use Rattle.picky_wire.specs.Equality.{IsEquality};
-ghost use Rattle.picky_keys.specs.Names.{kind_name, key_types, curve_identifier, curves};
+ghost use Rattle.picky_keys.specs.Names.{kind_name, curve_identifier};
+ghost use Rattle.picky_keys.specs.NameTables.{key_types, curves};
 ghost use Rattle.picky_keys.specs.declared.kind.KeyKind.{KeyKind as Kind};
 ghost use Rattle.picky_keys.specs.declared.curve.EcCurve.{EcCurve as Curve};
 
@@ -12,14 +13,14 @@ use crate::kind::KeyKind;
 use crate::public_key::PublicKey;
 
 /// A name of a key type stands for its kind, and no other name does.
-#[tactic(auto, using(crate::specs::Names::both_ways))]
+#[tactic(auto, using(crate::proofs::Names::both_ways))]
 pub fn each_kind_has_one_name()
     ensures found { (kind : Kind) → find_entry key_types (kind_name kind) ≡ Some kind }
     ensures only { (name : List ℕ) (kind : Kind) → find_entry key_types name ≡ Some kind → kind_name kind ≡ name }
 {}
 
 /// A name of a curve stands for its curve, and no other name does.
-#[tactic(auto, using(crate::specs::Names::both_ways))]
+#[tactic(auto, using(crate::proofs::Names::both_ways))]
 pub fn each_curve_has_one_name()
     ensures found { (curve : Curve) → find_entry curves (curve_identifier curve) ≡ Some curve }
     ensures only { (name : List ℕ) (curve : Curve) → find_entry curves name ≡ Some curve → curve_identifier curve ≡ name }

@@ -14,8 +14,11 @@ use Rattle.std.proofs.lemmas.Bool.Decides.{nat_tests}
 use Rattle.std.proofs.lemmas.Fmt.{decimal_is_IsNumeral, decimal_digit, decimal_step}
 use Rattle.std.proofs.lemmas.List.{append_assoc, append-nil}
 use Rattle.picky_kv.specs.Field.{IsOfRow}
-use Rattle.picky_kv.specs.Numbers.{IsNumberText, is_numeral, number_below, number_below_numeral}
-use Rattle.picky_kv.specs.Numbers.{no_plus_first, number_field, numbers_below}
+use Rattle.picky_kv.specs.Numbers.{IsNumberText, is_numeral, number_below}
+use Rattle.picky_kv.specs.carried.Numbers.{number_below_numeral}
+use Rattle.picky_kv.specs.carried.Numbers.{no_plus_first}
+use Rattle.picky_kv.specs.NumberFields.{number_field}
+use Rattle.picky_kv.specs.Numbers.{numbers_below}
 
 -- ---- which texts are read
 

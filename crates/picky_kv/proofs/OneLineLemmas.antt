@@ -7,16 +7,17 @@ use Rattle.std.proofs.lemmas.Fmt.{decimal_is_IsNumeral}
 use Rattle.hex.specs.Hex.{encode_lower, hex_digit_value}
 use Rattle.hex.proofs.HexLemmas.{IsDigits-lower_digits}
 use Rattle.picky_layout.specs.Numbers.{IsBytes}
-use Rattle.picky_text.specs.Base64Laws.{base64_has_no}
+use Rattle.picky_text.proofs.Base64Laws.{base64_has_no}
 use Rattle.picky_text.specs.Lines.{HasNo}
 use Rattle.picky_text.specs.Rows.{rows_of}
-use Rattle.picky_text.specs.RowLaws.{rows_have_no}
-use Rattle.picky_kv.specs.Choices.{algorithm_field, encryption_field, flavour_field}
+use Rattle.picky_text.proofs.RowLaws.{rows_have_no}
+use Rattle.picky_kv.specs.ChoiceFields.{algorithm_field, encryption_field, flavour_field}
 use Rattle.picky_kv.specs.Choices.{algorithm_literal, encryption_literal, flavour_literal}
 use Rattle.picky_kv.specs.Literal.{is_plain}
-use Rattle.picky_kv.specs.Numbers.{u32_field, count_field}
+use Rattle.picky_kv.specs.NumberFields.{u32_field, count_field}
 use Rattle.picky_kv.specs.Parts.{HasNoLineEnd, AreOneLine}
-use Rattle.picky_kv.specs.Values.{base64_field, hex_field, padded_base64, AreHexPairs}
+use Rattle.picky_kv.specs.ValueFields.{base64_field, hex_field}
+use Rattle.picky_kv.specs.Values.{padded_base64, AreHexPairs}
 use Rattle.picky_kv.specs.Values.{IsLowerDigit}
 use Rattle.picky_kv.specs.declared.choices.PpkKeyAlgorithmValue.{PpkKeyAlgorithmValue}
 use Rattle.picky_kv.specs.declared.choices.PpkKeyAlgorithmValue.TheVariants as algorithm

@@ -6,10 +6,11 @@ use Rattle.std.proofs.Common.{◌∙◌, ap, arith, inl, inr}
 use Rattle.std.proofs.lemmas.Bool.{cases_Bool, and_parts, eqb-true}
 use Rattle.std.proofs.lemmas.List.{append_assoc}
 use Rattle.std.specs.Prelude.{unwrap_or}
-use Rattle.picky_layout.specs.Outcome.{and_then, same_pair}
+use Rattle.picky_layout.specs.Outcome.{and_then}
+use Rattle.picky_layout.specs.carried.Outcome.{same_pair}
 use Rattle.picky_kv.specs.Field.{Field, outcome}
 use Rattle.picky_kv.specs.Lines.{key_and_value, prefixed, first_joined, next_pair, next_block}
-use Rattle.picky_kv.specs.Numbers.{count_field}
+use Rattle.picky_kv.specs.NumberFields.{count_field}
 use Rattle.picky_kv.specs.Parts.{HasNoSeparator, AreParts, AreJoined, IsPair, IsBlock}
 use Rattle.picky_kv.specs.Parts.{PairsAreRead, BlocksAreRead}
 use Rattle.picky_kv.specs.Steps.{need, in_context, refusal_in}

@@ -11,16 +11,17 @@ use Rattle.std.specs.Fmt.{decimal}
 use Rattle.std.specs.Str.Parse.{AllDigits}
 use Rattle.std.specs.List.{AllByRecursion, concat}
 use Rattle.picky_text.specs.Lines.{HasNo, lines}
-use Rattle.picky_text.specs.LineLaws.{IsLine, AreLines, lines_are_read_first}
-use Rattle.picky_text.specs.ListLaws.{all_append}
+use Rattle.picky_text.specs.Lines.{IsLine, AreLines}
+use Rattle.picky_text.proofs.LineLaws.{lines_are_read_first}
+use Rattle.picky_text.proofs.ListLaws.{all_append}
 use Rattle.picky_text.specs.Rows.{rows_of}
-use Rattle.picky_text.specs.RowLaws.{rows_of_are_rows, rows_have_no}
+use Rattle.picky_text.proofs.RowLaws.{rows_of_are_rows, rows_have_no}
 use Rattle.picky_text.specs.declared.lines.LineEnd.{LineEnd}
 use Rattle.picky_text.specs.declared.lines.LineEnd.TheVariants.{Lf, CrLf}
 use Rattle.picky_kv.specs.Field.{Field, outcome}
 use Rattle.picky_kv.specs.Literal.{is_plain}
 use Rattle.picky_kv.specs.Lines.{key_and_value, first_joined, next_pair}
-use Rattle.picky_kv.specs.Numbers.{count_field}
+use Rattle.picky_kv.specs.NumberFields.{count_field}
 use Rattle.picky_kv.specs.Output.{pair_line}
 use Rattle.picky_kv.specs.ReadBack.{PairIsReadBack, BlockIsReadBack}
 

@@ -11,7 +11,7 @@ use Rattle.std.specs.Int.{div_ceil}
 use Rattle.std.specs.List.{concat}
 use Rattle.picky_text.specs.Lines.{text_of, end_of}
 use Rattle.picky_text.specs.Rows.{rows_of, rows_within}
-use Rattle.picky_text.specs.RowLaws.{rows_of_are_rows}
+use Rattle.picky_text.proofs.RowLaws.{rows_of_are_rows}
 use Rattle.picky_text.specs.declared.lines.LineEnd.{LineEnd}
 use Rattle.picky_kv.specs.Output.{Output, extended, with_lines, with_block, pair_line, block_lines}
 use Rattle.picky_kv.specs.declared.error.KvError.TheVariants.{TooLong}

@@ -1,7 +1,7 @@
 -- The keys of Argon2, one literal each, after PuTTY's manual, Appendix C.
 use Rattle.std.specs.Prelude.{[], ◌∷◌, codes, refl}
 use Rattle.picky_kv.specs.Field.{Field}
-use Rattle.picky_kv.specs.Literal.{LiteralRow, single_row, literal_field, IsPlain}
+use Rattle.picky_kv.specs.Literal.{LiteralRow, single_row, literal_field}
 use Rattle.picky_kv.specs.declared.argon2_keys.PpkKeyDerivationKey.{PpkKeyDerivationKey}
 use Rattle.picky_kv.specs.declared.argon2_keys.PpkArgon2MemoryKey.{PpkArgon2MemoryKey}
 use Rattle.picky_kv.specs.declared.argon2_keys.PpkArgon2PassesKey.{PpkArgon2PassesKey}
@@ -16,11 +16,6 @@ key_derivation_key_row = single_row (codes "PpkKeyDerivationKey") (codes "Key-De
 unfoldable pub key_derivation_key : Field PpkKeyDerivationKey
 key_derivation_key = literal_field key_derivation_key_row (record {} ∷ []) (λ _. refl)
 
--- it is plain
-pub key_derivation_key_is_plain : IsPlain key_derivation_key
-unfolding key_derivation_key
-key_derivation_key_is_plain _ = refl
-
 -- the key of the line of Argon2's memory
 abbrev pub argon2_memory_key_row : LiteralRow PpkArgon2MemoryKey
 argon2_memory_key_row = single_row (codes "PpkArgon2MemoryKey") (codes "Argon2-Memory")
@@ -29,11 +24,6 @@ argon2_memory_key_row = single_row (codes "PpkArgon2MemoryKey") (codes "Argon2-M
 unfoldable pub argon2_memory_key : Field PpkArgon2MemoryKey
 argon2_memory_key = literal_field argon2_memory_key_row (record {} ∷ []) (λ _. refl)
 
--- it is plain
-pub argon2_memory_key_is_plain : IsPlain argon2_memory_key
-unfolding argon2_memory_key
-argon2_memory_key_is_plain _ = refl
-
 -- the key of the line of Argon2's passes
 abbrev pub argon2_passes_key_row : LiteralRow PpkArgon2PassesKey
 argon2_passes_key_row = single_row (codes "PpkArgon2PassesKey") (codes "Argon2-Passes")
@@ -41,11 +31,6 @@ argon2_passes_key_row = single_row (codes "PpkArgon2PassesKey") (codes "Argon2-P
 -- its type
 unfoldable pub argon2_passes_key : Field PpkArgon2PassesKey
 argon2_passes_key = literal_field argon2_passes_key_row (record {} ∷ []) (λ _. refl)
-
--- it is plain
-pub argon2_passes_key_is_plain : IsPlain argon2_passes_key
-unfolding argon2_passes_key
-argon2_passes_key_is_plain _ = refl
 
 -- the key of the line of Argon2's parallelism
 abbrev pub argon2_parallelism_key_row : LiteralRow PpkArgon2ParallelismKey
@@ -56,11 +41,6 @@ argon2_parallelism_key_row =
 unfoldable pub argon2_parallelism_key : Field PpkArgon2ParallelismKey
 argon2_parallelism_key = literal_field argon2_parallelism_key_row (record {} ∷ []) (λ _. refl)
 
--- it is plain
-pub argon2_parallelism_key_is_plain : IsPlain argon2_parallelism_key
-unfolding argon2_parallelism_key
-argon2_parallelism_key_is_plain _ = refl
-
 -- the key of the line of Argon2's salt
 abbrev pub argon2_salt_key_row : LiteralRow PpkArgon2SaltKey
 argon2_salt_key_row = single_row (codes "PpkArgon2SaltKey") (codes "Argon2-Salt")
@@ -68,8 +48,3 @@ argon2_salt_key_row = single_row (codes "PpkArgon2SaltKey") (codes "Argon2-Salt"
 -- its type
 unfoldable pub argon2_salt_key : Field PpkArgon2SaltKey
 argon2_salt_key = literal_field argon2_salt_key_row (record {} ∷ []) (λ _. refl)
-
--- it is plain
-pub argon2_salt_key_is_plain : IsPlain argon2_salt_key
-unfolding argon2_salt_key
-argon2_salt_key_is_plain _ = refl

@@ -1,20 +1,17 @@
 -- The types of several literals each, after PuTTY's manual, Appendix C.
-use Rattle.std.specs.Prelude.{ℕ, List, [], ◌∷◌, codes, refl, ◌++◌}
-use Rattle.picky_kv.specs.Field.{Field}
-use Rattle.picky_kv.specs.Literal.{LiteralRow, literal_field, AreNamed, IsPlain}
+use Rattle.std.specs.Prelude.{ℕ, List, [], ◌∷◌, codes, ◌++◌}
+use Rattle.picky_kv.specs.Literal.{LiteralRow}
 use Rattle.picky_kv.specs.declared.choices.PpkVersionKey.{PpkVersionKey}
 use Rattle.picky_kv.specs.declared.choices.PpkVersionKey.TheVariants.{V2, V3}
 use Rattle.picky_kv.specs.declared.choices.PpkKeyAlgorithmValue.{PpkKeyAlgorithmValue}
-use Rattle.picky_kv.specs.declared.choices.PpkKeyAlgorithmValue.TheVariants.{Rsa, Dss}
-use Rattle.picky_kv.specs.declared.choices.PpkKeyAlgorithmValue.TheVariants.{EcdsaSha2Nistp256}
+use Rattle.picky_kv.specs.declared.choices.PpkKeyAlgorithmValue.TheVariants.{Rsa, Dss, EcdsaSha2Nistp256}
 use Rattle.picky_kv.specs.declared.choices.PpkKeyAlgorithmValue.TheVariants.{EcdsaSha2Nistp384}
-use Rattle.picky_kv.specs.declared.choices.PpkKeyAlgorithmValue.TheVariants.{EcdsaSha2Nistp521}
-use Rattle.picky_kv.specs.declared.choices.PpkKeyAlgorithmValue.TheVariants.{Ed25519, Ed448}
+use Rattle.picky_kv.specs.declared.choices.PpkKeyAlgorithmValue.TheVariants.{EcdsaSha2Nistp521, Ed25519}
+use Rattle.picky_kv.specs.declared.choices.PpkKeyAlgorithmValue.TheVariants.{Ed448}
 use Rattle.picky_kv.specs.declared.choices.PpkEncryptionValue.{PpkEncryptionValue}
 use Rattle.picky_kv.specs.declared.choices.PpkEncryptionValue.TheVariants.{None, Aes256Cbc}
 use Rattle.picky_kv.specs.declared.choices.Argon2FlavourValue.{Argon2FlavourValue}
-use Rattle.picky_kv.specs.declared.choices.Argon2FlavourValue.TheVariants.{Argon2d, Argon2i}
-use Rattle.picky_kv.specs.declared.choices.Argon2FlavourValue.TheVariants.{Argon2id}
+use Rattle.picky_kv.specs.declared.choices.Argon2FlavourValue.TheVariants.{Argon2d, Argon2i, Argon2id}
 
 -- the key of the first line: PuTTY-User-Key-File-2 or PuTTY-User-Key-File-3
 abbrev pub version_literal : PpkVersionKey → List ℕ
@@ -32,21 +29,6 @@ version_row = record {
 -- in this order
 abbrev pub versions : List PpkVersionKey
 versions = V2 ∷ V3 ∷ []
-
--- each by its literal
-pub versions_are_named : AreNamed version_literal versions
-versions_are_named V2 = refl
-versions_are_named V3 = refl
-
--- the type of the first line's key
-unfoldable pub version_field : Field PpkVersionKey
-version_field = literal_field version_row versions versions_are_named
-
--- it is plain
-pub version_field_is_plain : IsPlain version_field
-unfolding version_field
-version_field_is_plain V2 = refl
-version_field_is_plain V3 = refl
 
 -- its value, the key's algorithm
 abbrev pub algorithm_literal : PpkKeyAlgorithmValue → List ℕ
@@ -71,20 +53,6 @@ algorithm_row = record {
 abbrev pub algorithms : List PpkKeyAlgorithmValue
 algorithms =
     Rsa ∷ Dss ∷ EcdsaSha2Nistp256 ∷ EcdsaSha2Nistp384 ∷ EcdsaSha2Nistp521 ∷ Ed25519 ∷ Ed448 ∷ []
-
--- each by its literal
-pub algorithms_are_named : AreNamed algorithm_literal algorithms
-algorithms_are_named Rsa = refl
-algorithms_are_named Dss = refl
-algorithms_are_named EcdsaSha2Nistp256 = refl
-algorithms_are_named EcdsaSha2Nistp384 = refl
-algorithms_are_named EcdsaSha2Nistp521 = refl
-algorithms_are_named Ed25519 = refl
-algorithms_are_named Ed448 = refl
-
--- the type of the key's algorithm
-unfoldable pub algorithm_field : Field PpkKeyAlgorithmValue
-algorithm_field = literal_field algorithm_row algorithms algorithms_are_named
 
 -- how many mpints a private key of the algorithm has in a file
 abbrev pub mpint_values_count : PpkKeyAlgorithmValue → ℕ
@@ -113,15 +81,6 @@ encryption_row = record {
 abbrev pub encryptions : List PpkEncryptionValue
 encryptions = None ∷ Aes256Cbc ∷ []
 
--- each by its literal
-pub encryptions_are_named : AreNamed encryption_literal encryptions
-encryptions_are_named None = refl
-encryptions_are_named Aes256Cbc = refl
-
--- the type of the encryption
-unfoldable pub encryption_field : Field PpkEncryptionValue
-encryption_field = literal_field encryption_row encryptions encryptions_are_named
-
 -- the flavour of Argon2
 abbrev pub flavour_literal : Argon2FlavourValue → List ℕ
 flavour_literal Argon2d = codes "Argon2d"
@@ -139,13 +98,3 @@ flavour_row = record {
 -- in this order
 abbrev pub flavours : List Argon2FlavourValue
 flavours = Argon2d ∷ Argon2i ∷ Argon2id ∷ []
-
--- each by its literal
-pub flavours_are_named : AreNamed flavour_literal flavours
-flavours_are_named Argon2d = refl
-flavours_are_named Argon2i = refl
-flavours_are_named Argon2id = refl
-
--- the type of the flavour
-unfoldable pub flavour_field : Field Argon2FlavourValue
-flavour_field = literal_field flavour_row flavours flavours_are_named

@@ -1,7 +1,7 @@
 -- The keys that each file has, one literal each, after PuTTY's manual, Appendix C.
 use Rattle.std.specs.Prelude.{[], ◌∷◌, codes, refl}
 use Rattle.picky_kv.specs.Field.{Field}
-use Rattle.picky_kv.specs.Literal.{LiteralRow, single_row, literal_field, IsPlain}
+use Rattle.picky_kv.specs.Literal.{LiteralRow, single_row, literal_field}
 use Rattle.picky_kv.specs.declared.keys.PpkEncryptionKey.{PpkEncryptionKey}
 use Rattle.picky_kv.specs.declared.keys.PpkCommentKey.{PpkCommentKey}
 use Rattle.picky_kv.specs.declared.keys.PpkPublicLinesKey.{PpkPublicLinesKey}
@@ -16,11 +16,6 @@ encryption_key_row = single_row (codes "PpkEncryptionKey") (codes "Encryption")
 unfoldable pub encryption_key : Field PpkEncryptionKey
 encryption_key = literal_field encryption_key_row (record {} ∷ []) (λ _. refl)
 
--- it is plain
-pub encryption_key_is_plain : IsPlain encryption_key
-unfolding encryption_key
-encryption_key_is_plain _ = refl
-
 -- the key of the comment's line
 abbrev pub comment_key_row : LiteralRow PpkCommentKey
 comment_key_row = single_row (codes "PpkCommentKey") (codes "Comment")
@@ -28,11 +23,6 @@ comment_key_row = single_row (codes "PpkCommentKey") (codes "Comment")
 -- its type
 unfoldable pub comment_key : Field PpkCommentKey
 comment_key = literal_field comment_key_row (record {} ∷ []) (λ _. refl)
-
--- it is plain
-pub comment_key_is_plain : IsPlain comment_key
-unfolding comment_key
-comment_key_is_plain _ = refl
 
 -- the key of the block of the public key
 abbrev pub public_lines_key_row : LiteralRow PpkPublicLinesKey
@@ -42,11 +32,6 @@ public_lines_key_row = single_row (codes "PpkPublicLinesKey") (codes "Public-Lin
 unfoldable pub public_lines_key : Field PpkPublicLinesKey
 public_lines_key = literal_field public_lines_key_row (record {} ∷ []) (λ _. refl)
 
--- it is plain
-pub public_lines_key_is_plain : IsPlain public_lines_key
-unfolding public_lines_key
-public_lines_key_is_plain _ = refl
-
 -- the key of the block of the private key
 abbrev pub private_lines_key_row : LiteralRow PpkPrivateLinesKey
 private_lines_key_row = single_row (codes "PpkPrivateLinesKey") (codes "Private-Lines")
@@ -55,11 +40,6 @@ private_lines_key_row = single_row (codes "PpkPrivateLinesKey") (codes "Private-
 unfoldable pub private_lines_key : Field PpkPrivateLinesKey
 private_lines_key = literal_field private_lines_key_row (record {} ∷ []) (λ _. refl)
 
--- it is plain
-pub private_lines_key_is_plain : IsPlain private_lines_key
-unfolding private_lines_key
-private_lines_key_is_plain _ = refl
-
 -- the key of the line of the MAC
 abbrev pub private_mac_key_row : LiteralRow PpkPrivateMacKey
 private_mac_key_row = single_row (codes "PpkPrivateMacKey") (codes "Private-MAC")
@@ -67,8 +47,3 @@ private_mac_key_row = single_row (codes "PpkPrivateMacKey") (codes "Private-MAC"
 -- its type
 unfoldable pub private_mac_key : Field PpkPrivateMacKey
 private_mac_key = literal_field private_mac_key_row (record {} ∷ []) (λ _. refl)
-
--- it is plain
-pub private_mac_key_is_plain : IsPlain private_mac_key
-unfolding private_mac_key
-private_mac_key_is_plain _ = refl

@@ -10,3 +10,7 @@ pub mod Lines
 pub mod Parts
 pub mod Output
 pub mod ReadBack
+pub mod ChoiceFields
+pub mod NumberFields
+pub mod ValueFields
+pub mod carried

@@ -1,9 +1,9 @@
 -- Lines of a key and a value, and blocks of lines, after PuTTY's manual, Appendix C.
-use Rattle.std.specs.Prelude.{ℕ, zero, suc, ◌==◌, ◌&&◌, List, [], ◌∷◌, ◌++◌, if◌then◌else◌}
-use Rattle.std.specs.Prelude.{Option, Some, None, Result, Ok, Err}
+use Rattle.std.specs.Prelude.{ℕ, zero, suc, ◌==◌, ◌&&◌, List, [], ◌∷◌, ◌++◌, if◌then◌else◌, Option, Some}
+use Rattle.std.specs.Prelude.{None, Result, Ok, Err}
 use Rattle.picky_layout.specs.Outcome.{and_then}
 use Rattle.picky_kv.specs.Field.{Field, outcome}
-use Rattle.picky_kv.specs.Numbers.{count_field}
+use Rattle.picky_kv.specs.NumberFields.{count_field}
 use Rattle.picky_kv.specs.Steps.{need, in_context}
 use Rattle.picky_kv.specs.declared.error.KvError.{KvError}
 use Rattle.picky_kv.specs.declared.error.KvError.TheVariants.{EndOfInput, InvalidKeyValueFormat}

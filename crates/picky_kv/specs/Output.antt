@@ -1,6 +1,6 @@
 -- What a writer of lines holds, and what its calls append, after PuTTY's manual, Appendix C.
-use Rattle.std.specs.Prelude.{◌^◌, ℕ, Bool, List, ◌∷◌, ◌++◌, length, nat_lt}
-use Rattle.std.specs.Prelude.{if◌then◌else◌, Result, Ok, Err, codes}
+use Rattle.std.specs.Prelude.{◌^◌, ℕ, Bool, List, ◌∷◌, ◌++◌, length, nat_lt, if◌then◌else◌, Result, Ok, Err}
+use Rattle.std.specs.Prelude.{codes}
 use Rattle.std.specs.Fmt.{decimal}
 use Rattle.picky_layout.specs.Outcome.{and_then}
 use Rattle.picky_text.specs.Lines.{text_of}

@@ -4,7 +4,7 @@ use Rattle.std.specs.List.{concat}
 use Rattle.picky_text.specs.Lines.{HasNo}
 use Rattle.picky_kv.specs.Field.{Field, outcome}
 use Rattle.picky_kv.specs.Lines.{next_pair, next_block}
-use Rattle.picky_kv.specs.Numbers.{count_field}
+use Rattle.picky_kv.specs.NumberFields.{count_field}
 
 -- nowhere in the text does a space follow a colon
 abbrev pub HasNoSeparator : List ℕ → Type 0

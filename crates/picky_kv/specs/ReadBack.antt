@@ -1,7 +1,6 @@
 -- What is written is read back.
 use Rattle.std.specs.Prelude.{◌≡◌, ◌≤◌, ℕ, List, [], ◌∷◌, ◌++◌, length, Ok}
-use Rattle.picky_text.specs.Lines.{HasNo, lines, text_of}
-use Rattle.picky_text.specs.LineLaws.{IsLine}
+use Rattle.picky_text.specs.Lines.{HasNo, lines, text_of, IsLine}
 use Rattle.picky_text.specs.Rows.{rows_of}
 use Rattle.picky_text.specs.declared.lines.LineEnd.{LineEnd}
 use Rattle.picky_kv.specs.Field.{Field}

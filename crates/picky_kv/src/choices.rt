@@ -1,8 +1,9 @@
 //! The types of several literals each: version, algorithm, encryption and Argon2's flavour.
 
 ghost use Rattle.std.specs.Prelude.{◌≡◌, IfOk, IsOk};
-ghost use Rattle.picky_kv.specs.Choices.{version_field, algorithm_field, mpint_values_count};
-ghost use Rattle.picky_kv.specs.Choices.{encryption_field, flavour_field};
+ghost use Rattle.picky_kv.specs.ChoiceFields.{version_field, algorithm_field};
+ghost use Rattle.picky_kv.specs.Choices.{mpint_values_count};
+ghost use Rattle.picky_kv.specs.ChoiceFields.{encryption_field, flavour_field};
 ghost use Rattle.picky_kv.specs.Choices.{version_row, algorithm_row, encryption_row, flavour_row};
 
 use crate::error::PpkValueError;
@@ -23,7 +24,7 @@ pub enum PpkVersionKey {
     V3,
 }
 
-#[tactic(auto, unfolding(crate::specs::Choices::version_field))]
+#[tactic(auto, unfolding(crate::specs::ChoiceFields::version_field))]
 impl PpkField for PpkVersionKey {
     ghost field = { version_field };
 
@@ -42,7 +43,7 @@ impl PpkField for PpkVersionKey {
     }
 }
 
-#[tactic(auto, unfolding(crate::specs::Choices::version_field))]
+#[tactic(auto, unfolding(crate::specs::ChoiceFields::version_field))]
 impl PpkLiteral for PpkVersionKey {
     ghost name = { version_row.name };
 
@@ -98,7 +99,7 @@ impl PpkKeyAlgorithmValue {
     }
 }
 
-#[tactic(auto, unfolding(crate::specs::Choices::algorithm_field))]
+#[tactic(auto, unfolding(crate::specs::ChoiceFields::algorithm_field))]
 impl PpkField for PpkKeyAlgorithmValue {
     ghost field = { algorithm_field };
 
@@ -132,7 +133,7 @@ impl PpkField for PpkKeyAlgorithmValue {
     }
 }
 
-#[tactic(auto, unfolding(crate::specs::Choices::algorithm_field))]
+#[tactic(auto, unfolding(crate::specs::ChoiceFields::algorithm_field))]
 impl PpkLiteral for PpkKeyAlgorithmValue {
     ghost name = { algorithm_row.name };
 
@@ -171,7 +172,7 @@ pub enum PpkEncryptionValue {
     Aes256Cbc,
 }
 
-#[tactic(auto, unfolding(crate::specs::Choices::encryption_field))]
+#[tactic(auto, unfolding(crate::specs::ChoiceFields::encryption_field))]
 impl PpkField for PpkEncryptionValue {
     ghost field = { encryption_field };
 
@@ -190,7 +191,7 @@ impl PpkField for PpkEncryptionValue {
     }
 }
 
-#[tactic(auto, unfolding(crate::specs::Choices::encryption_field))]
+#[tactic(auto, unfolding(crate::specs::ChoiceFields::encryption_field))]
 impl PpkLiteral for PpkEncryptionValue {
     ghost name = { encryption_row.name };
 
@@ -225,7 +226,7 @@ pub enum Argon2FlavourValue {
     Argon2id,
 }
 
-#[tactic(auto, unfolding(crate::specs::Choices::flavour_field))]
+#[tactic(auto, unfolding(crate::specs::ChoiceFields::flavour_field))]
 impl PpkField for Argon2FlavourValue {
     ghost field = { flavour_field };
 
@@ -247,7 +248,7 @@ impl PpkField for Argon2FlavourValue {
     }
 }
 
-#[tactic(auto, unfolding(crate::specs::Choices::flavour_field))]
+#[tactic(auto, unfolding(crate::specs::ChoiceFields::flavour_field))]
 impl PpkLiteral for Argon2FlavourValue {
     ghost name = { flavour_row.name };
 

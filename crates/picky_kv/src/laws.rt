@@ -14,7 +14,8 @@ ghost use Rattle.picky_kv.specs.Keys.{comment_key_row, encryption_key_row, priva
 ghost use Rattle.picky_kv.specs.Keys.{private_mac_key_row, public_lines_key_row};
 ghost use Rattle.picky_kv.specs.Lines.{key_and_value, first_joined, next_pair, next_block};
 ghost use Rattle.picky_kv.specs.Literal.{IsOfLiterals};
-ghost use Rattle.picky_kv.specs.Numbers.{count_field, count_row, u32_row};
+ghost use Rattle.picky_kv.specs.NumberFields.{count_field};
+ghost use Rattle.picky_kv.specs.Numbers.{count_row, u32_row};
 ghost use Rattle.picky_kv.specs.Parts.{HasNoSeparator, AreParts, AreJoined, PairsAreRead};
 ghost use Rattle.picky_kv.specs.Parts.{BlocksAreRead, HasNoLineEnd, AreOneLine};
 ghost use Rattle.picky_kv.specs.ReadBack.{PairIsReadBack, BlockIsReadBack};

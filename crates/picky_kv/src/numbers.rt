@@ -3,7 +3,7 @@
 ghost use Rattle.std.specs.Prelude.{◌≡◌, ◌^◌, ◌<◌, ℕ, IfOk, IsOk};
 ghost use Rattle.picky_wire.specs.Gives.{Gives};
 ghost use Rattle.picky_kv.specs.Field.{outcome, Writes};
-ghost use Rattle.picky_kv.specs.Numbers.{u32_field, count_field};
+ghost use Rattle.picky_kv.specs.NumberFields.{u32_field, count_field};
 
 use crate::error::PpkValueError;
 use crate::field::{PpkField, refused, text_within};
@@ -38,7 +38,7 @@ impl PpkField for PpkArgon2MemoryValue {
         }
     }
 
-    #[tactic(auto, unfolding(crate::specs::Numbers::u32_field))]
+    #[tactic(auto, unfolding(crate::specs::NumberFields::u32_field))]
     fn write(&self, alloc: Global) -> Result<Text, SizeError> {
         write_u32(alloc, self.number)
     }
@@ -95,7 +95,7 @@ impl PpkField for PpkArgon2PassesValue {
         }
     }
 
-    #[tactic(auto, unfolding(crate::specs::Numbers::u32_field))]
+    #[tactic(auto, unfolding(crate::specs::NumberFields::u32_field))]
     fn write(&self, alloc: Global) -> Result<Text, SizeError> {
         write_u32(alloc, self.number)
     }
@@ -152,7 +152,7 @@ impl PpkField for PpkArgon2ParallelismValue {
         }
     }
 
-    #[tactic(auto, unfolding(crate::specs::Numbers::u32_field))]
+    #[tactic(auto, unfolding(crate::specs::NumberFields::u32_field))]
     fn write(&self, alloc: Global) -> Result<Text, SizeError> {
         write_u32(alloc, self.number)
     }
@@ -208,7 +208,7 @@ impl LineCount {
     }
 }
 
-#[tactic(auto, unfolding(crate::specs::Numbers::count_field))]
+#[tactic(auto, unfolding(crate::specs::NumberFields::count_field))]
 impl PpkField for LineCount {
     ghost field = { count_field };
 
@@ -227,7 +227,7 @@ impl PpkField for LineCount {
     }
 }
 
-#[tactic(auto, unfolding(crate::specs::Numbers::u32_field))]
+#[tactic(auto, unfolding(crate::specs::NumberFields::u32_field))]
 fn read_u32(alloc: Global, text: &str) -> Result<u32, PpkValueError>
     ensures { Gives PpkValueError.NoMemory (λ number. number) result (outcome u32_field text.now) }
 {
@@ -237,7 +237,7 @@ fn read_u32(alloc: Global, text: &str) -> Result<u32, PpkValueError>
     }
 }
 
-#[tactic(auto, unfolding(crate::specs::Numbers::u32_field))]
+#[tactic(auto, unfolding(crate::specs::NumberFields::u32_field))]
 fn write_u32(alloc: Global, number: u32) -> Result<Text, SizeError>
     ensures { Writes result (u32_field.spelling number) }
 {

@@ -1,15 +1,15 @@
 //! The lines and blocks of a PuTTY private key file: which key stands before which value.
 
 ghost use Rattle.std.specs.Prelude.{refl};
-ghost use Rattle.picky_kv.specs.Choices.{version_field_is_plain};
-ghost use Rattle.picky_kv.specs.Keys.{encryption_key_is_plain, comment_key_is_plain};
-ghost use Rattle.picky_kv.specs.Keys.{public_lines_key_is_plain, private_lines_key_is_plain};
-ghost use Rattle.picky_kv.specs.Keys.{private_mac_key_is_plain};
-ghost use Rattle.picky_kv.specs.Argon2Keys.{key_derivation_key_is_plain};
-ghost use Rattle.picky_kv.specs.Argon2Keys.{argon2_memory_key_is_plain, argon2_passes_key_is_plain};
-ghost use Rattle.picky_kv.specs.Argon2Keys.{argon2_parallelism_key_is_plain};
-ghost use Rattle.picky_kv.specs.Argon2Keys.{argon2_salt_key_is_plain};
-ghost use Rattle.picky_kv.specs.Values.{base64_field_is_ascii};
+ghost use Rattle.picky_kv.specs.carried.Pairs.{version_field_is_plain};
+ghost use Rattle.picky_kv.specs.carried.Pairs.{encryption_key_is_plain, comment_key_is_plain};
+ghost use Rattle.picky_kv.specs.carried.Pairs.{public_lines_key_is_plain, private_lines_key_is_plain};
+ghost use Rattle.picky_kv.specs.carried.Pairs.{private_mac_key_is_plain};
+ghost use Rattle.picky_kv.specs.carried.Pairs.{key_derivation_key_is_plain};
+ghost use Rattle.picky_kv.specs.carried.Pairs.{argon2_memory_key_is_plain, argon2_passes_key_is_plain};
+ghost use Rattle.picky_kv.specs.carried.Pairs.{argon2_parallelism_key_is_plain};
+ghost use Rattle.picky_kv.specs.carried.Pairs.{argon2_salt_key_is_plain};
+ghost use Rattle.picky_kv.specs.carried.Pairs.{base64_field_is_ascii};
 
 use crate::argon2_keys::{
     PpkArgon2MemoryKey, PpkArgon2ParallelismKey, PpkArgon2PassesKey, PpkArgon2SaltKey,

@@ -5,7 +5,7 @@ ghost use Rattle.picky_layout.specs.Numbers.{IsBytes};
 ghost use Rattle.hex.specs.Hex.{encode_lower};
 ghost use Rattle.picky_text.specs.Base64.{base64_of};
 ghost use Rattle.picky_kv.specs.Field.{Writes};
-ghost use Rattle.picky_kv.specs.Values.{comment_field, base64_field, hex_field};
+ghost use Rattle.picky_kv.specs.ValueFields.{comment_field, base64_field, hex_field};
 
 use crate::error::PpkValueError;
 use crate::field::{PpkField, refused, text_within};
@@ -30,7 +30,7 @@ impl Model for PpkCommentValue {
     ghost inverse = { λ text. record { text = text } };
 }
 
-#[tactic(auto, unfolding(crate::specs::Values::comment_field))]
+#[tactic(auto, unfolding(crate::specs::ValueFields::comment_field))]
 impl PpkField for PpkCommentValue {
     ghost field = { comment_field };
 
@@ -85,7 +85,7 @@ impl Model for Base64PpkValue {
     ghost inverse = { λ bytes. record { bytes = bytes } };
 }
 
-#[tactic(auto, unfolding(crate::specs::Values::base64_field))]
+#[tactic(auto, unfolding(crate::specs::ValueFields::base64_field))]
 impl PpkField for Base64PpkValue {
     ghost field = { base64_field };
 
@@ -148,7 +148,7 @@ impl Model for HexPpkValue {
     ghost inverse = { λ bytes. record { bytes = bytes } };
 }
 
-#[tactic(auto, unfolding(crate::specs::Values::hex_field, crate::specs::Values::hex_decoded))]
+#[tactic(auto, unfolding(crate::specs::ValueFields::hex_field, crate::specs::Values::hex_decoded))]
 impl PpkField for HexPpkValue {
     ghost field = { hex_field };
 

@@ -9,8 +9,11 @@ use Rattle.picky_layout.specs.Flaw.{Flaw, Short, NotUtf8, Flawed, Reason, Magic,
 use Rattle.picky_layout.specs.Wire.{cells, uint32, string, text, of_length, equal_to}
 use Rattle.picky_layout.specs.Fixed.{raw, sized, is_number, fixed_uint32}
 use Rattle.picky_layout.specs.Short.{EndsInString}
-use Rattle.picky_layout.specs.Strings.{text_reads}
-use Rattle.picky_layout.specs.Table.{Table, find_entry, entry, none_is_found, key_is_found}
+use Rattle.picky_layout.proofs.Strings.{text_reads}
+use Rattle.picky_layout.specs.Table.{Table, find_entry}
+use Rattle.picky_layout.specs.Entry.{entry}
+use Rattle.picky_layout.proofs.Table.{none_is_found}
+use Rattle.picky_layout.specs.carried.Table.{key_is_found}
 use Rattle.picky_layout.specs.Names.{named}
 use Rattle.picky_layout.specs.When.{HoldsString}
 use Rattle.picky_layout.proofs.Narrowed.{place_cases, place_flawed_when, place_value_when, allowed_refused, allowed_refuses, same_why}

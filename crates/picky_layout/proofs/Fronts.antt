@@ -1,8 +1,9 @@
 -- No piece is a front of another.
 use Rattle.std.specs.Prelude.{◌≡◌, List, ℕ, ◌++◌, ◌<◌, ◌^◌, length}
-use Rattle.picky_layout.specs.Grammar.{Grammar, one_front}
+use Rattle.picky_layout.specs.Grammar.{Grammar}
+use Rattle.picky_layout.proofs.Grammar.{one_front}
 use Rattle.picky_layout.specs.Wire.{string, string_of}
-use Rattle.picky_layout.specs.Strings.{string_spells}
+use Rattle.picky_layout.proofs.Strings.{string_spells}
 use Rattle.picky_layout.specs.When.{HasOneFront}
 
 -- So it is in each layout.

@@ -2,11 +2,13 @@
 use Rattle.std.specs.Prelude.{◌≡◌, ◌↔◌, Bool, true, false, if◌then◌else◌, List, ℕ, ◌⊎◌, Result, Ok, Err}
 use Rattle.std.specs.Bool.{Decides}
 use Rattle.std.proofs.Common.{sym, ◌∙◌, ap, refl, inl, inr}
-use Rattle.picky_layout.specs.Outcome.{and_then, and_then_ok, map_err, map_err_ok, same_pair}
+use Rattle.picky_layout.specs.Outcome.{and_then, map_err}
+use Rattle.picky_layout.specs.carried.Outcome.{and_then_ok, map_err_ok, same_pair}
 use Rattle.picky_layout.specs.Flaw.{Flaw, Flawed, Why, Reason}
 use Rattle.picky_layout.specs.Grammar.{Grammar, Fits}
-use Rattle.picky_layout.specs.Combine.{Meaning, narrow, meant, at, ◌>>=◌}
-use Rattle.picky_layout.specs.Refused.{Stuck, First, Later, both_refused, StuckNarrowed, Field, Value, narrow_refused}
+use Rattle.picky_layout.specs.Narrowed.{Meaning, meant}
+use Rattle.picky_layout.specs.Combine.{narrow, at, ◌>>=◌}
+use Rattle.picky_layout.proofs.Refused.{Stuck, First, Later, both_refused, StuckNarrowed, Field, Value, narrow_refused}
 
 -- What stands in front is read.
 pub fits_is_read : {E A : Type 0} (G : Grammar E A) (bytes : List ℕ) (v : A) (rest : List ℕ)

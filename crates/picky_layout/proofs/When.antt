@@ -5,14 +5,20 @@ use Rattle.std.specs.Str.{is_utf8}
 use Rattle.std.proofs.Common.{sym, ◌∙◌, ap, subst, refl, arith, inl, inr}
 use Rattle.std.proofs.lemmas.Bool.{le-ltb, lt-ltb, ltb-false, cases_lt}
 use Rattle.std.proofs.lemmas.List.{length-append, length-drop}
-use Rattle.picky_layout.specs.Outcome.{and_then, guard_ok, pass_ok, same_pair}
+use Rattle.picky_layout.specs.Outcome.{and_then}
+use Rattle.picky_layout.specs.carried.Outcome.{guard_ok, pass_ok, same_pair}
 use Rattle.picky_layout.specs.Flaw.{Flaw, Short, NotUtf8, Big}
-use Rattle.picky_layout.specs.Combine.{each, meant}
-use Rattle.picky_layout.specs.Wire.{cells, number, uint32, string, text, utf8, IsUtf8-Decides}
+use Rattle.picky_layout.specs.Combine.{each}
+use Rattle.picky_layout.specs.Narrowed.{meant}
+use Rattle.picky_layout.specs.Wire.{cells, number, uint32, string, text, utf8}
+use Rattle.picky_layout.specs.carried.Wire.{IsUtf8-Decides}
 use Rattle.picky_layout.specs.Numbers.{byte, uint64}
-use Rattle.picky_layout.specs.Strings.{text_refuses, text_stuck}
-use Rattle.picky_layout.specs.Short.{EndsInString, cells_short, cells_refused, string_short, string_refused}
-use Rattle.picky_layout.specs.Zeros.{without_zeros, zeros_in_front, length_with_zeros}
+use Rattle.picky_layout.proofs.Strings.{text_refuses, text_stuck}
+use Rattle.picky_layout.specs.Short.{EndsInString}
+use Rattle.picky_layout.proofs.Short.{cells_short, cells_refused, string_short, string_refused}
+use Rattle.picky_layout.specs.Zeros.{without_zeros}
+use Rattle.picky_layout.specs.carried.Zeros.{zeros_in_front}
+use Rattle.picky_layout.proofs.Zeros.{length_with_zeros}
 use Rattle.picky_layout.specs.Mpint.{as_mpint, mpint}
 use Rattle.picky_layout.specs.When.{IsShortWhere, HoldsString}
 use Rattle.picky_layout.proofs.Narrowed.{fits_is_read, narrow_cases, narrow_keeps, narrow_refuses, allowed_refused, passed_err}

@@ -1,34 +1,15 @@
 -- Fields of which the layout fixes the value or the length: raw bytes, a number, a string.
-use Rattle.std.specs.Prelude.{◌≡◌, List, ℕ, ◌++◌, ◌<◌, ◌^◌, length, ◌==◌, Ok}
-use Rattle.std.specs.Int.{w32, to_be_bytes}
+use Rattle.std.specs.Prelude.{◌≡◌, List, ℕ, length, ◌==◌}
 use Rattle.std.specs.Cmp.{unsigned_Decides}
-use Rattle.std.proofs.Common.{refl, ◌∙◌, sym, ap, subst}
 use Rattle.picky_layout.specs.Flaw.{Reason, Magic, Length, Number}
 use Rattle.picky_layout.specs.Grammar.{Grammar}
-use Rattle.picky_layout.specs.Combine.{Meaning, narrow, allowed, at}
-use Rattle.picky_layout.specs.Wire.{cells, uint32, string, string_of, of_length, equal_to}
-use Rattle.picky_layout.specs.Numbers.{IsBytes, uint32_spells, uint32_exact}
-use Rattle.picky_layout.specs.Strings.{string_spells, string_exact}
+use Rattle.picky_layout.specs.Narrowed.{Meaning}
+use Rattle.picky_layout.specs.Combine.{narrow, allowed, at}
+use Rattle.picky_layout.specs.Wire.{cells, uint32, string, of_length, equal_to}
 
 -- byte[n], of one fixed value, as field i
 unfoldable pub raw : ℕ → List ℕ → Grammar Reason (List ℕ)
 raw i fixed = narrow (at i (cells (length fixed))) (equal_to (λ _. (i, Magic)) fixed)
-
--- The fixed bytes are a piece.
-pub raw_spells : (i : ℕ) (fixed : List ℕ) → (raw i fixed).piece fixed fixed
-unfolding raw cells
-raw_spells i fixed = (fixed, (refl, refl), (refl, refl))
-
--- They are read whatever follows.
-pub raw_reads_back : (i : ℕ) (fixed rest : List ℕ)
-    → (raw i fixed).read (fixed ++ rest) ≡ Ok (fixed, rest)
-raw_reads_back i fixed rest = (raw i fixed).complete fixed fixed rest (raw_spells i fixed)
-
--- No other bytes are a piece.
-pub raw_exact : (i : ℕ) (fixed v bytes : List ℕ) → (raw i fixed).piece v bytes
-    → (v ≡ fixed) × (bytes ≡ fixed)
-unfolding raw cells
-raw_exact i fixed v bytes (a, (len, is), (fits, same)) = (same ∙ fits, is ∙ fits)
 
 -- ---- a number
 
@@ -40,40 +21,8 @@ is_number why n = allowed (λ m. m ≡ n) (λ m. m == n) why (λ m. unsigned_Dec
 abbrev pub fixed_uint32 : ℕ → ℕ → Grammar Reason ℕ
 fixed_uint32 i n = narrow (at i uint32) (is_number (λ m. (i, Number m)) n)
 
--- The number's four bytes are a piece.
-pub fixed_uint32_spells : (i n : ℕ) → n < 2 ^ 32 → (fixed_uint32 i n).piece n (to_be_bytes w32 n)
-fixed_uint32_spells i n small = (n, uint32_spells n small, (refl, refl))
-
--- They are read whatever follows.
-pub fixed_uint32_reads_back : (i n : ℕ) (rest : List ℕ) → n < 2 ^ 32
-    → (fixed_uint32 i n).read (to_be_bytes w32 n ++ rest) ≡ Ok (n, rest)
-fixed_uint32_reads_back i n rest small =
-    (fixed_uint32 i n).complete n (to_be_bytes w32 n) rest (fixed_uint32_spells i n small)
-
--- No other bytes are a piece.
-pub fixed_uint32_exact : (i n v : ℕ) (bytes : List ℕ) → IsBytes bytes → (fixed_uint32 i n).piece v bytes
-    → (v ≡ n) × (bytes ≡ to_be_bytes w32 n)
-fixed_uint32_exact i n v bytes each (a, spells, (fits, same)) =
-    (same ∙ fits, (uint32_exact a bytes each spells).0 ∙ ap (to_be_bytes w32) fits)
-
 -- ---- a string
 
 -- string, of n bytes, as field i
 abbrev pub sized : ℕ → ℕ → Grammar Reason (List ℕ)
 sized i n = narrow (at i string) (of_length (i, Length) n)
-
--- Bytes of that length are spelled by their string.
-pub sized_spells : (i n : ℕ) (v : List ℕ) → length v ≡ n → n < 2 ^ 32 → (sized i n).piece v (string_of v)
-sized_spells i n v len short = (v, string_spells v (subst (λ m. m < 2 ^ 32) (sym len) short), (len, refl))
-
--- That string is read back whatever follows.
-pub sized_reads_back : (i n : ℕ) (v rest : List ℕ) → length v ≡ n → n < 2 ^ 32
-    → (sized i n).read (string_of v ++ rest) ≡ Ok (v, rest)
-sized_reads_back i n v rest len short =
-    (sized i n).complete v (string_of v) rest (sized_spells i n v len short)
-
--- Nothing else is a piece.
-pub sized_exact : (i n : ℕ) (v bytes : List ℕ) → IsBytes bytes → (sized i n).piece v bytes
-    → (bytes ≡ string_of v) × (length v ≡ n)
-sized_exact i n v bytes each (a, spells, (len, same)) =
-    ((string_exact a bytes each spells).0 ∙ ap string_of (sym same), ap length same ∙ len)

@@ -2,10 +2,8 @@ pub mod Outcome
 pub mod Flaw
 pub mod Grammar
 pub mod Combine
-pub mod Refused
 pub mod Wire
 pub mod Numbers
-pub mod Strings
 pub mod Short
 pub mod When
 pub mod Fixed
@@ -16,6 +14,12 @@ pub mod Mpint
 pub mod Inside
 pub mod Empty
 pub mod Row
-pub mod Solid
-pub mod Steps
 pub mod Many
+pub mod Joined
+pub mod Narrowed
+pub mod OrEmpty
+pub mod Front
+pub mod Magnitude
+pub mod Entry
+pub mod Cells
+pub mod carried

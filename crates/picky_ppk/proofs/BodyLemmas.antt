@@ -3,7 +3,7 @@ use Rattle.std.proofs.Common.{◌≡◌, ℕ, List, [], ◌∷◌, ◌++◌, tru
 use Rattle.std.specs.Str.{bytes_eq}
 use Rattle.picky_ppk.specs.PuttyPublic.{footer}
 use Rattle.picky_ppk.specs.PuttyRefusal.{body_from}
-use Rattle.picky_ppk.specs.BodyLaws.{at_footer, past_line, no_lines}
+use Rattle.picky_ppk.proofs.BodyLaws.{at_footer, past_line, no_lines}
 
 -- where the lines left and what is joined give the body of all: at a footer, at another line and at the end
 pub body_ends : (so_far line : List ℕ) (more ls all : List (List ℕ)) → body_from so_far ls ≡ body_from [] all

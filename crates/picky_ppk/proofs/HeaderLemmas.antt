@@ -4,7 +4,7 @@ use Rattle.std.specs.Str.{bytes_eq}
 use Rattle.picky_text.specs.Lines.{lines}
 use Rattle.picky_ppk.specs.PuttyPublic.{header}
 use Rattle.picky_ppk.specs.PuttyRefusal.{after_header, of_lines, putty_meaning}
-use Rattle.picky_ppk.specs.MeaningLaws.{header_first, other_first}
+use Rattle.picky_ppk.proofs.MeaningLaws.{header_first, other_first}
 use Rattle.picky_ppk.specs.declared.error.PuttyError.TheVariants as errors
 
 -- a text that begins with a header

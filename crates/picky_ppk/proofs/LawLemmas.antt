@@ -1,13 +1,13 @@
 -- What the laws state.
-use Rattle.picky_ppk.specs.PuttyLaws.{putty_public_spells, putty_public_means}
+use Rattle.picky_ppk.proofs.PuttyLaws.{putty_public_spells, putty_public_means}
 use Rattle.std.proofs.Common.{◌≡◌, ◌<◌, ◌^◌, ◌∙◌, ℕ, List, length, ap, Ok}
 use Rattle.picky_layout.specs.Numbers.{IsBytes}
 use Rattle.picky_text.specs.Lines.{HasNo}
 use Rattle.picky_ppk.specs.declared.putty_public.PuttyPublicKey.{PuttyPublicKey}
 use Rattle.picky_ppk.specs.PuttyPublic.{putty_public}
 use Rattle.picky_ppk.specs.PuttyRefusal.{putty_meaning}
-use Rattle.picky_ppk.specs.MeaningLaws.{putty_meaning_says, putty_public_reads_back}
-use Rattle.picky_ppk.specs.KeyLaws.{openssh_reads_back, putty_key_says}
+use Rattle.picky_ppk.proofs.MeaningLaws.{putty_meaning_says, putty_public_reads_back}
+use Rattle.picky_ppk.proofs.KeyLaws.{openssh_reads_back, putty_key_says}
 
 pub ruleset meaning_laws = (putty_meaning_says, putty_public_reads_back)
 

@@ -3,3 +3,10 @@ pub mod BodyLemmas
 pub mod HeaderLemmas
 pub mod PuttyLemmas
 pub mod LawLemmas
+pub mod BodyLaws
+pub mod CommentLaws
+pub mod KeyLaws
+pub mod LineBytes
+pub mod MeaningLaws
+pub mod PuttyLaws
+pub mod QuoteMarks

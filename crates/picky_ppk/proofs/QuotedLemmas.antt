@@ -9,7 +9,7 @@ use Rattle.picky_text.specs.Lines.{HasNo}
 use Rattle.picky_text.proofs.UnquoteLemmas.{none_from_places}
 use Rattle.picky_ppk.specs.PuttyPublic.{comment_key}
 use Rattle.picky_ppk.specs.PuttyRefusal.{between_quotes, behind, quoted}
-use Rattle.picky_ppk.specs.CommentLaws.{behind_says, quoted_behind, between_quotes_of, nothing_without_quotes, nothing_with_one_quote}
+use Rattle.picky_ppk.proofs.CommentLaws.{behind_says, quoted_behind, between_quotes_of, nothing_without_quotes, nothing_with_one_quote}
 
 -- a line that doesn't begin with the key quotes nothing
 pub no_key : (line : List ℕ) → ((rest : List ℕ) → line ≢ comment_key ++ rest) → quoted line ≡ None

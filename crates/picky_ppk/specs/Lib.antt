@@ -1,9 +1,2 @@
 pub mod PuttyPublic
 pub mod PuttyRefusal
-pub mod QuoteMarks
-pub mod CommentLaws
-pub mod BodyLaws
-pub mod LineBytes
-pub mod PuttyLaws
-pub mod MeaningLaws
-pub mod KeyLaws

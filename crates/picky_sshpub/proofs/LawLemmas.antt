@@ -1,10 +1,10 @@
 -- What the laws state.
-use Rattle.picky_text.specs.WordLaws.{comment_is_text}
-use Rattle.picky_sshpub.specs.BlobLaws.{blob_spells}
-use Rattle.picky_sshpub.specs.BlobExact.{blob_exact}
-use Rattle.picky_sshpub.specs.Element.{blob_sound, blob_complete, blob_is_read_back}
-use Rattle.picky_sshpub.specs.LineLaws.{line_meaning_says, line_meaning_of, one_line_meaning, line_reads_back}
-use Rattle.picky_sshpub.specs.SourceLaws.{source_reads_back, source_means}
+use Rattle.picky_text.proofs.WordLaws.{comment_is_text}
+use Rattle.picky_sshpub.specs.carried.Blob.{blob_spells}
+use Rattle.picky_sshpub.proofs.BlobExact.{blob_exact}
+use Rattle.picky_sshpub.proofs.BlobLayout.{blob_sound, blob_complete, blob_is_read_back}
+use Rattle.picky_sshpub.proofs.LineLaws.{line_meaning_says, line_meaning_of, one_line_meaning, line_reads_back}
+use Rattle.picky_sshpub.proofs.SourceLaws.{source_reads_back, source_means}
 
 pub ruleset blob_laws = (blob_spells, blob_exact, blob_sound, blob_complete, blob_is_read_back)
 

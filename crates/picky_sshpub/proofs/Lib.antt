@@ -3,3 +3,11 @@ pub mod LineLemmas
 pub mod SourceLemmas
 pub mod LawLemmas
 pub mod ViewLemmas
+pub mod BlobExact
+pub mod BlobLaws
+pub mod ByteLaws
+pub mod CanonicalLaws
+pub mod BlobLayout
+pub mod KeyLaws
+pub mod LineLaws
+pub mod SourceLaws

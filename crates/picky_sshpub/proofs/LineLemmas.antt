@@ -1,8 +1,9 @@
 -- Lemmas on the words of a line.
 use Rattle.std.specs.Prelude.{◌≡◌, false, is_some, List, ℕ, IsUtf8}
 use Rattle.std.proofs.Common.{ap, sym, ◌∙◌, subst}
-use Rattle.picky_layout.specs.Table.{none_is_found}
-use Rattle.picky_keys.specs.Names.{key_types, key_is_name, kind_name_utf8}
+use Rattle.picky_layout.proofs.Table.{none_is_found}
+use Rattle.picky_keys.specs.NameTables.{key_types}
+use Rattle.picky_keys.proofs.Names.{key_is_name, kind_name_utf8}
 use Rattle.picky_sshpub.specs.LineRefusal.{is_key_type}
 
 -- bytes that aren't UTF-8 are no name

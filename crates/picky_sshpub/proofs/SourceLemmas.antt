@@ -7,7 +7,7 @@ use Rattle.std.proofs.lemmas.Bool.{lt-ltb, le-ltb, cases_lt}
 use Rattle.std.proofs.lemmas.List.{append-nil, append_assoc, drop_at, length-drop, length-take, length-append}
 use Rattle.picky_layout.specs.Outcome.{and_then, map_ok}
 use Rattle.picky_text.specs.Words.{ends_line, line_in_front}
-use Rattle.picky_text.specs.ListLaws.{cut_at_first, uncut, all_append}
+use Rattle.picky_text.proofs.ListLaws.{cut_at_first, uncut, all_append}
 use Rattle.picky_wire.specs.declared.error.WireError.TheVariants as wire
 use Rattle.picky_wire.specs.Count.{Rose}
 use Rattle.picky_wire.specs.declared.error.IoKind.TheVariants as kinds
@@ -19,9 +19,9 @@ use Rattle.picky_sshpub.specs.declared.error.SshPublicKeyError.TheVariants as er
 use Rattle.picky_sshpub.specs.FromWire.{public_key_error}
 use Rattle.picky_sshpub.specs.declared.key.SshPublicKey.{SshPublicKey}
 use Rattle.picky_sshpub.specs.LineRefusal.{is_short, line_meaning}
-use Rattle.picky_sshpub.specs.LineLaws.{chosen}
+use Rattle.picky_sshpub.proofs.LineLaws.{chosen}
 use Rattle.picky_sshpub.specs.SourceLine.{after_line, line_used, read_line, source_meaning}
-use Rattle.picky_sshpub.specs.SourceLaws.{Stays}
+use Rattle.picky_sshpub.specs.inner.SourceLine.{Stays}
 
 -- one more such byte
 pub stays_push : (bytes : List ℕ) (b : ℕ) → Stays bytes → ends_line b ≡ false → Stays (bytes ++ b ∷ [])

@@ -9,12 +9,15 @@ use Rattle.picky_layout.specs.Mpint.{mpint}
 use Rattle.picky_keys.specs.declared.kind.KeyKind.{KeyKind}
 use Rattle.picky_keys.specs.declared.kind.KeyKind.TheVariants as kinds
 use Rattle.picky_keys.specs.declared.curve.EdAlgorithm.TheVariants.{Ed25519}
-use Rattle.picky_keys.specs.Names.{key_types, kind_name, curve_key_type, ed_key_type, kind_name_spells}
+use Rattle.picky_keys.specs.NameTables.{key_types}
+use Rattle.picky_keys.specs.Names.{kind_name, curve_key_type, ed_key_type}
+use Rattle.picky_keys.proofs.Names.{kind_name_spells}
 use Rattle.picky_wire.specs.declared.error.WireError.TheVariants as wire
 use Rattle.picky_wire.specs.declared.error.IoKind.TheVariants as kinds_io
 use Rattle.picky_wire.specs.declared.stop.Stop.{Stop}
 use Rattle.picky_wire.specs.declared.stop.Stop.TheVariants as stops
-use Rattle.picky_wire.specs.Flaws.{wire_error, stop_of}
+use Rattle.picky_wire.specs.Flaws.{wire_error}
+use Rattle.picky_wire.specs.inner.Stop.{stop_of}
 use Rattle.picky_wire.specs.Takes.{HasCause, Refuses, causes_of}
 use Rattle.picky_wire.proofs.CauseLemmas.{mpint_is_too_long}
 use Rattle.picky_wire.proofs.StopLemmas.{SaysStops}

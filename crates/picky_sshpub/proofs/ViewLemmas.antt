@@ -2,7 +2,8 @@
 use Rattle.std.proofs.Common.{◌≡◌, ◌≢◌, ℕ, List, drop, ap, subst, Result, Ok, Err}
 use Rattle.std.specs.Prelude.{IfOk}
 use Rattle.picky_layout.specs.Flaw.{Why, Reason}
-use Rattle.picky_layout.specs.Numbers.{IsBytes, bytes_in_front}
+use Rattle.picky_layout.specs.Numbers.{IsBytes}
+use Rattle.picky_layout.proofs.Numbers.{bytes_in_front}
 use Rattle.picky_layout.specs.Outcome.{and_then, map_err}
 use Rattle.picky_wire.specs.declared.view.Stuck.{Stuck}
 use Rattle.picky_wire.specs.declared.view.Stuck.TheVariants as stucks
@@ -10,7 +11,7 @@ use Rattle.picky_wire.specs.View.{Seen, end_of, why_of, why_in}
 use Rattle.picky_sshpub.specs.declared.key.SshBasePublicKey.{SshBasePublicKey}
 use Rattle.picky_sshpub.specs.declared.view.PublicView.{PublicView}
 use Rattle.picky_sshpub.specs.Key.{IsKey}
-use Rattle.picky_sshpub.specs.KeyLaws.{spelled_is_key}
+use Rattle.picky_sshpub.proofs.KeyLaws.{spelled_is_key}
 use Rattle.picky_sshpub.specs.Blob.{blob, key_type}
 use Rattle.picky_wire.specs.declared.error.IoKind.TheVariants as kinds
 use Rattle.picky_sshpub.specs.declared.error.SshPublicKeyError.TheVariants as errors

@@ -12,7 +12,8 @@ use Rattle.picky_keys.specs.declared.curve.EcCurve.{EcCurve}
 use Rattle.picky_keys.specs.declared.curve.EcCurve.TheVariants.{NistP256}
 use Rattle.picky_keys.specs.declared.kind.KeyKind.{KeyKind}
 use Rattle.picky_keys.specs.declared.kind.KeyKind.TheVariants as kinds
-use Rattle.picky_keys.specs.Names.{key_types, kind_name, curve_identifier}
+use Rattle.picky_keys.specs.NameTables.{key_types}
+use Rattle.picky_keys.specs.Names.{kind_name, curve_identifier}
 use Rattle.picky_sshpub.specs.declared.key.SshBasePublicKey.{SshBasePublicKey}
 use Rattle.picky_sshpub.specs.declared.key.SshBasePublicKey.TheVariants as keys
 use Rattle.picky_sshpub.specs.Key.{kind_of}

@@ -1,13 +1,15 @@
 -- A public key line (sshd(8), "AUTHORIZED_KEYS FILE FORMAT"): a key type, the key's blob in base64, a comment.
 use Rattle.std.specs.Prelude.{◌≡◌, List, [], ◌∷◌, ◌++◌, ℕ, ◌<◌, ◌^◌, length, IsUtf8}
+use Rattle.std.specs.Str.{trim_end}
 use Rattle.picky_layout.specs.Numbers.{IsBytes}
 use Rattle.picky_layout.specs.Grammar.{Fits}
 use Rattle.picky_text.specs.Base64.{base64_of}
 use Rattle.picky_text.specs.Words.{first_word, body_word, line_in_front, after_body, comment_of}
+use Rattle.picky_text.specs.Lines.{HasNo}
 use Rattle.picky_keys.specs.declared.kind.KeyKind.{KeyKind}
 use Rattle.picky_keys.specs.Names.{kind_name}
 use Rattle.picky_sshpub.specs.declared.key.SshPublicKey.{SshPublicKey}
-use Rattle.picky_sshpub.specs.Key.{kind_of}
+use Rattle.picky_sshpub.specs.Key.{kind_of, IsKey}
 use Rattle.picky_sshpub.specs.Blob.{blob, blob_of}
 
 -- line = name SP base64 [SP comment], where the name is one of the seven and says nothing more,
@@ -35,3 +37,14 @@ line_body key = base64_of (blob_of key.inner_key)
 -- line = name SP base64 SP comment CR LF
 unfoldable pub line_of : SshPublicKey → List ℕ
 line_of key = line_name key ++ 32 ∷ line_body key ++ 32 ∷ key.comment ++ 13 ∷ 10 ∷ []
+
+-- ---- what is written is read back
+
+-- a key whose line is read back: its comment is text with no CR, LF and white space at its end
+pub record IsKept (key : SshPublicKey) : Type 0 where
+  pub is_key : IsKey key.inner_key
+  pub no_cr : HasNo 13 key.comment
+  pub no_lf : HasNo 10 key.comment
+  pub trimmed : trim_end key.comment ≡ key.comment
+  pub utf8 : IsUtf8 key.comment
+  pub short : length (line_of key) < 2 ^ 32

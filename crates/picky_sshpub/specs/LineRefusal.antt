@@ -1,12 +1,12 @@
 -- The order in which a public key line is refused: its name, its lengths, its body, its blob by field.
-use Rattle.std.specs.Prelude.{◌^◌, ◌&&◌, Bool, true, List, ℕ, length, nat_lt}
-use Rattle.std.specs.Prelude.{Option, Some, None, Result, Ok, Err, if◌then◌else◌, is_some}
+use Rattle.std.specs.Prelude.{◌^◌, ◌&&◌, Bool, true, List, ℕ, length, nat_lt, Option, Some, None, Result, Ok}
+use Rattle.std.specs.Prelude.{Err, if◌then◌else◌, is_some}
 use Rattle.std.specs.Option.{ok_or}
 use Rattle.picky_layout.specs.Outcome.{and_then}
 use Rattle.picky_layout.specs.Table.{find_entry}
 use Rattle.picky_text.specs.Base64.{decoded}
 use Rattle.picky_text.specs.Words.{first_word, body_word, after_body, rest_text}
-use Rattle.picky_keys.specs.Names.{key_types}
+use Rattle.picky_keys.specs.NameTables.{key_types}
 use Rattle.picky_sshpub.specs.declared.error.SshPublicKeyError.{SshPublicKeyError}
 use Rattle.picky_sshpub.specs.declared.error.SshPublicKeyError.TheVariants as errors
 use Rattle.picky_sshpub.specs.declared.key.SshBasePublicKey.{SshBasePublicKey}

@@ -2,7 +2,8 @@
 
 ghost use Rattle.std.specs.Prelude.{◌≡◌, ◌≢◌, ◌^◌, ◌<◌, None, length, refl};
 ghost use Rattle.std.specs.List.{concat};
-ghost use Rattle.picky_wire.specs.Flaws.{TakesLayout, stop_of};
+ghost use Rattle.picky_wire.specs.Flaws.{TakesLayout};
+ghost use Rattle.picky_wire.specs.inner.Stop.{stop_of};
 ghost use Rattle.picky_sshpub.specs.Blob.{rsa_fields, ec_fields, ed_fields, sk_ecdsa_fields, sk_ed_fields, fields_of, blob, blob_of};
 ghost use Rattle.picky_sshpub.specs.Key.{IsKey};
 ghost use Rattle.picky_sshpub.specs.BlobRefusal.{read_blob};
@@ -144,7 +145,7 @@ impl SshComplexTypeEncode for SshBasePublicKey {
 }
 
 impl SshComplexTypeDecode for SshBasePublicKey {
-    ghost use Rattle.picky_sshpub.specs.Element.{blob_own};
+    ghost use Rattle.picky_sshpub.specs.carried.BlobLayout.{blob_own};
 
     type Error = SshPublicKeyError;
 
@@ -167,7 +168,8 @@ impl SshComplexTypeDecode for SshBasePublicKey {
 }
 
 impl SshLayout for SshBasePublicKey {
-    ghost use Rattle.picky_sshpub.specs.Element.{blob_layout, blob_reads_layout, blob_solid};
+    ghost use Rattle.picky_sshpub.specs.BlobLayout.{blob_layout};
+    ghost use Rattle.picky_sshpub.specs.carried.BlobLayout.{blob_reads_layout, blob_solid};
 
     ghost layout = { blob_layout };
 
@@ -183,7 +185,7 @@ impl SshLayout for SshBasePublicKey {
 }
 
 impl SshElement for SshBasePublicKey {
-    ghost use Rattle.picky_sshpub.specs.BlobLaws.{blob_spells};
+    ghost use Rattle.picky_sshpub.specs.carried.Blob.{blob_spells};
 
     ghost spelled = { λ key is _. blob_spells key is };
 }

@@ -49,7 +49,8 @@ impl From<WireError> for SshPublicKeyError {
 
 impl CodecError for SshPublicKeyError {
     ghost use Rattle.std.specs.Prelude.{◌≡◌};
-    ghost use Rattle.picky_sshpub.specs.FromWire.{public_key_error, errors_stay_apart};
+    ghost use Rattle.picky_sshpub.specs.FromWire.{public_key_error};
+    ghost use Rattle.picky_sshpub.specs.carried.FromWire.{errors_stay_apart};
 
     ghost of_wire = { public_key_error };
 

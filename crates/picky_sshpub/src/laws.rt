@@ -10,11 +10,11 @@ ghost use Rattle.picky_sshpub.specs.declared.key.SshBasePublicKey.{SshBasePublic
 ghost use Rattle.picky_sshpub.specs.declared.key.SshPublicKey.{SshPublicKey as Key};
 ghost use Rattle.picky_sshpub.specs.Key.{IsKey};
 ghost use Rattle.picky_sshpub.specs.Blob.{blob, blob_of};
-ghost use Rattle.picky_sshpub.specs.BlobExact.{BlobSpelled};
+ghost use Rattle.picky_sshpub.specs.BlobSpelled.{BlobSpelled};
 ghost use Rattle.picky_sshpub.specs.BlobRefusal.{read_blob};
 ghost use Rattle.picky_sshpub.specs.Line.{IsPublicLine, line_of};
 ghost use Rattle.picky_sshpub.specs.LineRefusal.{line_meaning, line_text};
-ghost use Rattle.picky_sshpub.specs.LineLaws.{IsKept};
+ghost use Rattle.picky_sshpub.specs.Line.{IsKept};
 ghost use Rattle.picky_sshpub.specs.SourceLine.{after_line, source_meaning};
 
 use crate::error::SshPublicKeyError;

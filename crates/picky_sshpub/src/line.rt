@@ -28,7 +28,7 @@ impl SshPublicKey {
     ///
     /// `name SP base64 [SP comment]`, and what follows the line is ignored. The blob decides the kind.
     /// Refuses, in order: `UnknownKeyType`, `TooLong`, `Base64DecodeError`, the blob's.
-    #[tactic(auto, unfolding(crate::specs::LineRefusal::line_meaning), using(picky_text::specs::WordLaws::text_rests))]
+    #[tactic(auto, unfolding(crate::specs::LineRefusal::line_meaning), using(picky_text::proofs::WordLaws::text_rests))]
     pub fn from_str(alloc: Global, text: &str) -> Result<SshPublicKey, SshPublicKeyError>
         ensures { Gives SshPublicKeyError.NoMemory (λ key. key) result (line_meaning text.now) }
     {

@@ -1,7 +1,8 @@
 //! The fields of a blob, read from a source.
 
 ghost use Rattle.std.specs.Prelude.{◌≡◌, ◌==◌, length, Some, None, if◌then◌else◌};
-ghost use Rattle.picky_wire.specs.Flaws.{TakesLayout, stop_of};
+ghost use Rattle.picky_wire.specs.Flaws.{TakesLayout};
+ghost use Rattle.picky_wire.specs.inner.Stop.{stop_of};
 ghost use Rattle.picky_sshpub.specs.Blob.{key_type, ed_key};
 
 use picky_keys::KeyKind;

@@ -7,7 +7,7 @@ ghost use Rattle.picky_wire.specs.Count.{Keeps, Rose};
 ghost use Rattle.picky_wire.specs.Takes.{Takes, HasCause, causes_of};
 ghost use Rattle.picky_wire.specs.declared.error.IoKind.TheVariants as io_kinds;
 ghost use Rattle.picky_sshpub.specs.FromWire.{public_key_error};
-ghost use Rattle.picky_sshpub.specs.SourceLaws.{Stays};
+ghost use Rattle.picky_sshpub.specs.inner.SourceLine.{Stays};
 ghost use Rattle.picky_sshpub.specs.SourceLine.{after_line, line_used, read_line, source_meaning};
 
 use crate::error::SshPublicKeyError;
@@ -20,7 +20,7 @@ use std::alloc::Global;
 const LINE_LIMIT: usize = 1 << 32;
 
 impl SshComplexTypeDecode for SshPublicKey {
-    ghost use Rattle.picky_sshpub.specs.LineOwn.{source_own};
+    ghost use Rattle.picky_sshpub.specs.carried.SourceLine.{source_own};
 
     type Error = SshPublicKeyError;
 

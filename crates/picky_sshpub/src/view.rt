@@ -221,7 +221,7 @@ fn ed_key_at<'a>(blob: &'a [u8], from: usize) -> Result<(Part<'a>, usize), Stuck
     }
 }
 
-#[tactic(auto, using(picky_layout::specs::Zeros::all_is_kept))]
+#[tactic(auto, using(picky_layout::specs::carried::Zeros::all_is_kept))]
 fn mpint_of(alloc: Global, part: &Part<'_>) -> Result<Mpint, NoMemory>
     requires { IsNumber part.now.bytes.now }
     ensures { IfOk result (λ number. number ≡ part.now.bytes.now) }

@@ -1,6 +1,5 @@
 -- HMAC, after RFC 2104, section 2, over a digest h that works on blocks of 64 bytes.
-use Rattle.std.specs.Prelude.{ℕ, ◌-◌, nat_lt, bit_xor, List, ◌++◌, length, map, replicate}
-use Rattle.std.specs.Prelude.{if◌then◌else◌}
+use Rattle.std.specs.Prelude.{ℕ, ◌-◌, nat_lt, bit_xor, List, ◌++◌, length, map, replicate, if◌then◌else◌}
 
 -- B, the bytes of a block
 abbrev pub block_len : ℕ

@@ -4,3 +4,9 @@ pub mod QuoteLemmas
 pub mod RowLemmas
 pub mod UnquoteLemmas
 pub mod LineLemmas
+pub mod Base64Laws
+pub mod LineLaws
+pub mod ListLaws
+pub mod QuoteLaws
+pub mod RowLaws
+pub mod WordLaws

@@ -17,8 +17,8 @@ use Rattle.std.specs.declared.str.Lines.{Lines}
 use Rattle.std.specs.declared.option.Option.{Option}
 use Rattle.std.specs.declared.option.Option.TheVariants.{None, Some}
 use Rattle.picky_text.specs.Lines.{HasNo, lines}
-use Rattle.picky_text.specs.ListLaws.{all_weaker}
-use Rattle.picky_text.specs.LineLaws.{first_line, kept_without_cr, cr_is_stripped}
+use Rattle.picky_text.proofs.ListLaws.{all_weaker}
+use Rattle.picky_text.proofs.LineLaws.{first_line, kept_without_cr, cr_is_stripped}
 
 no_newline : (bytes : List ℕ) → NoCharPasses is_newline bytes → HasNo 10 bytes
 no_newline bytes none =

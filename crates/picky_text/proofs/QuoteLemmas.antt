@@ -9,9 +9,9 @@ use Rattle.std.proofs.lemmas.Str.{IsUtf8-drop, IsCharBoundary-after_ascii}
 use Rattle.std.specs.List.{AllByRecursion, position, position_or_len}
 use Rattle.std.specs.Str.{IsUtf8, IsCharBoundary}
 use Rattle.std.specs.declared.option.Option.TheVariants.{None, Some}
-use Rattle.picky_text.specs.ListLaws.{none_before_first}
+use Rattle.picky_text.proofs.ListLaws.{none_before_first}
 use Rattle.picky_text.specs.Quote.{is_special, quote}
-use Rattle.picky_text.specs.QuoteLaws.{quote_at_special}
+use Rattle.picky_text.proofs.QuoteLaws.{quote_at_special}
 use Rattle.picky_text.proofs.SearchLemmas.{boundary_at_first, all_before_first}
 
 -- a backslash or a quote is ASCII

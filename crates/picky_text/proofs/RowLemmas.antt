@@ -7,7 +7,7 @@ use Rattle.std.proofs.lemmas.Bool.Decides.{nat_tests}
 use Rattle.std.specs.List.{flat_map}
 use Rattle.picky_text.specs.Lines.{text_of, end_of}
 use Rattle.picky_text.specs.Rows.{rows_of}
-use Rattle.picky_text.specs.RowLaws.{rows_more}
+use Rattle.picky_text.proofs.RowLaws.{rows_more}
 use Rattle.picky_text.specs.declared.lines.LineEnd.{LineEnd}
 
 -- the first row of a text, its end, and the text of the other rows

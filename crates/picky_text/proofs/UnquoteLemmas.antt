@@ -6,7 +6,8 @@ use Rattle.std.proofs.lemmas.List.{append_assoc, append-nil, get_or_default}
 use Rattle.std.proofs.lemmas.List.Elements.{recursion_from_All}
 use Rattle.picky_text.specs.Lines.{HasNo}
 use Rattle.picky_text.specs.Quote.{unquote}
-use Rattle.picky_text.specs.QuoteLaws.{unquote_plain, IsUnquotedAt}
+use Rattle.picky_text.proofs.QuoteLaws.{unquote_plain}
+use Rattle.picky_text.specs.inner.Quote.{IsUnquotedAt}
 
 -- a byte that is at no place stands nowhere
 pub none_from_places : (b : ℕ) (bytes : List ℕ)

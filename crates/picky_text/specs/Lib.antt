@@ -4,9 +4,4 @@ pub mod Rows
 pub mod Lines
 pub mod Quote
 pub mod Appended
-pub mod ListLaws
-pub mod Base64Laws
-pub mod WordLaws
-pub mod RowLaws
-pub mod LineLaws
-pub mod QuoteLaws
+pub mod inner

@@ -1,8 +1,10 @@
 -- The words of a public key line, as sshd(8) lays it out: a key type, the key in base64, a comment.
-use Rattle.std.specs.Prelude.{List, [], ℕ, Bool, ◌==◌, ◌||◌, slice_index, if◌then◌else◌}
-use Rattle.std.specs.Prelude.{Option, Some, None}
+use Rattle.std.proofs.Common.{◌≡◌, ℕ, List, ◌∷◌, ◌++◌}
+use Rattle.std.specs.Str.{trim_end, is_utf8}
+use Rattle.std.specs.Prelude.{List, [], ℕ, Bool, ◌==◌, ◌||◌, slice_index, if◌then◌else◌, Option, Some, None}
 use Rattle.std.specs.List.{before_first, after_first, position_or_len}
-use Rattle.std.specs.Str.{is_utf8, trim_end}
+use Rattle.picky_text.specs.Lines.{HasNo, end_of}
+use Rattle.picky_text.specs.declared.lines.LineEnd.{LineEnd}
 
 -- a word ends at a space, CR or LF, and a line at CR or LF
 abbrev pub ends_word : ℕ → Bool
@@ -43,3 +45,28 @@ after_body text = after_word (after_word text)
 -- the comment: the rest of the line after the second word
 abbrev pub comment_of : List ℕ → List ℕ
 comment_of text = rest_of_line (after_body text)
+
+-- the bytes may stand as a word: no space, CR and LF among them
+abbrev pub IsWord : List ℕ → Type 0
+IsWord bytes = (HasNo 32 bytes) × (HasNo 13 bytes) × (HasNo 10 bytes)
+
+-- what a key line is made of: two words, and a comment with no CR, LF and white space at its end
+pub record AreParts (name body comment : List ℕ) : Type 0 where
+  pub name_word : IsWord name
+  pub body_word : IsWord body
+  pub no_cr : HasNo 13 comment
+  pub no_lf : HasNo 10 comment
+  pub trimmed : trim_end comment ≡ comment
+
+-- what a line is read as
+pub record HasParts (line name body comment : List ℕ) : Type 0 where
+  pub name_is : first_word line ≡ name
+  pub body_is : body_word line ≡ body
+  pub line_is : line_in_front (after_body line) ≡ comment
+  pub comment_is : comment_of line ≡ comment
+
+-- the line of these parts, a space between them, is read as them, whatever ends and follows it
+abbrev pub IsRead : List ℕ → List ℕ → List ℕ → Type 0
+IsRead name body comment =
+    (end : LineEnd) (more : List ℕ)
+    → HasParts (name ++ 32 ∷ body ++ 32 ∷ comment ++ (end_of end ++ more)) name body comment

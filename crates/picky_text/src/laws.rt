@@ -5,36 +5,36 @@ ghost use Rattle.std.specs.List.{AllByRecursion};
 ghost use Rattle.std.specs.Str.{IsAscii, IsUtf8, trim_end};
 ghost use Rattle.base64.specs.GeneralPurpose.{IsBytes};
 ghost use Rattle.picky_text.specs.Base64.{base64_of, decoded};
-ghost use Rattle.picky_text.specs.Base64Laws.{is_base64_symbol as is_symbol, AreBase64Symbols};
+ghost use Rattle.picky_text.specs.Base64.{is_base64_symbol as is_symbol, AreBase64Symbols};
 ghost use Rattle.picky_text.specs.Lines.{HasNo, lines, text_of};
-ghost use Rattle.picky_text.specs.LineLaws.{AreLines, AreReadFirst};
+ghost use Rattle.picky_text.specs.Lines.{AreLines, AreReadFirst};
 ghost use Rattle.picky_text.specs.Quote.{quote, unquote};
 ghost use Rattle.picky_text.specs.Rows.{IsRowsOf, rows_of};
 ghost use Rattle.picky_text.specs.declared.lines.LineEnd.{LineEnd as End};
 ghost use Rattle.picky_text.specs.Words.{first_word, after_word, line_in_front, rest_of_line};
-ghost use Rattle.picky_text.specs.WordLaws.{AreParts, IsRead, IsWord};
+ghost use Rattle.picky_text.specs.Words.{AreParts, IsRead, IsWord};
 
 /// Bytes are read back from their base64 text.
-#[tactic(auto, using(crate::specs::Base64Laws::base64_laws))]
+#[tactic(auto, using(crate::proofs::Base64Laws::base64_laws))]
 pub fn base64_is_read_back()
     ensures { (x : List ℕ) → IsBytes x → decoded (base64_of x) ≡ Some x }
 {}
 
 /// A text that is read as `x` is the base64 text of `x`, which are bytes: there is one spelling.
-#[tactic(auto, using(crate::specs::Base64Laws::base64_laws))]
+#[tactic(auto, using(crate::proofs::Base64Laws::base64_laws))]
 pub fn base64_has_one_spelling()
     ensures text { (body x : List ℕ) → IsBytes body → decoded body ≡ Some x → body ≡ base64_of x }
     ensures bytes { (body x : List ℕ) → IsBytes body → decoded body ≡ Some x → IsBytes x }
 {}
 
 /// Two lists of bytes with one base64 text are one list.
-#[tactic(auto, using(crate::specs::Base64Laws::base64_laws))]
+#[tactic(auto, using(crate::proofs::Base64Laws::base64_laws))]
 pub fn base64_is_injective()
     ensures { (x y : List ℕ) → IsBytes x → IsBytes y → base64_of x ≡ base64_of y → x ≡ y }
 {}
 
 /// A base64 text has letters, digits, `+`, `/` and `=` alone: so no LF, CR, dash or space.
-#[tactic(auto, using(crate::specs::Base64Laws::base64_laws))]
+#[tactic(auto, using(crate::proofs::Base64Laws::base64_laws))]
 pub fn base64_has_its_symbols_alone()
     ensures symbols { (x : List ℕ) → IsBytes x → AreBase64Symbols (base64_of x) }
     ensures other { (b : ℕ) (x : List ℕ) → IsBytes x → is_symbol b ≡ false → HasNo b (base64_of x) }
@@ -42,13 +42,13 @@ pub fn base64_has_its_symbols_alone()
 {}
 
 /// A base64 text may stand as a word of a key line.
-#[tactic(auto, using(crate::specs::WordLaws::word_laws))]
+#[tactic(auto, using(crate::proofs::WordLaws::word_laws))]
 pub fn base64_is_a_word()
     ensures { (x : List ℕ) → IsBytes x → IsWord (base64_of x) }
 {}
 
 /// The rest of a line of UTF-8 has no LF and no CR, and no white space is left at its end.
-#[tactic(auto, using(crate::specs::WordLaws::word_laws))]
+#[tactic(auto, using(crate::proofs::WordLaws::word_laws))]
 pub fn rest_of_line_is_one_line()
     ensures no_lf { (t : List ℕ) → IsUtf8 (line_in_front t) → HasNo 10 (rest_of_line t) }
     ensures no_cr { (t : List ℕ) → IsUtf8 (line_in_front t) → HasNo 13 (rest_of_line t) }
@@ -57,7 +57,7 @@ pub fn rest_of_line_is_one_line()
 {}
 
 /// Each part of a text is a text.
-#[tactic(auto, using(crate::specs::WordLaws::word_laws))]
+#[tactic(auto, using(crate::proofs::WordLaws::word_laws))]
 pub fn words_are_text()
     ensures first { (text : List ℕ) → IsUtf8 text → IsUtf8 (first_word text) }
     ensures after { (text : List ℕ) → IsUtf8 text → IsUtf8 (after_word text) }
@@ -71,7 +71,7 @@ pub fn key_line_is_read_back()
 {}
 
 /// The rows of a text, and no others, are of 64 characters, the last of one to 64, and join to it.
-#[tactic(auto, using(crate::specs::RowLaws::row_laws))]
+#[tactic(auto, using(crate::proofs::RowLaws::row_laws))]
 pub fn text_has_its_rows_alone()
     ensures rows { (text : List ℕ) → IsRowsOf text (rows_of text) }
     ensures one { (t : List ℕ) (xs ys : List (List ℕ)) → IsRowsOf t xs → IsRowsOf t ys → xs ≡ ys }
@@ -79,14 +79,14 @@ pub fn text_has_its_rows_alone()
 {}
 
 /// Lines that are written are read back, whatever follows.
-#[tactic(auto, using(crate::specs::LineLaws::line_laws))]
+#[tactic(auto, using(crate::proofs::LineLaws::line_laws))]
 pub fn lines_are_read_back()
     ensures alone { (e : End) (ls : List (List ℕ)) → AreLines e ls → lines (text_of e ls) ≡ ls }
     ensures first { (e : End) (ls : List (List ℕ)) → AreLines e ls → AreReadFirst e ls }
 {}
 
 /// What was quoted is read back, and quoting adds backslashes alone: so no LF and no CR.
-#[tactic(auto, using(crate::specs::QuoteLaws::quote_laws))]
+#[tactic(auto, using(crate::proofs::QuoteLaws::quote_laws))]
 pub fn quote_is_read_back()
     ensures back { (x : List ℕ) → unquote (quote x) ≡ x }
     ensures has_no { (b : ℕ) (x : List ℕ) → b ≢ 92 → HasNo b x → HasNo b (quote x) }

@@ -5,7 +5,7 @@ ghost use Rattle.std.specs.Prelude.{string_bytes};
 ghost use Rattle.std.specs.List.{position};
 ghost use Rattle.picky_text.specs.Appended.{AppendsAll, AppendsFront};
 ghost use Rattle.picky_text.specs.Quote.{is_special, quote, unquote};
-ghost use Rattle.picky_text.specs.QuoteLaws.{IsQuotedAt, IsUnquotedAt};
+ghost use Rattle.picky_text.specs.inner.Quote.{IsQuotedAt, IsUnquotedAt};
 
 use memchr::memchr2;
 use std::alloc::{AllocError, Global};

@@ -23,7 +23,7 @@ pub fn split_word(bytes: &[u8]) -> (&[u8], &[u8])
 }
 
 /// The longest front without CR and LF, less the white space at its end, where it is UTF-8.
-#[tactic(auto, unfolding(crate::specs::Words::rest_of_line), using(crate::specs::WordLaws::rest_texts))]
+#[tactic(auto, unfolding(crate::specs::Words::rest_of_line), using(crate::proofs::WordLaws::rest_texts))]
 pub fn rest_of_line(bytes: &[u8]) -> Option<&str>
     ensures none { IfNone result (rest_text bytes.now ≡ None) }
     ensures some { IfSome result (λ rest. rest_text bytes.now ≡ Some rest.now) }
@@ -36,7 +36,7 @@ pub fn rest_of_line(bytes: &[u8]) -> Option<&str>
 }
 
 /// The same of a text from a place on, whose bytes need not be looked at again.
-#[tactic(auto, unfolding(crate::specs::Words::rest_of_line), using(crate::specs::WordLaws::line_ends_at_boundary))]
+#[tactic(auto, unfolding(crate::specs::Words::rest_of_line), using(crate::proofs::WordLaws::line_ends_at_boundary))]
 pub fn rest_of_text(text: &str, from: usize) -> &str
     requires { IsCharBoundary text.now from }
     ensures { result.now ≡ rest_of (drop from text.now) }

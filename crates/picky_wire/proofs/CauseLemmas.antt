@@ -6,12 +6,15 @@ use Rattle.std.specs.Str.{is_utf8, chars}
 use Rattle.std.specs.Prelude.{◌++◌, replicate, if◌then◌else◌}
 use Rattle.picky_layout.specs.Flaw.{Flaw, Big}
 use Rattle.picky_layout.specs.Outcome.{map_err, and_then}
-use Rattle.picky_layout.specs.Combine.{tag, meant}
+use Rattle.picky_layout.specs.Combine.{tag}
+use Rattle.picky_layout.specs.Narrowed.{meant}
 use Rattle.picky_layout.specs.Numbers.{uint64}
 use Rattle.picky_layout.specs.Wire.{cells, uint32, string, string_of, text}
-use Rattle.picky_layout.specs.Strings.{string_reads_back, text_stuck}
-use Rattle.picky_layout.specs.Zeros.{without_zeros, all_is_kept, BeginsWithNoZero}
-use Rattle.picky_layout.specs.Mpint.{mpint, as_mpint, read_mpint}
+use Rattle.picky_layout.proofs.Strings.{string_reads_back, text_stuck}
+use Rattle.picky_layout.specs.Zeros.{without_zeros, BeginsWithNoZero}
+use Rattle.picky_layout.specs.carried.Zeros.{all_is_kept}
+use Rattle.picky_layout.specs.Mpint.{mpint, as_mpint}
+use Rattle.picky_layout.specs.Magnitude.{read_mpint}
 use Rattle.picky_wire.specs.declared.error.WireError.{WireError}
 use Rattle.picky_wire.specs.declared.error.WireError.TheVariants as errors
 use Rattle.picky_wire.specs.Flaws.{wire_error, wire_causes}

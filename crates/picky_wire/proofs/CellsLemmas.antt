@@ -1,9 +1,10 @@
 -- Lemmas on reading so many bytes: what each answer takes of the source.
-use Rattle.std.proofs.Common.{◌≡◌, ℕ, ◌+◌, ◌≤◌, ◌<◌, List, ◌++◌, length, min, sym, ap, ◌∙◌, arith, refl, Result, Ok, Err}
+use Rattle.std.proofs.Common.{◌≡◌, ℕ, ◌+◌, ◌≤◌, ◌<◌, List, ◌++◌, length, sym, ap, ◌∙◌, arith, refl, Result, Ok, Err}
 use Rattle.std.proofs.lemmas.List.{length-append, append_assoc}
 use Rattle.std.specs.Prelude.{Option, IsSome}
 use Rattle.picky_layout.specs.Flaw.{Flaw}
-use Rattle.picky_layout.specs.Outcome.{map_err, map_err_ok}
+use Rattle.picky_layout.specs.Outcome.{map_err}
+use Rattle.picky_layout.specs.carried.Outcome.{map_err_ok}
 use Rattle.picky_layout.specs.Wire.{cells}
 use Rattle.picky_wire.specs.declared.error.WireError.{WireError}
 use Rattle.picky_wire.specs.declared.error.WireError.TheVariants as errors

@@ -7,7 +7,6 @@ use Rattle.picky_layout.specs.Combine.{tag}
 use Rattle.picky_layout.specs.Outcome.{map_err}
 use Rattle.picky_wire.specs.declared.error.WireError.{WireError}
 use Rattle.picky_wire.specs.declared.error.WireError.TheVariants as errors
-use Rattle.picky_wire.specs.declared.stop.Stop.TheVariants as stops
 use Rattle.picky_wire.specs.Flaws.{wire_error, wire_causes, flaw_stop, wire_stop, stop_causes, StopHasCause, StopIsShort, StopsUnread}
 use Rattle.picky_wire.specs.Takes.{HasCause, StopsShort}
 use Rattle.picky_wire.specs.Unread.{LeavesUnread, Unread}

@@ -11,3 +11,4 @@ pub mod WriteLemmas
 pub mod ThenLemmas
 pub mod ListLemmas
 mod FieldLemmas
+pub mod ReadingLaws

@@ -9,12 +9,15 @@ use Rattle.std.specs.List.{All, concat, flat_map}
 use Rattle.std.specs.Prelude.{Option, Some, None, IfErr, MatchOption}
 use Rattle.picky_layout.specs.Flaw.{Flaw}
 use Rattle.picky_layout.specs.Grammar.{Grammar}
-use Rattle.picky_layout.specs.Short.{EndsInString, string_refused}
-use Rattle.picky_layout.specs.Row.{Row, row_spells, read_all}
-use Rattle.picky_layout.specs.Steps.{following, taking_refused}
-use Rattle.picky_layout.specs.Outcome.{map_err, map_err_ok}
+use Rattle.picky_layout.specs.Short.{EndsInString}
+use Rattle.picky_layout.proofs.Short.{string_refused}
+use Rattle.picky_layout.specs.Row.{Row, read_all}
+use Rattle.picky_layout.proofs.Row.{row_spells}
+use Rattle.picky_layout.proofs.Steps.{following, taking_refused}
+use Rattle.picky_layout.specs.Outcome.{map_err}
+use Rattle.picky_layout.specs.carried.Outcome.{map_err_ok}
 use Rattle.picky_layout.specs.Many.{read_many}
-use Rattle.picky_layout.specs.Strings.{string_reads_back}
+use Rattle.picky_layout.proofs.Strings.{string_reads_back}
 use Rattle.picky_layout.specs.Wire.{string, string_of}
 use Rattle.picky_wire.specs.declared.error.WireError.{WireError}
 use Rattle.picky_wire.specs.declared.error.WireError.TheVariants as errors

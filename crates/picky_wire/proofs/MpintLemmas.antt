@@ -2,8 +2,10 @@
 use Rattle.std.proofs.Common.{◌≡◌, ℕ, ◌≤◌, ◌<◌, ◌^◌, ◌-◌, List, ◌++◌, length, take, drop, replicate, sym, ap, ◌∙◌, arith, subst}
 use Rattle.std.proofs.Math.Seq.{take-append_seam, drop-append_seam}
 use Rattle.std.proofs.lemmas.List.{length-append}
-use Rattle.picky_layout.specs.Zeros.{without_zeros, zeros_in_front, no_zero_begins, length_with_zeros}
-use Rattle.picky_layout.specs.Mpint.{IsMpint}
+use Rattle.picky_layout.specs.Zeros.{without_zeros}
+use Rattle.picky_layout.specs.carried.Zeros.{zeros_in_front, no_zero_begins}
+use Rattle.picky_layout.proofs.Zeros.{length_with_zeros}
+use Rattle.picky_layout.specs.Magnitude.{IsMpint}
 
 -- no more bytes are kept than there are
 pub kept_within : (v w : List ℕ) → w ≡ without_zeros v → length w ≤ length v

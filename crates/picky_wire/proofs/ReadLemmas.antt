@@ -3,8 +3,9 @@ use Rattle.std.proofs.Common.{◌≡◌, ℕ, ◌+◌, ◌-◌, ◌≤◌, ◌<�
 use Rattle.std.proofs.lemmas.List.{take_at, drop_at, length-append, length-drop, length-take-le, take-append-le, take_all, append_assoc}
 use Rattle.std.proofs.Math.Seq.{take-add}
 use Rattle.picky_layout.specs.Flaw.{Flaw, Short}
-use Rattle.picky_layout.specs.Wire.{cells, read_cells}
-use Rattle.picky_layout.specs.Short.{cells_short, cells_refused}
+use Rattle.picky_layout.specs.Wire.{cells}
+use Rattle.picky_layout.specs.Cells.{read_cells}
+use Rattle.picky_layout.proofs.Short.{cells_short, cells_refused}
 
 -- a front of the right length is read
 pub cells-read : (n : ℕ) (v rest bytes : List ℕ) → length v ≡ n → bytes ≡ v ++ rest

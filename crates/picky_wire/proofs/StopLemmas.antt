@@ -9,7 +9,8 @@ use Rattle.picky_wire.specs.declared.error.WireError.{WireError}
 use Rattle.picky_wire.specs.declared.error.WireError.TheVariants as errors
 use Rattle.picky_wire.specs.declared.stop.Stop.{Stop}
 use Rattle.picky_wire.specs.declared.stop.Stop.TheVariants as stops
-use Rattle.picky_wire.specs.Flaws.{TakesLayout, stop_of}
+use Rattle.picky_wire.specs.Flaws.{TakesLayout}
+use Rattle.picky_wire.specs.inner.Stop.{stop_of}
 use Rattle.picky_wire.specs.Takes.{Takes, causes_of}
 
 -- a layer's error for each stop: its reasons go through their stops, and the wire's errors and no others

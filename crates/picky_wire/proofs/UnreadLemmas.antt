@@ -4,8 +4,10 @@ use Rattle.std.proofs.lemmas.List.{length-drop, take_at, drop_at}
 use Rattle.std.specs.Int.{w32, from_be_bytes}
 use Rattle.std.specs.Prelude.{take, Option, Some, None, IsSome, IfSome}
 use Rattle.picky_layout.specs.Flaw.{Flaw}
-use Rattle.picky_layout.specs.Outcome.{map_err, map_err_ok, and_then, and_then_ok, same_pair}
-use Rattle.picky_layout.specs.Combine.{each, meant}
+use Rattle.picky_layout.specs.Outcome.{map_err, and_then}
+use Rattle.picky_layout.specs.carried.Outcome.{map_err_ok, and_then_ok, same_pair}
+use Rattle.picky_layout.specs.Combine.{each}
+use Rattle.picky_layout.specs.Narrowed.{meant}
 use Rattle.picky_layout.specs.Wire.{cells, uint32}
 use Rattle.picky_layout.specs.Short.{EndsInString}
 use Rattle.picky_wire.specs.declared.error.WireError.{WireError}

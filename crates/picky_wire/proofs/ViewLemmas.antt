@@ -7,9 +7,11 @@ use Rattle.std.proofs.lemmas.Str.{is_utf8-from_IsUtf8, IsUtf8-from_is_utf8}
 use Rattle.std.proofs.lemmas.List.{length-append, length-drop, length-take-le, take-append-drop, drop-drop, drop-take, drop_at}
 use Rattle.picky_layout.specs.Flaw.{Flaw, Flawed}
 use Rattle.picky_layout.specs.Outcome.{and_then, map_err}
-use Rattle.picky_layout.specs.Combine.{narrow, each, meant}
+use Rattle.picky_layout.specs.Combine.{narrow, each}
+use Rattle.picky_layout.specs.Narrowed.{meant}
 use Rattle.picky_layout.specs.Wire.{cells, uint32, string}
-use Rattle.picky_layout.specs.Zeros.{without_zeros, zeros_in_front}
+use Rattle.picky_layout.specs.Zeros.{without_zeros}
+use Rattle.picky_layout.specs.carried.Zeros.{zeros_in_front}
 use Rattle.picky_wire.specs.declared.view.Part.{Part}
 use Rattle.picky_wire.specs.declared.view.Stuck.TheVariants as stucks
 use Rattle.picky_wire.specs.View.{end_of, Seen, Lies, part_bytes}

@@ -1,11 +1,10 @@
 -- Lemmas on writing bytes in pieces.
-use Rattle.std.proofs.Common.{◌≡◌, ℕ, ◌<◌, ◌+◌, ◌-◌, List, ◌++◌, length, take, drop, sym, ap, ◌∙◌, arith, subst, Result, Ok, Err, inl, inr}
+use Rattle.std.proofs.Common.{◌≡◌, ℕ, ◌<◌, ◌+◌, ◌-◌, List, ◌++◌, length, take, drop, sym, ap, ◌∙◌, arith, subst, Result, Ok, Err}
 use Rattle.std.proofs.lemmas.List.{append_assoc, length-append, length-drop, take_all, take-append-le}
-use Rattle.std.proofs.Math.Seq.{take-add, take-append-add, take-append_seam}
-use Rattle.std.proofs.lemmas.Bool.{cases_lt}
+use Rattle.std.proofs.Math.Seq.{take-add, take-append-add}
 use Rattle.std.specs.Int.{w32, to_be_bytes}
 use Rattle.picky_layout.specs.Wire.{string_of}
-use Rattle.picky_layout.specs.Mpint.{mpint_of_high, mpint_of_low}
+use Rattle.picky_layout.proofs.Mpint.{mpint_of_high, mpint_of_low}
 use Rattle.std.specs.Prelude.{IfErr, OnOk}
 use Rattle.picky_wire.specs.Count.{Rose}
 use Rattle.picky_wire.specs.Puts.{Writes, Puts}

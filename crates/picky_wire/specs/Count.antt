@@ -1,5 +1,5 @@
 -- Counts of faults: numbers that never fall and stay at 2^64 - 1.
-use Rattle.std.specs.Prelude.{◌≡◌, ℕ, ◌+◌, ◌-◌, ◌^◌, ◌≤◌, ◌==◌, Bool, List, min, Result, OnOk, OnErr}
+use Rattle.std.specs.Prelude.{◌≡◌, ℕ, ◌+◌, ◌-◌, ◌^◌, ◌==◌, Bool, List, min, Result, OnOk, OnErr}
 use Rattle.std.specs.List.{list_any}
 
 -- the count after one more

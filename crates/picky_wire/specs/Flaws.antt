@@ -1,7 +1,6 @@
 -- What is wrong with a field or a layout, as the errors of the calls that read it.
-use Rattle.std.specs.Prelude.{◌≡◌, ◌≢◌, ℕ, List, Option, Result, Ok, Err}
-use Rattle.picky_layout.specs.Outcome.{map_err}
-use Rattle.picky_layout.specs.Flaw.{Flaw, Short, NotUtf8, Big, Why, Reason, Flawed, Length, Magic, Name, Number}
+use Rattle.std.specs.Prelude.{ℕ, List, Option, Result}
+use Rattle.picky_layout.specs.Flaw.{Flaw, Short, NotUtf8, Big}
 use Rattle.picky_layout.specs.Grammar.{Grammar}
 use Rattle.picky_layout.specs.Combine.{tag}
 use Rattle.picky_wire.specs.declared.error.WireError.{WireError}
@@ -16,14 +15,6 @@ abbrev pub wire_error : Flaw → WireError
 wire_error Short = errors.UnexpectedEnd
 wire_error NotUtf8 = errors.InvalidUtf8
 wire_error Big = errors.TooLong
-
--- No flaw is a fault or want of memory.
-pub wire_own : {A : Type 0} (r : Result (A × List ℕ) Flaw) (e : WireError) → map_err wire_error r ≡ Err e
-    → (e ≢ errors.ReadFault) × (e ≢ errors.NoMemory)
-wire_own (Ok found) e is = cc is
-wire_own (Err Short) e is = (λ other. cc (is, other), λ other. cc (is, other))
-wire_own (Err NotUtf8) e is = (λ other. cc (is, other), λ other. cc (is, other))
-wire_own (Err Big) e is = (λ other. cc (is, other), λ other. cc (is, other))
 
 abbrev pub wire_causes : Causes WireError
 wire_causes = causes_of (λ e. e)
@@ -41,16 +32,6 @@ abbrev pub flaw_stop : Flaw → Stop
 flaw_stop Short = stops.Short
 flaw_stop NotUtf8 = stops.NotUtf8
 flaw_stop Big = stops.TooLong
-
-abbrev pub why_stop : Why → Stop
-why_stop (Flawed flaw) = flaw_stop flaw
-why_stop Length = stops.Length
-why_stop Magic = stops.Magic
-why_stop (Name name) = stops.Name
-why_stop (Number n) = stops.Number
-
-abbrev pub stop_of : Reason → Stop
-stop_of reason = why_stop reason.1
 
 abbrev pub stop_causes : Causes Stop
 stop_causes = record { fault = stops.Fault; no_memory = stops.NoMemory; short = stops.Short }

@@ -9,5 +9,7 @@ pub mod Unread
 pub mod Flaws
 pub mod Moment
 pub mod Principals
-pub mod Laws
 pub mod View
+pub mod Reading
+pub mod carried
+pub mod inner

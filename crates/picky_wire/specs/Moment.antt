@@ -1,18 +1,11 @@
 -- A moment on the wire: a uint64 of seconds (PROTOCOL.certkeys, "valid after").
-use Rattle.std.specs.Prelude.{◌≡◌, ◌≢◌, List, ℕ, ◌<◌, ◌^◌, Result, Ok, Err}
-use Rattle.std.specs.Int.{w64, to_be_bytes}
-use Rattle.std.proofs.Common.{ap, refl}
-use Rattle.picky_layout.specs.Outcome.{and_then, map_err}
+use Rattle.std.specs.Prelude.{ℕ}
 use Rattle.picky_layout.specs.Grammar.{Grammar}
-use Rattle.picky_layout.specs.Combine.{narrow, each, meant, tag}
-use Rattle.picky_layout.specs.Numbers.{uint64, uint64_spells}
-use Rattle.picky_layout.specs.Row.{Solid}
-use Rattle.picky_layout.specs.Solid.{refuses_empty}
-use Rattle.picky_layout.specs.Wire.{cells}
+use Rattle.picky_layout.specs.Combine.{narrow, each, tag}
+use Rattle.picky_layout.specs.Numbers.{uint64}
 use Rattle.picky_wire.specs.declared.error.WireError.{WireError}
-use Rattle.picky_wire.specs.declared.error.WireError.TheVariants as errors
 use Rattle.picky_wire.specs.declared.timestamp.Timestamp.{Timestamp}
-use Rattle.picky_wire.specs.Flaws.{wire_error, wire_own}
+use Rattle.picky_wire.specs.Flaws.{wire_error}
 
 -- the moment after so many seconds
 abbrev pub moment : ℕ → Timestamp
@@ -20,26 +13,3 @@ moment secs = record { 0 = secs }
 
 unfoldable pub timestamp : Grammar WireError Timestamp
 timestamp = narrow (tag wire_error uint64) (each moment)
-
--- A moment is spelled by its eight bytes.
-pub timestamp_spells : (t : Timestamp) → t.0 < 2 ^ 64 → timestamp.piece t (to_be_bytes w64 t.0)
-unfolding timestamp
-timestamp_spells t small = (t.0, uint64_spells t.0 small, refl)
-
--- What is read as another value is refused as it is.
-each_refused : {A B E : Type 0} (r : Result (A × List ℕ) E) (f : A → B) (e : E)
-    → and_then r (meant (each f)) ≡ Err e → r ≡ Err e
-each_refused (Ok found) f e refused = cc refused
-each_refused (Err g) f e refused = ap Err (cc refused)
-
--- Each piece has at least one byte.
-pub timestamp_solid : Solid timestamp.piece
-unfolding timestamp uint64 cells
-timestamp_solid = refuses_empty timestamp errors.UnexpectedEnd refl
-
--- No bytes are refused for a fault or for want of memory.
-pub timestamp_own : (bytes : List ℕ) (e : WireError) → timestamp.read bytes ≡ Err e
-    → (e ≢ errors.ReadFault) × (e ≢ errors.NoMemory)
-unfolding timestamp
-timestamp_own bytes e refused =
-    wire_own (uint64.read bytes) e (each_refused (map_err wire_error (uint64.read bytes)) moment e refused)

@@ -1,5 +1,5 @@
 -- What a call that writes to a sink answers, and what it leaves.
-use Rattle.std.specs.Prelude.{◌≡◌, ◌≤◌, ◌<◌, ◌++◌, ℕ, List, take, length, Result, Ok, Err, IfErr, OnOk}
+use Rattle.std.specs.Prelude.{◌≡◌, ◌<◌, ◌++◌, ℕ, List, take, length, Result, Ok, Err, IfErr, OnOk}
 use Rattle.picky_wire.specs.Count.{Rose}
 
 -- the whole piece was appended; or, for an error, a front of it and not the whole

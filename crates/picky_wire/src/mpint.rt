@@ -4,7 +4,7 @@ ghost use Rattle.std.specs.Prelude.{◌≡◌, ◌^◌, ◌-◌, ◌<◌, ◌≤
 ghost use Rattle.std.specs.Cmp.{partial_equiv_from_equiv};
 ghost use Rattle.std.specs.Cmp.Lexicographic.{pointwise, nat_list_eq_equiv};
 ghost use Rattle.picky_layout.specs.Zeros.{without_zeros};
-ghost use Rattle.picky_layout.specs.Mpint.{IsMpint};
+ghost use Rattle.picky_layout.specs.Magnitude.{IsMpint};
 
 use crate::copy::TryClone;
 use crate::error::{NoMemory, SizeError};

@@ -5,7 +5,8 @@ ghost use Rattle.std.specs.Int.{w8, w32, w64, to_be_bytes};
 ghost use Rattle.std.specs.List.{concat};
 ghost use Rattle.picky_layout.specs.Numbers.{IsBytes};
 ghost use Rattle.picky_layout.specs.Wire.{string_of};
-ghost use Rattle.picky_layout.specs.Mpint.{IsMpint, mpint_of};
+ghost use Rattle.picky_layout.specs.Magnitude.{IsMpint};
+ghost use Rattle.picky_layout.specs.Mpint.{mpint_of};
 ghost use Rattle.picky_wire.specs.Puts.{Puts};
 
 use crate::bytes::{Bytes, Text};

@@ -8,7 +8,8 @@ ghost use Rattle.picky_wire.specs.Count.{Rose};
 ghost use Rattle.picky_wire.specs.Flaws.{wire_causes, wire_error};
 ghost use Rattle.picky_wire.specs.Unread.{Unread};
 ghost use Rattle.picky_wire.specs.Takes.{Takes, TakesString, HasCause, causes_of};
-ghost use Rattle.picky_wire.specs.Principals.{principal, principal_spells, principal_own, principal_solid, IsText};
+ghost use Rattle.picky_wire.specs.Principals.{principal, IsText};
+ghost use Rattle.picky_wire.specs.carried.Principals.{principal_spells, principal_own, principal_solid};
 ghost use Rattle.picky_wire.specs.Puts.{Puts};
 
 use crate::bytes::Text;

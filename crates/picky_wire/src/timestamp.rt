@@ -4,7 +4,8 @@ ghost use Rattle.std.specs.Prelude.{◌≡◌, ◌≢◌, ◌^◌, ◌<◌, None
 ghost use Rattle.std.specs.Int.{w64, to_be_bytes};
 ghost use Rattle.picky_wire.specs.Count.{Rose};
 ghost use Rattle.picky_wire.specs.Takes.{Takes, HasCause, causes_of};
-ghost use Rattle.picky_wire.specs.Moment.{timestamp, timestamp_spells, timestamp_own, timestamp_solid};
+ghost use Rattle.picky_wire.specs.Moment.{timestamp};
+ghost use Rattle.picky_wire.specs.carried.Moment.{timestamp_spells, timestamp_own, timestamp_solid};
 
 use crate::copy::TryClone;
 use crate::element::{SshComplexTypeDecode, SshComplexTypeEncode, SshElement, SshLayout};

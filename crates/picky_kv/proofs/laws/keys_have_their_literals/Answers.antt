@@ -5,7 +5,9 @@ use Rattle.picky_kv.specs.Argon2Keys.{argon2_parallelism_key, argon2_parallelism
 use Rattle.picky_kv.specs.Argon2Keys.{argon2_passes_key, argon2_passes_key_row}
 use Rattle.picky_kv.specs.Argon2Keys.{argon2_salt_key, argon2_salt_key_row}
 use Rattle.picky_kv.specs.Argon2Keys.{key_derivation_key, key_derivation_key_row}
-use Rattle.picky_kv.specs.Choices.{version_field, version_row, versions, versions_are_named}
+use Rattle.picky_kv.specs.ChoiceFields.{version_field}
+use Rattle.picky_kv.specs.Choices.{version_row, versions}
+use Rattle.picky_kv.specs.carried.Choices.{versions_are_named}
 use Rattle.picky_kv.specs.Keys.{comment_key, comment_key_row, encryption_key, encryption_key_row}
 use Rattle.picky_kv.specs.Keys.{private_lines_key, private_lines_key_row, private_mac_key}
 use Rattle.picky_kv.specs.Keys.{private_mac_key_row, public_lines_key, public_lines_key_row}

@@ -1,16 +1,23 @@
 -- Each value's type is its row's.
 use Rattle.std.proofs.Common.{◌^◌}
-use Rattle.picky_kv.specs.Choices.{algorithm_field, algorithm_row, algorithms, algorithms_are_named}
-use Rattle.picky_kv.specs.Choices.{encryption_field, encryption_row, encryptions}
-use Rattle.picky_kv.specs.Choices.{encryptions_are_named, flavour_field, flavour_row, flavours}
-use Rattle.picky_kv.specs.Choices.{flavours_are_named}
-use Rattle.picky_kv.specs.Numbers.{u32_field, u32_row, u32_is_narrow, count_field, count_row}
-use Rattle.picky_kv.specs.Numbers.{u16_is_narrow}
+use Rattle.picky_kv.specs.ChoiceFields.{algorithm_field}
+use Rattle.picky_kv.specs.Choices.{algorithm_row, algorithms}
+use Rattle.picky_kv.specs.carried.Choices.{algorithms_are_named}
+use Rattle.picky_kv.specs.ChoiceFields.{encryption_field}
+use Rattle.picky_kv.specs.Choices.{encryption_row, encryptions}
+use Rattle.picky_kv.specs.carried.Choices.{encryptions_are_named}
+use Rattle.picky_kv.specs.ChoiceFields.{flavour_field}
+use Rattle.picky_kv.specs.Choices.{flavour_row, flavours}
+use Rattle.picky_kv.specs.carried.Choices.{flavours_are_named}
+use Rattle.picky_kv.specs.NumberFields.{u32_field, count_field}
+use Rattle.picky_kv.specs.Numbers.{u32_row, count_row}
+use Rattle.picky_kv.specs.carried.Numbers.{u32_is_narrow}
+use Rattle.picky_kv.specs.carried.Numbers.{u16_is_narrow}
 use Rattle.picky_kv.proofs.LiteralLemmas.{literal_type_is}
 use Rattle.picky_kv.proofs.NumberLemmas.{number_field_is}
 use Rattle.picky_kv.proofs.ValueLemmas.{comment_field_is, base64_field_is, hex_field_is}
 use Rattle.picky_kv.proofs.ValueLemmas.{hex_is_lower}
-use Rattle.picky_kv.specs.Values.{hex_field}
+use Rattle.picky_kv.specs.ValueFields.{hex_field}
 use Rattle.picky_kv.proofs.laws.values_have_their_texts.Goals as goal
 
 pub returns-clause-header : goal.returns-clause-header

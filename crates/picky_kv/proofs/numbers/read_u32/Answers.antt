@@ -1,6 +1,7 @@
 -- What std's parse reads is the number that the text writes, and it refuses the other texts.
 use Rattle.std.proofs.Common.{◌^◌, refl, rules}
-use Rattle.picky_kv.specs.Numbers.{u32_field, number_below_numeral}
+use Rattle.picky_kv.specs.NumberFields.{u32_field}
+use Rattle.picky_kv.specs.carried.Numbers.{number_below_numeral}
 use Rattle.picky_kv.proofs.NumberLemmas.{number_below_none}
 use Rattle.picky_kv.proofs.numbers.read_u32.Goals as goal
 

@@ -1,6 +1,6 @@
 -- The blob's length says which.
 use Rattle.std.proofs.Common.{inl, inr, refl, sym}
-use Rattle.picky_layout.specs.Outcome.{passed_ok}
+use Rattle.picky_layout.specs.carried.Outcome.{passed_ok}
 use Rattle.picky_sshpub.specs.Blob.{blob_of}
 use Rattle.picky_sshpub.specs.LineRefusal.{is_short, blob_bytes}
 use Rattle.picky_sshpub.specs.declared.error.SshPublicKeyError.TheVariants as public

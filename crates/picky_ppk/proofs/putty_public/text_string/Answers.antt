@@ -1,7 +1,7 @@
 -- The text is written piece by piece.
 use Rattle.std.proofs.Common.{◌∙◌, ◌++◌, ap, codes}
 use Rattle.picky_text.specs.Base64.{base64_of}
-use Rattle.picky_text.specs.Base64Laws.{base64_is_ascii}
+use Rattle.picky_text.proofs.Base64Laws.{base64_is_ascii}
 use Rattle.picky_ppk.proofs.PuttyLemmas.{putty_written}
 use Rattle.picky_ppk.proofs.putty_public.text_string.Goals as goal
 

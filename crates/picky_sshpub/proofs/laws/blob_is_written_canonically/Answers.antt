@@ -1,6 +1,6 @@
 -- A key that was read keeps the ranges of its parts, so its spelling is read back.
-use Rattle.picky_sshpub.specs.KeyLaws.{read_is_key}
-use Rattle.picky_sshpub.specs.CanonicalLaws.{read_is_written}
+use Rattle.picky_sshpub.proofs.KeyLaws.{read_is_key}
+use Rattle.picky_sshpub.proofs.CanonicalLaws.{read_is_written}
 use Rattle.picky_sshpub.proofs.laws.blob_is_written_canonically.Goals as goal
 
 pub returns-clause-key : goal.returns-clause-key

@@ -1,5 +1,5 @@
 -- A line's meaning is the relation's.
-use Rattle.picky_sshpub.specs.LineLaws.{line_meaning_of, one_line_meaning}
+use Rattle.picky_sshpub.proofs.LineLaws.{line_meaning_of, one_line_meaning}
 use Rattle.picky_sshpub.proofs.laws.line_means_what_it_says.Goals as goal
 
 pub returns-clause-means : goal.returns-clause-means

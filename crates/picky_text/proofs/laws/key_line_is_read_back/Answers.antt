@@ -1,4 +1,4 @@
-use Rattle.picky_text.specs.WordLaws.{key_line_is_read_back}
+use Rattle.picky_text.proofs.WordLaws.{key_line_is_read_back}
 use Rattle.picky_text.proofs.laws.key_line_is_read_back.Goals as goal
 
 pub returns : goal.returns

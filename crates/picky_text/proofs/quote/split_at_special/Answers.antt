@@ -1,7 +1,7 @@
 use Rattle.std.proofs.Common.{◌∙◌, ap}
 use Rattle.std.specs.List.{position}
 use Rattle.picky_text.specs.Quote.{is_special}
-use Rattle.picky_text.specs.QuoteLaws.{quote_plain}
+use Rattle.picky_text.proofs.QuoteLaws.{quote_plain}
 use Rattle.picky_text.proofs.SearchLemmas.{boundary_at_first}
 use Rattle.picky_text.proofs.QuoteLemmas.{is_special_ascii, none_at_all, boundary_after}
 use Rattle.picky_text.proofs.QuoteLemmas.{quote_split}

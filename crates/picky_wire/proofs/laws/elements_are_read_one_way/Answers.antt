@@ -2,7 +2,7 @@
 use Rattle.picky_layout.specs.Inside.{sub}
 use Rattle.picky_layout.specs.Many.{many}
 use Rattle.picky_wire.specs.Flaws.{wire_error}
-use Rattle.picky_wire.specs.Laws.{layout_is_read, read_alike}
+use Rattle.picky_wire.proofs.ReadingLaws.{layout_is_read, read_alike}
 use Rattle.picky_wire.proofs.laws.elements_are_read_one_way.Goals as goal
 
 pub returns : goal.returns

@@ -1,6 +1,6 @@
-use Rattle.picky_layout.specs.Numbers.{uint32_reads_back, uint64_reads_back}
-use Rattle.picky_layout.specs.Strings.{string_reads_back, text_reads_back}
-use Rattle.picky_layout.specs.Mpint.{mpint_reads_back}
+use Rattle.picky_layout.proofs.Numbers.{uint32_reads_back, uint64_reads_back}
+use Rattle.picky_layout.proofs.Strings.{string_reads_back, text_reads_back}
+use Rattle.picky_layout.proofs.Mpint.{mpint_reads_back}
 use Rattle.picky_wire.proofs.laws.fields_are_read_back.Goals as goal
 
 pub returns : goal.returns

@@ -1,7 +1,7 @@
 use Rattle.picky_layout.specs.Wire.{uint32, string, text}
 use Rattle.picky_layout.specs.Numbers.{byte, uint64}
 use Rattle.picky_layout.specs.Mpint.{mpint}
-use Rattle.picky_wire.specs.Laws.{layout_is_read}
+use Rattle.picky_wire.proofs.ReadingLaws.{layout_is_read}
 use Rattle.picky_wire.proofs.laws.fields_are_read_one_way.Goals as goal
 
 pub returns : goal.returns

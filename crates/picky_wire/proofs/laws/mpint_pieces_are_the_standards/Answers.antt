@@ -1,5 +1,6 @@
 use Rattle.std.proofs.Common.{subst, sym}
-use Rattle.picky_layout.specs.Mpint.{mpint, mpint_exact, mpint_spells, mpint_spells_with, mpint_of_high, mpint_of_low}
+use Rattle.picky_layout.specs.Mpint.{mpint}
+use Rattle.picky_layout.proofs.Mpint.{mpint_exact, mpint_spells, mpint_spells_with, mpint_of_high, mpint_of_low}
 use Rattle.picky_wire.proofs.laws.mpint_pieces_are_the_standards.Goals as goal
 
 pub returns : goal.returns

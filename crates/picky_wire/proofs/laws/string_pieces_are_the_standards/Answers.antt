@@ -1,6 +1,6 @@
 use Rattle.std.proofs.Common.{subst, sym}
 use Rattle.picky_layout.specs.Wire.{string, string_of, text}
-use Rattle.picky_layout.specs.Strings.{string_spells, string_exact, text_spells, text_exact}
+use Rattle.picky_layout.proofs.Strings.{string_spells, string_exact, text_spells, text_exact}
 use Rattle.picky_wire.proofs.laws.string_pieces_are_the_standards.Goals as goal
 
 pub returns : goal.returns

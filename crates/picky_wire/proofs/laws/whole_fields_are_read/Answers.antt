@@ -1,4 +1,4 @@
-use Rattle.picky_layout.specs.Strings.{text_reads}
+use Rattle.picky_layout.proofs.Strings.{text_reads}
 use Rattle.picky_layout.proofs.When.{byte_is_read, uint32_is_read, uint64_is_read, cells_are_read, string_is_read, mpint_reads}
 use Rattle.picky_wire.proofs.laws.whole_fields_are_read.Goals as goal
 

@@ -1,0 +1,4 @@
+pub mod Pairs
+pub mod Choices
+pub mod Numbers
+pub mod Values

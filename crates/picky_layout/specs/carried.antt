@@ -1,0 +1,9 @@
+pub mod Combine
+pub mod Empty
+pub mod Inside
+pub mod Mpint
+pub mod Outcome
+pub mod Row
+pub mod Table
+pub mod Wire
+pub mod Zeros

@@ -1,0 +1,4 @@
+pub mod Blob
+pub mod BlobLayout
+pub mod FromWire
+pub mod SourceLine

@@ -1,0 +1,79 @@
+-- The laws of lines: a text that is written as lines is read as them.
+use Rattle.std.proofs.Common.{◌≡◌, ◌≢◌, ℕ, ◌-◌, ◌==◌, false, List, [], ◌∷◌, ◌++◌, length, slice_index, refl}
+use Rattle.std.proofs.Common.{sym, ◌∙◌, ap, arith}
+use Rattle.std.proofs.lemmas.Bool.{eq-eqb, ne_eqb}
+use Rattle.std.proofs.lemmas.List.{append_assoc, append-nil, length_push, get_or_push, take_at}
+use Rattle.std.proofs.lemmas.List.Elements.{All-from_recursion}
+use Rattle.std.proofs.lemmas.List.Splits.{slice_split_at, length-slice_split}
+use Rattle.std.specs.List.{flat_map, slice_split}
+use Rattle.std.specs.Str.Lines.{lines_of_parts, strip_carriage_return}
+use Rattle.picky_text.specs.Lines.{HasNo, lines, end_of, text_of, IsLine, AreLines, AreReadFirst}
+use Rattle.picky_text.proofs.ListLaws.{all_weaker, all_append}
+use Rattle.picky_text.specs.declared.lines.LineEnd.{LineEnd}
+use Rattle.picky_text.specs.declared.lines.LineEnd.TheVariants.{Lf, CrLf}
+
+-- the lines whose first part is followed by another
+parts_go_on : (part : List ℕ) (parts : List (List ℕ)) (bytes : List ℕ)
+    → parts ≡ slice_split (λ b. b == 10) bytes
+    → lines_of_parts (part ∷ parts) ≡ strip_carriage_return part ∷ lines_of_parts parts
+parts_go_on part [] bytes is =
+    absurd (omega (arith, ap length is, length-slice_split (λ b. b == 10) bytes))
+parts_go_on part (next ∷ parts) bytes is = refl
+
+-- a line that ends in LF is the first, less a CR at its end
+pub first_line : (line more : List ℕ) → HasNo 10 line
+    → lines (line ++ 10 ∷ more) ≡ strip_carriage_return line ∷ lines more
+first_line line more none =
+    let stays = all_weaker (λ b. b ≢ 10) (λ b. (b == 10) ≡ false) (λ b other. ne_eqb b 10 other)
+    line none in
+    ap lines_of_parts (slice_split_at (λ b. b == 10) line 10 more (All-from_recursion _ line stays)
+    refl)
+    ∙ parts_go_on line _ more refl
+
+-- a line with no CR at its end keeps all
+pub kept_without_cr : (line : List ℕ) → slice_index line (length line - 1) ≢ 13
+    → strip_carriage_return line ≡ line
+kept_without_cr line other = rw (ne_eqb _ 13 other) refl
+
+-- a line with one loses it
+pub cr_is_stripped : (line : List ℕ) → strip_carriage_return (line ++ 13 ∷ []) ≡ line
+cr_is_stripped line =
+    let before : length (line ++ 13 ∷ []) - 1 ≡ length line = omega (arith, length_push line 13) in
+    let last : slice_index (line ++ 13 ∷ []) (length line) ≡ 13 = get_or_push line 13 0
+    (length line) refl in
+    rw (before, eq-eqb _ 13 last) (take_at line (13 ∷ []) (length line) refl)
+
+-- one line that is written is read back, whatever follows
+pub line_is_read_back : (end : LineEnd) (line more : List ℕ) → IsLine end line
+    → lines (line ++ end_of end ++ more) ≡ line ∷ lines more
+line_is_read_back Lf line more is =
+    rw append_assoc (first_line line more is.0
+    ∙ ap (λ l. l ∷ lines more) (kept_without_cr line is.1))
+line_is_read_back CrLf line more is =
+    let no_lf : HasNo 10 (line ++ 13 ∷ []) = all_append (λ b. b ≢ 10) line (13 ∷ []) is
+    (λ same. cc same, tt) in
+    let text : line ++ (13 ∷ 10 ∷ []) ++ more ≡ (line ++ 13 ∷ []) ++ 10 ∷ more = simp append_assoc
+    in
+    rw text (first_line (line ++ 13 ∷ []) more no_lf
+    ∙ ap (λ l. l ∷ lines more) (cr_is_stripped line))
+
+-- lines that are written are read back, whatever follows
+pub lines_are_read_first : (end : LineEnd) (ls : List (List ℕ)) → AreLines end ls
+    → AreReadFirst end ls
+unfolding text_of
+lines_are_read_first end [] are rest = refl
+lines_are_read_first end (line ∷ ls) are rest =
+    let more : List ℕ = flat_map (λ l. l ++ end_of end) ls in
+    rw (append_assoc (line ++ end_of end) more rest)
+    (line_is_read_back end line (more ++ rest) are.0
+    ∙ ap (λ l. line ∷ l) (lines_are_read_first end ls are.1 rest))
+
+-- and where nothing follows
+pub text_is_its_lines : (end : LineEnd) (ls : List (List ℕ)) → AreLines end ls
+    → lines (text_of end ls) ≡ ls
+text_is_its_lines end ls are =
+    ap lines (sym (append-nil (text_of end ls))) ∙ lines_are_read_first end ls are []
+    ∙ append-nil ls
+
+-- what `laws` states of lines
+pub ruleset line_laws = (lines_are_read_first, text_is_its_lines)
