@@ -74,8 +74,10 @@ pub fn run<S: Suite, I: Source, O: Sink, E: Sink>(
         → (Rose (O.faults out.old) (O.faults out.new) → ⊥)
         → (result ≡ Status.Done) ⊎ (result ≡ Status.NoMemory) }
 
-    // What is left and what is written.
+    // What is left and what is written; a source and a sink that tell go on telling.
     ensures unused { suite.new ≡ suite.old }
+    ensures source_tells { I.tells source.old → I.tells source.new }
+    ensures out_tells { O.tells out.old → O.tells out.new }
     ensures end { ReadsToEnd result → I.tells source.old → I.left source.new ≡ [] }
     ensures taken { I.tells source.old → TakesInput (I.left source.old) (I.left source.new) }
     ensures past_limit { result ≡ Status.InputTooLong → I.tells source.old
@@ -113,6 +115,8 @@ fn attempt<S: Suite, I: Source, O: Sink>(
         × (O.tells out.old → (n : ℕ) × (O.written out.new ≡ O.written out.old ++ take n text) × (n < length text)) }
     ensures write_fault_only_if_counted { result ≡ Status.WriteFault → Rose (O.faults out.old) (O.faults out.new) }
     ensures unused { suite.new ≡ suite.old }
+    ensures source_tells { I.tells source.old → I.tells source.new }
+    ensures out_tells { O.tells out.old → O.tells out.new }
     ensures end { ReadsToEnd result → I.tells source.old → I.left source.new ≡ [] }
     ensures input { I.tells source.old → TakesInput (I.left source.old) (I.left source.new) }
     ensures past_limit { result ≡ Status.InputTooLong → I.tells source.old
@@ -148,6 +152,7 @@ fn take_text<S: Suite, I: Source>(
     suite: &mut S,
     source: &mut I,
 ) -> Result<String, Status>
+    ensures tells { I.tells source.old → I.tells source.new }
     ensures text { I.tells source.old → IfOk result (λ text. outcome command.now (I.left source.old) ≡ Ok (string_bytes text)) }
     ensures end { I.tells source.old → OnOk result (I.left source.new ≡ []) }
     ensures refused_at_end { I.tells source.old → IfErr result (λ status. ReadsToEnd status → I.left source.new ≡ []) }
