@@ -11,7 +11,7 @@ use Rattle.picky_convert.specs.Reading.{public_part, Reads, reading}
 use Rattle.picky_convert.specs.Fingerprint.{fingerprint_text}
 use Rattle.picky_convert.specs.Command.{answer, IsAnswer, CanWrite}
 use Rattle.picky_convert.specs.Run.{input_limit}
-use Rattle.picky_convert.proofs.ReadingLemmas.{reading_says, reading_of}
+use Rattle.picky_convert.proofs.ReadingLemmas.{reading_says, reading_of, read_alone}
 use Rattle.picky_convert.proofs.RoomLemmas.{short_input_has_room}
 use Rattle.picky_convert.proofs.ConvertLemmas.{conversion_is, conversion_valid}
 
@@ -29,7 +29,12 @@ answer_is commands.Fingerprint input text utf8 done =
     let steps = and_then_ok (map_err errors.Input (reading input)) (λ m. Ok (fingerprint_text (public_part m.key))) text done in
     let means = map_err_ok errors.Input (reading input) steps.0 steps.1 in
     let is : fingerprint_text (public_part steps.0.key) ≡ text = cc steps.2 in
-    record { meaning = steps.0; reads = reading_says input steps.0 utf8 means; is = sym is }
+    record {
+      meaning = steps.0;
+      reads = reading_says input steps.0 utf8 means;
+      one = read_alone input steps.0 utf8 means;
+      is = sym is;
+    }
 
 -- and there is one for what it can write of a key text that isn't too long
 pub answer_of : (command : Command) (input : List ℕ) (meaning : Meaning) → IsUtf8 input → length input ≤ input_limit

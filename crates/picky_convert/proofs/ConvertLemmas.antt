@@ -31,7 +31,7 @@ use Rattle.picky_convert.specs.Reading.{public_part, public_key, public_meaning,
 use Rattle.picky_convert.specs.Convert.{Carries, Spells, ReadsBack, HasRoom, has_room, has_kind, carries_comment, text_for, written, conversion, IsConversion}
 use Rattle.picky_convert.proofs.TestLemmas.{passes, not_true, test_from_has_no, no_end_from_test, test_from_no_end}
 use Rattle.picky_convert.proofs.Utf8Lemmas.{utf8_is_bytes}
-use Rattle.picky_convert.proofs.ReadingLemmas.{line_of_reading, reading_says, reading_of}
+use Rattle.picky_convert.proofs.ReadingLemmas.{line_of_reading, reading_says, reading_of, read_alone}
 
 -- ---- the tests of a conversion and what they say
 
@@ -163,6 +163,7 @@ conversion_is target input text utf8 done =
     subst (IsConversion target input) tests.is (record {
       meaning = meaning;
       reads = reading_says input meaning utf8 parts.1;
+      one = read_alone input meaning utf8 parts.1;
       carries = carries;
       spells = text_spells target meaning;
       only = text_only target meaning;

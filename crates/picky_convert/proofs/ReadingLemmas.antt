@@ -40,6 +40,11 @@ pub one_meaning : (text : List ℕ) (m n : Meaning) → Reads text m → Reads t
 one_meaning text m n first second =
     let both = sym (reading_of text m first) ∙ reading_of text n second in cc both
 
+-- what is read is the one meaning
+pub read_alone : (text : List ℕ) (meaning : Meaning) → IsUtf8 text → reading text ≡ Ok meaning
+    → (other : Meaning) → Reads text other → other ≡ meaning
+read_alone text meaning utf8 means = λ other reads. one_meaning text other meaning reads (reading_says text meaning utf8 means)
+
 -- what `reading` gives is a meaning
 pub given_means : (r : Result Meaning ReadError) (text : List ℕ) → IsUtf8 text
     → Gives errors.NoMemory (λ meaning. meaning) r (reading text) → IfOk r (λ meaning. Reads text meaning)

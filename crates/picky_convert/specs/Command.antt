@@ -45,10 +45,11 @@ answer (commands.Convert target) text = conversion target text
 answer commands.Fingerprint text =
     and_then (map_err errors.Input (reading text)) (λ meaning. Ok (fingerprint_text (public_part meaning.key)))
 
--- the text is the fingerprints of the key that the key text means
+-- the text is the fingerprints of the one key that the key text means
 pub record IsFingerprint (input text : List ℕ) : Type 0 where
   pub meaning : Meaning
   pub reads : Reads input meaning
+  pub one : (other : Meaning) → Reads input other → other ≡ meaning
   pub is : text ≡ fingerprint_text (public_part meaning.key)
 
 -- the text is what the command writes for the key text

@@ -97,10 +97,11 @@ conversion target text = and_then (map_err errors.Input (reading text)) (written
 
 -- ---- what a conversion's text is
 
--- the text is the one that spells what the key text means, and it is read back
+-- the text is the one that spells the one thing that the key text means, and it is read back
 pub record IsConversion (target : Target) (input text : List ℕ) : Type 0 where
   pub meaning : Meaning
   pub reads : Reads input meaning
+  pub one : (other : Meaning) → Reads input other → other ≡ meaning
   pub carries : Carries target meaning
   pub spells : Spells target meaning text
   pub only : (other : List ℕ) → Spells target meaning other → other ≡ text
