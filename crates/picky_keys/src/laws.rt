@@ -2,15 +2,16 @@
 
 ghost use Rattle.std.specs.Prelude.{◌≡◌, List, ℕ, Some};
 ghost use Rattle.picky_layout.specs.Table.{find_entry};
-ghost use Rattle.picky_wire.specs.Equality.{IsEquality};
+ghost use Rattle.picky_wire.specs.Equality.{IsEquality, IsEqualityOf};
 ghost use Rattle.picky_keys.specs.Names.{kind_name, curve_identifier};
+ghost use Rattle.picky_keys.specs.PublicKey.{key_shown};
 ghost use Rattle.picky_keys.specs.NameTables.{key_types, curves};
 ghost use Rattle.picky_keys.specs.declared.kind.KeyKind.{KeyKind as Kind};
 ghost use Rattle.picky_keys.specs.declared.curve.EcCurve.{EcCurve as Curve};
 
 use crate::curve::{EcCurve, EdAlgorithm};
 use crate::kind::KeyKind;
-use crate::public_key::PublicKey;
+use crate::public_key::{PublicKey, PublicKeyRef};
 
 /// A name of a key type stands for its kind, and no other name does.
 #[tactic(auto, using(crate::proofs::Names::both_ways))]
@@ -29,6 +30,7 @@ pub fn each_curve_has_one_name()
 /// Two keys are equal exactly where their contents are, and so are curves, algorithms and kinds.
 pub fn equality_is_of_contents()
     ensures key { IsEquality ⟦<PublicKey as PartialEq>⟧.eq }
+    ensures borrowed { IsEqualityOf key_shown ⟦<PublicKeyRef<'static> as PartialEq>⟧.eq }
     ensures curve { IsEquality ⟦<EcCurve as PartialEq>⟧.eq }
     ensures algorithm { IsEquality ⟦<EdAlgorithm as PartialEq>⟧.eq }
     ensures kind { IsEquality ⟦<KeyKind as PartialEq>⟧.eq }

@@ -1,5 +1,5 @@
 -- What a public key's view shows, and where its parts lie in the blob.
-use Rattle.std.specs.Prelude.{List, ℕ}
+use Rattle.std.specs.Prelude.{List, [], ◌∷◌, ℕ}
 use Rattle.picky_layout.specs.Wire.{string, text}
 use Rattle.picky_layout.specs.Mpint.{mpint}
 use Rattle.picky_wire.specs.View.{Lies, end_of}
@@ -17,6 +17,16 @@ key_seen (views.Ed key) = keys.Ed key.bytes.now
 key_seen (views.SkEcdsaSha2NistP256 point application) =
     keys.SkEcdsaSha2NistP256 point.bytes.now application.bytes.now
 key_seen (views.SkEd25519 key application) = keys.SkEd25519 key.bytes.now application.bytes.now
+
+-- what a view shows: the key that its parts make, and where each part stands
+abbrev pub view_shown : PublicView → SshBasePublicKey × List ℕ
+view_shown (views.Rsa e n) = (key_seen (views.Rsa e n), e.at ∷ n.at ∷ [])
+view_shown (views.Ec curve point) = (key_seen (views.Ec curve point), point.at ∷ [])
+view_shown (views.Ed key) = (key_seen (views.Ed key), key.at ∷ [])
+view_shown (views.SkEcdsaSha2NistP256 point application) =
+    (key_seen (views.SkEcdsaSha2NistP256 point application), point.at ∷ application.at ∷ [])
+view_shown (views.SkEd25519 key application) =
+    (key_seen (views.SkEd25519 key application), key.at ∷ application.at ∷ [])
 
 -- each part lies where its field ends, in the fields that stand one after another from this place
 abbrev pub PartsLie : List ℕ → ℕ → PublicView → Type 0

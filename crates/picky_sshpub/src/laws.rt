@@ -5,7 +5,8 @@ ghost use Rattle.picky_layout.specs.Numbers.{IsBytes};
 ghost use Rattle.picky_layout.specs.Outcome.{and_then};
 ghost use Rattle.picky_layout.specs.Grammar.{Fits};
 ghost use Rattle.picky_text.specs.Words.{after_body, line_in_front};
-ghost use Rattle.picky_wire.specs.Equality.{IsEquality};
+ghost use Rattle.picky_wire.specs.Equality.{IsEquality, IsEqualityOf};
+ghost use Rattle.picky_sshpub.specs.View.{view_shown};
 ghost use Rattle.picky_sshpub.specs.declared.key.SshBasePublicKey.{SshBasePublicKey as BaseKey};
 ghost use Rattle.picky_sshpub.specs.declared.key.SshPublicKey.{SshPublicKey as Key};
 ghost use Rattle.picky_sshpub.specs.Key.{IsKey};
@@ -19,6 +20,7 @@ ghost use Rattle.picky_sshpub.specs.SourceLine.{after_line, source_meaning};
 
 use crate::error::SshPublicKeyError;
 use crate::key::{SshBasePublicKey, SshPublicKey};
+use crate::view::PublicView;
 
 /// A blob that is written is read back, and exactly what follows it is left.
 #[tactic(auto, using(crate::proofs::LawLemmas::blob_laws))]
@@ -80,4 +82,5 @@ pub fn equality_is_of_contents()
     ensures key { IsEquality ⟦<SshBasePublicKey as PartialEq>⟧.eq }
     ensures line { IsEquality ⟦<SshPublicKey as PartialEq>⟧.eq }
     ensures error { IsEquality ⟦<SshPublicKeyError as PartialEq>⟧.eq }
+    ensures view { IsEqualityOf view_shown ⟦<PublicView<'static> as PartialEq>⟧.eq }
 {}

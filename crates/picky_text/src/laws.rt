@@ -1,6 +1,6 @@
 //! The laws of the rules of text, each as the contract of a function that does nothing.
 
-ghost use Rattle.std.specs.Prelude.{◌≡◌, ◌≢◌, ℕ, Bool, false, Option, List, ◌++◌};
+ghost use Rattle.std.specs.Prelude.{◌≡◌, ◌≢◌, ◌↔◌, ℕ, Bool, false, IsTrue, Option, List, ◌++◌};
 ghost use Rattle.std.specs.List.{AllByRecursion};
 ghost use Rattle.std.specs.Str.{IsAscii, IsUtf8, trim_end};
 ghost use Rattle.base64.specs.GeneralPurpose.{IsBytes};
@@ -10,9 +10,13 @@ ghost use Rattle.picky_text.specs.Lines.{HasNo, lines, text_of};
 ghost use Rattle.picky_text.specs.Lines.{AreLines, AreReadFirst};
 ghost use Rattle.picky_text.specs.Quote.{quote, unquote};
 ghost use Rattle.picky_text.specs.Rows.{IsRowsOf, rows_of};
+ghost use Rattle.picky_text.specs.declared.base64_text.Base64Error.{Base64Error as NoBase64};
 ghost use Rattle.picky_text.specs.declared.lines.LineEnd.{LineEnd as End};
 ghost use Rattle.picky_text.specs.Words.{first_word, after_word, line_in_front, rest_of_line};
 ghost use Rattle.picky_text.specs.Words.{AreParts, IsRead, IsWord};
+
+use crate::base64_text::Base64Error;
+use crate::lines::LineEnd;
 
 /// Bytes are read back from their base64 text.
 #[tactic(auto, using(crate::proofs::Base64Laws::base64_laws))]
@@ -90,4 +94,10 @@ pub fn lines_are_read_back()
 pub fn quote_is_read_back()
     ensures back { (x : List ℕ) → unquote (quote x) ≡ x }
     ensures has_no { (b : ℕ) (x : List ℕ) → b ≢ 92 → HasNo b x → HasNo b (quote x) }
+{}
+
+/// Two line ends and two refusals of base64 are equal exactly where they are the same.
+pub fn equality_is_of_contents()
+    ensures end { (a b : End) → IsTrue (⟦<LineEnd as PartialEq>⟧.eq a b) ↔ (a ≡ b) }
+    ensures error { (a b : NoBase64) → IsTrue (⟦<Base64Error as PartialEq>⟧.eq a b) ↔ (a ≡ b) }
 {}

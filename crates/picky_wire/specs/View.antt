@@ -20,6 +20,20 @@ why_of (stucks.Number n) = Number n
 abbrev pub why_in : Reason → Why
 why_in reason = reason.1
 
+-- what a part, a word and a refusal show: the bytes with their places
+abbrev pub part_shown : Part → ℕ × List ℕ
+part_shown part = (part.at, part.bytes.now)
+
+abbrev pub word_shown : Word → (ℕ × List ℕ) × List ℕ
+word_shown word = (part_shown word.part, word.text.now)
+
+abbrev pub stuck_shown : Stuck → Why × ℕ
+stuck_shown (stucks.Name name) = (Name name.bytes.now, name.at)
+stuck_shown stucks.Short = (Flawed Short, 0)
+stuck_shown stucks.NotUtf8 = (Flawed NotUtf8, 0)
+stuck_shown stucks.Length = (Length, 0)
+stuck_shown (stucks.Number n) = (Number n, 0)
+
 -- the bytes of a part
 abbrev pub part_bytes : Part → List ℕ
 part_bytes part = part.bytes.now

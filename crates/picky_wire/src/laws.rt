@@ -17,7 +17,8 @@ ghost use Rattle.picky_layout.specs.Zeros.{without_zeros};
 ghost use Rattle.picky_layout.specs.Magnitude.{IsMpint};
 ghost use Rattle.picky_layout.specs.Mpint.{IsMpintPiece, mpint, mpint_of};
 ghost use Rattle.picky_layout.specs.When.{IsShortWhere, HoldsString, HasOneFront, followed_by};
-ghost use Rattle.picky_wire.specs.Equality.{IsEquality};
+ghost use Rattle.picky_wire.specs.Equality.{IsEquality, IsEqualityOf};
+ghost use Rattle.picky_wire.specs.View.{part_shown, word_shown, stuck_shown};
 ghost use Rattle.picky_wire.specs.Reading.{IsReading, IsStuck};
 ghost use Rattle.picky_layout.specs.Inside.{SubPiece, sub};
 ghost use Rattle.picky_layout.specs.Many.{ManyPiece, read_many};
@@ -31,6 +32,7 @@ use crate::mpint::Mpint;
 use crate::source::Source;
 use crate::stop::Stop;
 use crate::timestamp::Timestamp;
+use crate::view::{Part, Stuck, Word};
 
 /// Each field is read one way or refused for one reason, and no piece is a proper front of another.
 pub fn fields_are_read_one_way()
@@ -313,4 +315,7 @@ pub fn equality_is_of_contents()
     ensures io_kind { IsEquality ⟦<IoKind as PartialEq>⟧.eq }
     ensures error { IsEquality ⟦<WireError as PartialEq>⟧.eq }
     ensures stop { IsEquality ⟦<Stop as PartialEq>⟧.eq }
+    ensures part { IsEqualityOf part_shown ⟦<Part<'static> as PartialEq>⟧.eq }
+    ensures word { IsEqualityOf word_shown ⟦<Word<'static> as PartialEq>⟧.eq }
+    ensures stuck { IsEqualityOf stuck_shown ⟦<Stuck<'static> as PartialEq>⟧.eq }
 {}
