@@ -22,9 +22,9 @@ use Rattle.picky_convert.specs.declared.error.Status.{Status}
 use Rattle.picky_convert.specs.declared.error.Status.TheVariants as statuses
 use Rattle.picky_convert.specs.declared.meaning.Meaning.{Meaning}
 use Rattle.picky_convert.specs.Reading.{reading}
-use Rattle.picky_convert.specs.Convert.{has_kind, carries_comment, has_room, text_for, written, conversion}
+use Rattle.picky_convert.specs.Convert.{has_kind, carries_comment, has_room, text_for, written_text, conversion}
 use Rattle.picky_convert.specs.Command.{answer}
-use Rattle.picky_convert.specs.Memory.{WantsMemory}
+use Rattle.picky_convert.specs.Want.{WantsMemory}
 use Rattle.picky_convert.specs.Run.{input_limit, outcome, Explains, CanRefuse}
 use Rattle.picky_convert.specs.inner.Causes.{CanCome}
 use Rattle.picky_convert.proofs.TestLemmas.{refuses}
@@ -70,8 +70,8 @@ hardware_known : IsConvert (convert.Putty no_hardware_keys)
 hardware_known (inl is) = cc is
 hardware_known (inr is) = cc is
 
-written_known : (target : Target) (meaning : Meaning) (e : ConvertError) → written target meaning ≡ Err e → IsConvert e
-unfolding written
+written_known : (target : Target) (meaning : Meaning) (e : ConvertError) → written_text target meaning ≡ Err e → IsConvert e
+unfolding written_text
 written_known target meaning e refused =
     refuses IsConvert (has_kind target meaning.key) _ (convert.Putty no_hardware_keys) e
     (λ f. refuses IsConvert (carries_comment target meaning.comment) _ convert.CommentNotCarried f
@@ -81,7 +81,7 @@ written_known target meaning e refused =
 answer_known : (command : Command) (text : List ℕ) (e : ConvertError) → answer command text ≡ Err e → IsConvert e
 unfolding conversion
 answer_known (commands.Convert target) text e refused =
-    next_known IsConvert (map_err convert.Input (reading text)) (written target) e (input_known text) (written_known target) refused
+    next_known IsConvert (map_err convert.Input (reading text)) (written_text target) e (input_known text) (written_known target) refused
 answer_known commands.Fingerprint text e refused =
     next_known IsConvert (map_err convert.Input (reading text)) _ e (input_known text) (λ meaning f is. cc is) refused
 

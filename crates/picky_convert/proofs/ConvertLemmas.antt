@@ -28,7 +28,7 @@ use Rattle.picky_convert.specs.declared.conversion.Target.{Target}
 use Rattle.picky_convert.specs.declared.conversion.Target.TheVariants as targets
 use Rattle.picky_convert.specs.declared.meaning.Meaning.{Meaning}
 use Rattle.picky_convert.specs.Reading.{public_part, public_key, public_meaning, Reads, reading}
-use Rattle.picky_convert.specs.Convert.{Carries, Spells, ReadsBack, HasRoom, has_room, has_kind, carries_comment, text_for, written, conversion, IsConversion}
+use Rattle.picky_convert.specs.Convert.{Carries, Spells, ReadsBack, HasRoom, has_room, has_kind, carries_comment, text_for, written_text, conversion, IsConversion}
 use Rattle.picky_convert.proofs.TestLemmas.{passes, not_true, test_from_has_no, no_end_from_test, test_from_no_end}
 use Rattle.picky_convert.proofs.Utf8Lemmas.{utf8_is_bytes}
 use Rattle.picky_convert.proofs.ReadingLemmas.{line_of_reading, reading_says, reading_of, read_alone}
@@ -41,9 +41,9 @@ pub record IsWritten (target : Target) (meaning : Meaning) (text : List ℕ) : T
   pub room : has_room target meaning ≡ true
   pub is : text_for target meaning ≡ text
 
-pub written_passes : (target : Target) (meaning : Meaning) (text : List ℕ) → written target meaning ≡ Ok text
+pub written_passes : (target : Target) (meaning : Meaning) (text : List ℕ) → written_text target meaning ≡ Ok text
     → IsWritten target meaning text
-unfolding written
+unfolding written_text
 written_passes target meaning text done =
     let kind = passes (has_kind target meaning.key) _ (errors.Putty no_hardware_keys) text done in
     let comment = passes (carries_comment target meaning.comment) _ errors.CommentNotCarried text kind.1 in
@@ -90,8 +90,8 @@ test_from_room targets.PuttyPublic meaning room =
 
 -- a meaning that the target carries is written
 pub written_of : (target : Target) (meaning : Meaning) → Carries target meaning → HasRoom target meaning
-    → written target meaning ≡ Ok (text_for target meaning)
-unfolding written
+    → written_text target meaning ≡ Ok (text_for target meaning)
+unfolding written_text
 written_of target meaning carries room =
     rw (
       kind_from_carries target meaning carries,
@@ -140,14 +140,14 @@ text_reads_back targets.PuttyPublic input meaning utf8 means carries room =
 -- ---- a conversion
 
 pub conversion_parts : (target : Target) (input text : List ℕ) → conversion target input ≡ Ok text
-    → (meaning : Meaning) × (reading input ≡ Ok meaning) × (written target meaning ≡ Ok text)
+    → (meaning : Meaning) × (reading input ≡ Ok meaning) × (written_text target meaning ≡ Ok text)
 unfolding conversion
 conversion_parts target input text done =
-    let steps = and_then_ok (map_err errors.Input (reading input)) (written target) text done in
+    let steps = and_then_ok (map_err errors.Input (reading input)) (written_text target) text done in
     (steps.0, map_err_ok errors.Input (reading input) steps.0 steps.1, steps.2)
 
 pub conversion_from : (target : Target) (input text : List ℕ) (meaning : Meaning) → reading input ≡ Ok meaning
-    → written target meaning ≡ Ok text → conversion target input ≡ Ok text
+    → written_text target meaning ≡ Ok text → conversion target input ≡ Ok text
 unfolding conversion
 conversion_from target input text meaning means done = rw means done
 
@@ -184,7 +184,7 @@ conversion_valid target input meaning reads carries room =
 
 -- a text that was written means what is written as that text
 pub written_is_kept : (target : Target) (input text : List ℕ) → IsUtf8 input → conversion target input ≡ Ok text
-    → (meaning : Meaning) × ReadsBack target meaning text × (written target meaning ≡ Ok text)
+    → (meaning : Meaning) × ReadsBack target meaning text × (written_text target meaning ≡ Ok text)
 written_is_kept target input text utf8 done =
     let parts = conversion_parts target input text done in
     let meaning = parts.0 in
@@ -210,7 +210,7 @@ line_is_kept input text utf8 done =
 
 -- what is written for the meaning of a text is its conversion
 pub written_is : (r : Result (List ℕ) ConvertError) (target : Target) (input : List ℕ) (meaning : Meaning)
-    → reading input ≡ Ok meaning → Gives errors.NoMemory (λ text. text) r (written target meaning)
+    → reading input ≡ Ok meaning → Gives errors.NoMemory (λ text. text) r (written_text target meaning)
     → Gives errors.NoMemory (λ text. text) r (conversion target input)
 unfolding conversion
 written_is r target input meaning means gives = rw means gives

@@ -15,7 +15,7 @@ use Rattle.picky_convert.specs.declared.error.ConvertError.{ConvertError}
 use Rattle.picky_convert.specs.declared.error.ConvertError.TheVariants as convert
 use Rattle.picky_convert.specs.Reading.{public_meaning}
 use Rattle.picky_convert.specs.inner.Causes.{putty_refusal}
-use Rattle.picky_convert.specs.Convert.{written}
+use Rattle.picky_convert.specs.Convert.{written_text}
 use Rattle.picky_convert.proofs.TestLemmas.{passes, guarded}
 
 abbrev has_lf : SshPublicKey → Bool
@@ -58,24 +58,24 @@ other_refusal e lf memory long = refl
 -- ---- what is written of it
 
 pub lf_refused : (key : SshPublicKey) → is_hardware key.inner_key ≡ false → has_lf key ≡ true
-    → written targets.PuttyPublic (public_meaning key) ≡ Err convert.CommentNotCarried
-unfolding written
+    → written_text targets.PuttyPublic (public_meaning key) ≡ Err convert.CommentNotCarried
+unfolding written_text
 lf_refused key plain lf = rw (plain, lf) refl
 
 pub blob_refused : (key : SshPublicKey) → is_hardware key.inner_key ≡ false → has_lf key ≡ false
-    → is_short (blob_of key.inner_key) ≡ false → written targets.PuttyPublic (public_meaning key) ≡ Err convert.TooLong
-unfolding written
+    → is_short (blob_of key.inner_key) ≡ false → written_text targets.PuttyPublic (public_meaning key) ≡ Err convert.TooLong
+unfolding written_text
 blob_refused key plain lf long = rw (plain, lf, long) refl
 
 pub hardware_refused : (key : SshPublicKey) → is_hardware key.inner_key ≡ true
-    → written targets.PuttyPublic (public_meaning key) ≡ Err (convert.Putty no_hardware_keys)
-unfolding written
+    → written_text targets.PuttyPublic (public_meaning key) ≡ Err (convert.Putty no_hardware_keys)
+unfolding written_text
 hardware_refused key hardware = rw hardware refl
 
 -- a refusal of the key is the conversion's
 pub key_refused : (key : SshPublicKey) (e : PuttyError) (f : ConvertError) (lf : Bool)
     → (e ≡ putty.NoMemory) ⊎ (of_openssh key ≡ Err e) → lf ≡ has_lf key → f ≡ putty_refusal e lf
-    → (f ≡ convert.NoMemory) ⊎ (written targets.PuttyPublic (public_meaning key) ≡ Err f)
+    → (f ≡ convert.NoMemory) ⊎ (written_text targets.PuttyPublic (public_meaning key) ≡ Err f)
 key_refused key e f lf (inl memory) lf_is is = inl (is ∙ ap (λ x. putty_refusal x lf) memory)
 key_refused key e f lf (inr refused) lf_is is = inr (elim (refused_of key e refused) [
   | inl hardware ↦ hardware_refused key hardware.0 ∙ sym (ap Err (is ∙ ap (λ x. putty_refusal x lf) hardware.1))
@@ -88,8 +88,8 @@ key_refused key e f lf (inr refused) lf_is is = inr (elim (refused_of key e refu
 ])
 
 pub text_written : (key : SshPublicKey) (made : PuttyPublicKey) (text : List ℕ) → IsMade key made → has_lf key ≡ false
-    → putty_text made ≡ Ok text → written targets.PuttyPublic (public_meaning key) ≡ Ok text
-unfolding written putty_text
+    → putty_text made ≡ Ok text → written_text targets.PuttyPublic (public_meaning key) ≡ Ok text
+unfolding written_text putty_text
 text_written key made text is lf done =
     let done : putty_text (record { blob = blob_of key.inner_key; comment = key.comment }) ≡ Ok text = ap putty_text is.is ∙ done in
     let passed = passes (is_short (putty_public (blob_of key.inner_key) key.comment)) _ putty.TooLong text done in
@@ -98,8 +98,8 @@ text_written key made text is lf done =
 
 pub text_refused : (key : SshPublicKey) (made : PuttyPublicKey) → IsMade key made → has_lf key ≡ false
     → (putty.TooLong ≡ putty.NoMemory) ⊎ (putty_text made ≡ Err putty.TooLong)
-    → written targets.PuttyPublic (public_meaning key) ≡ Err convert.TooLong
-unfolding written putty_text
+    → written_text targets.PuttyPublic (public_meaning key) ≡ Err convert.TooLong
+unfolding written_text putty_text
 text_refused key made is lf (inl memory) = cc memory
 text_refused key made is lf (inr refused) =
     let refused : putty_text (record { blob = blob_of key.inner_key; comment = key.comment }) ≡ Err putty.TooLong = ap putty_text is.is ∙ refused in

@@ -33,7 +33,7 @@ use Rattle.picky_sshpub.specs.BlobSpelled.{NumberSpelled, AnyText, FieldsSpelled
 use Rattle.picky_sshpub.proofs.BlobExact.{blob_exact}
 use Rattle.picky_sshpub.specs.Line.{IsPublicLine, line_of, line_name, line_body}
 use Rattle.picky_convert.proofs.SizeLemmas.{length-string_of, length_high, length_low, length_two, length_three, length-blob_of}
-use Rattle.picky_ppk.specs.PuttyPublic.{header, footer, comment_key, comment_line, putty_public}
+use Rattle.picky_ppk.specs.PuttyPublic.{header, footer, comment_start, comment_line, putty_public}
 use Rattle.picky_convert.specs.declared.meaning.Meaning.{Meaning}
 use Rattle.picky_convert.specs.declared.conversion.Target.{Target}
 use Rattle.picky_convert.specs.declared.conversion.Target.TheVariants as targets
@@ -208,7 +208,7 @@ rows_len (suc n) (b ∷ bs) =
     )
 
 comment_line_len : (comment : List ℕ) → length (comment_line comment) ≤ 2 * length comment + 11
-unfolding comment_line comment_key
+unfolding comment_line comment_start
 comment_line_len comment = omega (arith, length-append (quote comment) (34 ∷ []), quote_len comment)
 
 header_len : length header ≡ 31

@@ -81,8 +81,8 @@ carries_comment targets.OpenSshPublic comment =
 carries_comment targets.PuttyPublic comment = not (list_any (λ b. b == 10) comment)
 
 -- the text of a meaning, or the first reason why the target has none
-unfoldable pub written : Target → Meaning → Result (List ℕ) ConvertError
-written target meaning =
+unfoldable pub written_text : Target → Meaning → Result (List ℕ) ConvertError
+written_text target meaning =
     if has_kind target meaning.key
     then if carries_comment target meaning.comment
     then if has_room target meaning
@@ -93,7 +93,7 @@ written target meaning =
 
 -- the text that is written for a key text, or the first reason why none is
 unfoldable pub conversion : Target → List ℕ → Result (List ℕ) ConvertError
-conversion target text = and_then (map_err errors.Input (reading text)) (written target)
+conversion target text = and_then (map_err errors.Input (reading text)) (written_text target)
 
 -- ---- what a conversion's text is
 

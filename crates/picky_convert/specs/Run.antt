@@ -51,7 +51,7 @@ pub record IsValid (command : Command) (input : List ℕ) : Type 0 where
   pub can_write : CanWrite command meaning
 
 -- what the command writes for these bytes was written after those
-pub record Writes (command : Command) (input before after : List ℕ) : Type 0 where
+pub record WritesAnswer (command : Command) (input before after : List ℕ) : Type 0 where
   pub text : List ℕ
   pub is_answer : IsAnswer command input text
   pub written : after ≡ before ++ text

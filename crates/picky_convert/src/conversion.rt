@@ -5,7 +5,7 @@ ghost use Rattle.std.specs.List.{list_any};
 ghost use Rattle.picky_text.specs.Words.{ends_line};
 ghost use Rattle.picky_wire.specs.Gives.{Gives};
 ghost use Rattle.picky_convert.specs.Reading.{public_key as public_key_of, public_meaning, Reads};
-ghost use Rattle.picky_convert.specs.Convert.{Carries, HasRoom, carries_comment, conversion, written, IsConversion};
+ghost use Rattle.picky_convert.specs.Convert.{Carries, HasRoom, carries_comment, conversion, written_text, IsConversion};
 ghost use Rattle.picky_convert.specs.inner.Causes.{putty_refusal as putty_refusal_of};
 
 use crate::error::{ConvertError, ReadError};
@@ -51,7 +51,7 @@ pub fn convert<S: Suite>(
 
 /// The text of the target for a meaning.
 fn write_text(alloc: Global, target: &Target, meaning: Meaning) -> Result<Text, ConvertError>
-    ensures { Gives ConvertError.NoMemory (λ text. text) result (written target.now meaning) }
+    ensures { Gives ConvertError.NoMemory (λ text. text) result (written_text target.now meaning) }
 {
     let key = public_key(meaning);
     match target {
@@ -71,9 +71,9 @@ pub fn public_key(meaning: Meaning) -> SshPublicKey
 }
 
 /// The public key line.
-#[tactic(auto, unfolding(crate::specs::Convert::written, picky_sshpub::specs::LineRefusal::line_text))]
+#[tactic(auto, unfolding(crate::specs::Convert::written_text, picky_sshpub::specs::LineRefusal::line_text))]
 fn write_line(alloc: Global, key: &SshPublicKey) -> Result<Text, ConvertError>
-    ensures { Gives ConvertError.NoMemory (λ text. text) result (written Target.OpenSshPublic (public_meaning key.now)) }
+    ensures { Gives ConvertError.NoMemory (λ text. text) result (written_text Target.OpenSshPublic (public_meaning key.now)) }
 {
     if !line_carries(key.comment.as_str()) {
         return Err(ConvertError::CommentNotCarried);
@@ -87,7 +87,7 @@ fn write_line(alloc: Global, key: &SshPublicKey) -> Result<Text, ConvertError>
 
 /// PuTTY's text.
 fn write_putty(alloc: Global, key: SshPublicKey) -> Result<Text, ConvertError>
-    ensures { Gives ConvertError.NoMemory (λ text. text) result (written Target.PuttyPublic (public_meaning key)) }
+    ensures { Gives ConvertError.NoMemory (λ text. text) result (written_text Target.PuttyPublic (public_meaning key)) }
 {
     let lf = has_lf(key.comment.as_str());
     match PuttyPublicKey::take_openssh(alloc, key) {

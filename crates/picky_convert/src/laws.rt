@@ -9,7 +9,7 @@ ghost use Rattle.picky_convert.specs.declared.command.Command.{Command as Named}
 ghost use Rattle.picky_convert.specs.declared.conversion.Target.{Target as To};
 ghost use Rattle.picky_convert.specs.declared.conversion.Target.TheVariants as targets;
 ghost use Rattle.picky_convert.specs.Reading.{Reads, reading};
-ghost use Rattle.picky_convert.specs.Convert.{Carries, HasRoom, ReadsBack, IsConversion, conversion, written};
+ghost use Rattle.picky_convert.specs.Convert.{Carries, HasRoom, ReadsBack, IsConversion, conversion, written_text};
 ghost use Rattle.picky_convert.specs.Command.{IsAnswer};
 ghost use Rattle.picky_convert.specs.Run.{input_limit, outcome, IsValid};
 
@@ -43,7 +43,7 @@ pub fn short_input_has_room()
 /// written again as it is.
 pub fn written_text_is_kept()
     ensures text { (to : To) (input text : List ℕ) → IsUtf8 input → conversion to input ≡ Ok text
-        → (m : Meant) × ReadsBack to m text × (written to m ≡ Ok text) }
+        → (m : Meant) × ReadsBack to m text × (written_text to m ≡ Ok text) }
     ensures line { (input text : List ℕ) → IsUtf8 input → conversion targets.OpenSshPublic input ≡ Ok text
         → conversion targets.OpenSshPublic text ≡ Ok text }
 {}

@@ -5,9 +5,9 @@ ghost use Rattle.std.specs.Str.{IsUtf8};
 ghost use Rattle.picky_wire.specs.Count.{Rose};
 ghost use Rattle.picky_wire.specs.Takes.{Calm};
 ghost use Rattle.picky_convert.specs.Command.{Names};
-ghost use Rattle.picky_convert.specs.Memory.{WantsMemory};
+ghost use Rattle.picky_convert.specs.Want.{WantsMemory};
 ghost use Rattle.picky_convert.specs.Report.{report as report_of};
-ghost use Rattle.picky_convert.specs.Run.{input_limit, outcome, CanRefuse, Explains, IsValid, ReadsToEnd, Says, TakesInput, Writes, WritesPrefix};
+ghost use Rattle.picky_convert.specs.Run.{input_limit, outcome, CanRefuse, Explains, IsValid, ReadsToEnd, Says, TakesInput, WritesAnswer, WritesPrefix};
 ghost use Rattle.picky_convert.specs.inner.Causes.{CanCome};
 
 use crate::command::{Command, command_of, perform};
@@ -35,7 +35,7 @@ pub fn run<S: Suite, I: Source, O: Sink, E: Sink>(
     // What Done means.
     ensures done { (c : Command) → Names words.now c → result ≡ Status.Done
         → I.tells source.old → O.tells out.old
-        → Writes c (I.left source.old) (O.written out.old) (O.written out.new) }
+        → WritesAnswer c (I.left source.old) (O.written out.old) (O.written out.new) }
 
     // When each other status comes.
     ensures usage { result ≡ Status.Usage → (c : Command) → Names words.now c → ⊥ }

@@ -4,8 +4,8 @@ use Rattle.std.proofs.Common.{refl, sym, subst, ◌∙◌}
 use Rattle.picky_layout.specs.Table.{find_entry}
 use Rattle.picky_layout.specs.carried.Table.{found_has_key}
 use Rattle.picky_layout.specs.Wire.{string_of, text}
-use Rattle.picky_layout.specs.Names.{is_name, named}
-use Rattle.picky_layout.proofs.Names.{named_spells}
+use Rattle.picky_layout.specs.Named.{is_name, named}
+use Rattle.picky_layout.proofs.Named.{named_spells}
 use Rattle.picky_keys.specs.declared.curve.EcCurve.{EcCurve}
 use Rattle.picky_keys.specs.declared.curve.EcCurve.TheVariants.{NistP256, NistP384, NistP521}
 use Rattle.picky_keys.specs.declared.curve.EdAlgorithm.TheVariants.{Ed25519}

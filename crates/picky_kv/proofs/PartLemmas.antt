@@ -8,12 +8,12 @@ use Rattle.std.proofs.lemmas.List.{append_assoc}
 use Rattle.std.specs.Prelude.{unwrap_or}
 use Rattle.picky_layout.specs.Outcome.{and_then}
 use Rattle.picky_layout.specs.carried.Outcome.{same_pair}
-use Rattle.picky_kv.specs.Field.{Field, outcome}
+use Rattle.picky_kv.specs.Field.{Field, field_value}
 use Rattle.picky_kv.specs.Lines.{key_and_value, prefixed, first_joined, next_pair, next_block}
 use Rattle.picky_kv.specs.NumberFields.{count_field}
-use Rattle.picky_kv.specs.Parts.{HasNoSeparator, AreParts, AreJoined, IsPair, IsBlock}
+use Rattle.picky_kv.specs.Parts.{HasNoSeparator, AreKeyAndValue, AreJoined, IsPair, IsBlock}
 use Rattle.picky_kv.specs.Parts.{PairsAreRead, BlocksAreRead}
-use Rattle.picky_kv.specs.Steps.{need, in_context, refusal_in}
+use Rattle.picky_kv.specs.Context.{need, in_context, refusal_in}
 use Rattle.picky_kv.specs.declared.error.KvError.{KvError}
 use Rattle.picky_kv.specs.declared.error.KvError.TheVariants.{EndOfInput, InvalidKeyValueFormat}
 use Rattle.picky_kv.specs.declared.error.PpkValueError.{PpkValueError}
@@ -64,7 +64,7 @@ no_space a b text front rest r other joined is =
 
 -- what is cut are the parts
 cut_is : (line front rest : List ℕ) → key_and_value line ≡ Some (front, rest)
-    → AreParts line front rest
+    → AreKeyAndValue line front rest
 cut_is [] front rest is = cc is
 cut_is (a ∷ []) front rest is = cc is
 cut_is (a ∷ b ∷ text) front rest is = elim (cases_Bool (a == 58 && b == 32)) [
@@ -114,7 +114,7 @@ parts_are_cut (a ∷ b ∷ front) rest none = elim (cases_Bool (a == 58 && b == 
       rw (other, more) refl
 ]
 
-cut_of_parts : (line front rest : List ℕ) → AreParts line front rest
+cut_of_parts : (line front rest : List ℕ) → AreKeyAndValue line front rest
     → key_and_value line ≡ Some (front, rest)
 cut_of_parts line front rest parts =
     ap key_and_value (parts.joined ∙ separated front rest) ∙ parts_are_cut front rest parts.first
@@ -147,15 +147,15 @@ none_is_uncut line none = elim (option_cases (key_and_value line)) [
 ]
 
 pub key_and_value_iff : (line front rest : List ℕ)
-    → key_and_value line ≡ Some (front, rest) ↔ AreParts line front rest
+    → key_and_value line ≡ Some (front, rest) ↔ AreKeyAndValue line front rest
 key_and_value_iff line front rest = (cut_is line front rest, cut_of_parts line front rest)
 
 pub key_and_value_none_iff : (line : List ℕ) → key_and_value line ≡ None ↔ HasNoSeparator line
 key_and_value_none_iff line = (uncut_has_none line, none_is_uncut line)
 
 -- so a line has its parts once
-pub parts_are_unique : (line front rest other more : List ℕ) → AreParts line front rest
-    → AreParts line other more → (front ≡ other) × (rest ≡ more)
+pub parts_are_unique : (line front rest other more : List ℕ) → AreKeyAndValue line front rest
+    → AreKeyAndValue line other more → (front ≡ other) × (rest ≡ more)
 parts_are_unique line front rest other more one two =
     let both = sym (cut_of_parts line front rest one) ∙ cut_of_parts line other more two in
     some_parts front other rest more both
@@ -247,13 +247,13 @@ key_step context (Err e) value k v lines after is = cc is
 cut_step : {K V : Type 0} (context : List ℕ) (key : Field K) (value : Field V) (e : KvError)
     (found : Option (List ℕ × List ℕ)) (k : K) (v : V) (lines after : List (List ℕ))
     → need e found (λ texts.
-    and_then (in_context context (outcome key texts.0)) (λ x.
-    and_then (in_context context (outcome value texts.1)) (λ y. read_as x y lines)))
+    and_then (in_context context (field_value key texts.0)) (λ x.
+    and_then (in_context context (field_value value texts.1)) (λ y. read_as x y lines)))
     ≡ read_as k v after
-    → (front rest : List ℕ) × (found ≡ some_of front rest) × (outcome key front ≡ Ok k)
-    × (outcome value rest ≡ Ok v) × (lines ≡ after)
+    → (front rest : List ℕ) × (found ≡ some_of front rest) × (field_value key front ≡ Ok k)
+    × (field_value value rest ≡ Ok v) × (lines ≡ after)
 cut_step context key value e (Some p) k v lines after is =
-    let step = key_step context (outcome key p.0) (outcome value p.1) k v lines after is in
+    let step = key_step context (field_value key p.0) (field_value value p.1) k v lines after is in
     (p.0, p.1, refl, step.0, step.1, step.2)
 cut_step context key value e None k v lines after is = cc is
 
@@ -321,11 +321,11 @@ never_unseparated context value.NoMemory same = cc same
 line_is_left : {K V : Type 0} (context : List ℕ) (key : Field K) (value : Field V)
     (found : Option (List ℕ × List ℕ)) (lines : List (List ℕ))
     → need InvalidKeyValueFormat found (λ texts.
-    and_then (in_context context (outcome key texts.0)) (λ x.
-    and_then (in_context context (outcome value texts.1)) (λ y. read_as x y lines)))
+    and_then (in_context context (field_value key texts.0)) (λ x.
+    and_then (in_context context (field_value value texts.1)) (λ y. read_as x y lines)))
     ≡ Err EndOfInput → ⊥
 line_is_left context key value (Some p) lines is =
-    refused_texts context (outcome key p.0) (outcome value p.1) lines EndOfInput
+    refused_texts context (field_value key p.0) (field_value value p.1) lines EndOfInput
     (never_ended context) is
 line_is_left context key value None lines is = cc is
 
@@ -333,11 +333,11 @@ line_is_left context key value None lines is = cc is
 is_separated : {K V : Type 0} (context : List ℕ) (key : Field K) (value : Field V)
     (found : Option (List ℕ × List ℕ)) (lines : List (List ℕ))
     → need InvalidKeyValueFormat found (λ texts.
-    and_then (in_context context (outcome key texts.0)) (λ x.
-    and_then (in_context context (outcome value texts.1)) (λ y. read_as x y lines)))
+    and_then (in_context context (field_value key texts.0)) (λ x.
+    and_then (in_context context (field_value value texts.1)) (λ y. read_as x y lines)))
     ≡ Err InvalidKeyValueFormat → found ≡ None
 is_separated context key value (Some p) lines is =
-    absurd (refused_texts context (outcome key p.0) (outcome value p.1) lines
+    absurd (refused_texts context (field_value key p.0) (field_value value p.1) lines
     InvalidKeyValueFormat (never_unseparated context) is)
 is_separated context key value None lines is = refl
 
@@ -364,11 +364,11 @@ unseparated_iff key value context line lines = (
 joined_step : {K V : Type 0} (context : List ℕ) (value : Field V) (e : KvError)
     (found : Option (List ℕ × List (List ℕ))) (k k' : K) (v : V) (after : List (List ℕ))
     → need e found (λ block.
-    and_then (in_context context (outcome value block.0)) (λ y. read_as k' y block.1))
+    and_then (in_context context (field_value value block.0)) (λ y. read_as k' y block.1))
     ≡ read_as k v after
-    → (text : List ℕ) × (found ≡ some_of text after) × (outcome value text ≡ Ok v) × (k' ≡ k)
+    → (text : List ℕ) × (found ≡ some_of text after) × (field_value value text ≡ Ok v) × (k' ≡ k)
 joined_step context value e (Some p) k k' v after is =
-    let step = value_step context (outcome value p.0) k k' v p.1 after is in
+    let step = value_step context (field_value value p.0) k k' v p.1 after is in
     (p.0, ap (some_of p.0) step.2, step.1, step.0)
 joined_step context value e None k k' v after is = cc is
 
@@ -376,11 +376,11 @@ joined_step context value e None k k' v after is = cc is
 head_step : {K V : Type 0} (context : List ℕ) (value : Field V)
     (head : Result ((K × ℕ) × List (List ℕ)) KvError) (k : K) (v : V) (after : List (List ℕ))
     → and_then head (λ h. need EndOfInput (first_joined h.0.1 h.1) (λ block.
-    and_then (in_context context (outcome value block.0)) (λ y. read_as h.0.0 y block.1)))
+    and_then (in_context context (field_value value block.0)) (λ y. read_as h.0.0 y block.1)))
     ≡ read_as k v after
     → (count : ℕ) × (counted : List (List ℕ)) × (text : List ℕ)
     × (head ≡ read_as k count counted) × (first_joined count counted ≡ some_of text after)
-    × (outcome value text ≡ Ok v)
+    × (field_value value text ≡ Ok v)
 head_step context value (Ok h) k v after is =
     let step = joined_step context value EndOfInput (first_joined h.0.1 h.1) k h.0.0 v after is in
     (h.0.1, h.1, step.0, ap (λ x. read_as x h.0.1 h.1) step.3, step.1, step.2)

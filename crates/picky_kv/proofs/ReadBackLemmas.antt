@@ -18,7 +18,7 @@ use Rattle.picky_text.specs.Rows.{rows_of}
 use Rattle.picky_text.proofs.RowLaws.{rows_of_are_rows, rows_have_no}
 use Rattle.picky_text.specs.declared.lines.LineEnd.{LineEnd}
 use Rattle.picky_text.specs.declared.lines.LineEnd.TheVariants.{Lf, CrLf}
-use Rattle.picky_kv.specs.Field.{Field, outcome}
+use Rattle.picky_kv.specs.Field.{Field, field_value}
 use Rattle.picky_kv.specs.Literal.{is_plain}
 use Rattle.picky_kv.specs.Lines.{key_and_value, first_joined, next_pair}
 use Rattle.picky_kv.specs.NumberFields.{count_field}
@@ -27,7 +27,7 @@ use Rattle.picky_kv.specs.ReadBack.{PairIsReadBack, BlockIsReadBack}
 
 -- a value that fits is the answer for its written text
 pub outcome_of_spelling : {A : Type 0} (field : Field A) (v : A) → field.fits v
-    → outcome field (field.spelling v) ≡ Ok v
+    → field_value field (field.spelling v) ≡ Ok v
 outcome_of_spelling field v fits = rw (field.read_back v fits, field.short v fits) refl
 
 -- a plain text has no colon, CR and LF

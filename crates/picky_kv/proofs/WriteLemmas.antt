@@ -9,7 +9,7 @@ use Rattle.std.specs.Prelude.{nat_lt, codes}
 use Rattle.std.specs.Fmt.{decimal}
 use Rattle.std.specs.Int.{div_ceil}
 use Rattle.std.specs.List.{concat}
-use Rattle.picky_text.specs.Lines.{text_of, end_of}
+use Rattle.picky_text.specs.Lines.{text_of, end_bytes}
 use Rattle.picky_text.specs.Rows.{rows_of, rows_within}
 use Rattle.picky_text.proofs.RowLaws.{rows_of_are_rows}
 use Rattle.picky_text.specs.declared.lines.LineEnd.{LineEnd}
@@ -18,14 +18,14 @@ use Rattle.picky_kv.specs.declared.error.KvError.TheVariants.{TooLong}
 
 -- a line before others
 pub text_of_cons : (end : LineEnd) (line : List ℕ) (more : List (List ℕ))
-    → text_of end (line ∷ more) ≡ line ++ end_of end ++ text_of end more
+    → text_of end (line ∷ more) ≡ line ++ end_bytes end ++ text_of end more
 unfolding text_of
 text_of_cons end line more = refl
 
 -- a line alone
-pub text_of_one : (end : LineEnd) (line : List ℕ) → text_of end (line ∷ []) ≡ line ++ end_of end
+pub text_of_one : (end : LineEnd) (line : List ℕ) → text_of end (line ∷ []) ≡ line ++ end_bytes end
 unfolding text_of
-text_of_one end line = append-nil (line ++ end_of end)
+text_of_one end line = append-nil (line ++ end_bytes end)
 
 -- so a line's text and that of others make the text of all
 pub text_of_one_more : (end : LineEnd) (line : List ℕ) (more : List (List ℕ))
@@ -43,8 +43,8 @@ length-text_of-joined end (line ∷ more) =
       arith,
       later,
       whole,
-      length-append (line ++ end_of end) (text_of end more),
-      length-append line (end_of end),
+      length-append (line ++ end_bytes end) (text_of end more),
+      length-append line (end_bytes end),
     ))
 
 -- a piece of 2^32 bytes or more is too long behind any text
@@ -63,7 +63,7 @@ pub pair_too_long : (out : Output) (key value : List ℕ) → 2 ^ 32 ≤ length 
 pair_too_long out key value long =
     let line : List ℕ = pair_line key value in
     let front = length-append (key ++ codes ": ") value in
-    let whole = length-append line (end_of out.end) in
+    let whole = length-append line (end_bytes out.end) in
     extended_too_long out (text_of out.end (line ∷ []))
     (rw (text_of_one out.end line) (omega arith))
 

@@ -20,14 +20,14 @@ pub record Field (A : Type 0) : Type 1 where
 
 -- a row of the format: which texts stand for a value, which one is written, which values are too
 -- big to be given, and what a refusal says was expected
-pub record Row (A : Type 0) : Type 1 where
+pub record FieldRow (A : Type 0) : Type 1 where
   pub StandsFor : List ℕ → A → Type 0
   pub written : A → List ℕ
   pub is_big : A → Bool
   pub expected : List ℕ
 
 -- a type of keys or values is the row's: it reads the texts that stand for a value, and no other
-pub record IsOfRow {A : Type 0} (field : Field A) (row : Row A) : Type 0 where
+pub record IsOfRow {A : Type 0} (field : Field A) (row : FieldRow A) : Type 0 where
   pub reads : (text : List ℕ) (v : A) → IsBytes text
       → field.meaning text ≡ Some v ↔ row.StandsFor text v
   pub writes : (v : A) → field.spelling v ≡ row.written v
@@ -46,11 +46,11 @@ judged is_big expected text (Some v) = if is_big v then Err TooLong else Ok v
 judged is_big expected text None = Err (refusal expected text)
 
 -- the answer for a text
-abbrev pub outcome : {A : Type 0} → Field A → List ℕ → Result A PpkValueError
-outcome field text = judged field.is_big field.expected text (field.meaning text)
+abbrev pub field_value : {A : Type 0} → Field A → List ℕ → Result A PpkValueError
+field_value field text = judged field.is_big field.expected text (field.meaning text)
 
 -- the text is what was asked for, which is too long exactly where it has 2^32 bytes or more
-abbrev pub Writes : Result (List ℕ) SizeError → List ℕ → Type 0
-Writes (Ok text) spelling = (text ≡ spelling) × (length spelling < 2 ^ 32)
-Writes (Err size.TooLong) spelling = 2 ^ 32 ≤ length spelling
-Writes (Err size.NoMemory) spelling = Unit {0}
+abbrev pub IsSpelling : Result (List ℕ) SizeError → List ℕ → Type 0
+IsSpelling (Ok text) spelling = (text ≡ spelling) × (length spelling < 2 ^ 32)
+IsSpelling (Err size.TooLong) spelling = 2 ^ 32 ≤ length spelling
+IsSpelling (Err size.NoMemory) spelling = Unit {0}

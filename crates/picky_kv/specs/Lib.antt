@@ -5,7 +5,7 @@ pub mod Keys
 pub mod Argon2Keys
 pub mod Numbers
 pub mod Values
-pub mod Steps
+pub mod Context
 pub mod Lines
 pub mod Parts
 pub mod Output

@@ -2,9 +2,9 @@
 use Rattle.std.specs.Prelude.{ℕ, zero, suc, ◌==◌, ◌&&◌, List, [], ◌∷◌, ◌++◌, if◌then◌else◌, Option, Some}
 use Rattle.std.specs.Prelude.{None, Result, Ok, Err}
 use Rattle.picky_layout.specs.Outcome.{and_then}
-use Rattle.picky_kv.specs.Field.{Field, outcome}
+use Rattle.picky_kv.specs.Field.{Field, field_value}
 use Rattle.picky_kv.specs.NumberFields.{count_field}
-use Rattle.picky_kv.specs.Steps.{need, in_context}
+use Rattle.picky_kv.specs.Context.{need, in_context}
 use Rattle.picky_kv.specs.declared.error.KvError.{KvError}
 use Rattle.picky_kv.specs.declared.error.KvError.TheVariants.{EndOfInput, InvalidKeyValueFormat}
 
@@ -32,8 +32,8 @@ abbrev pub next_pair : {K V : Type 0} → Field K → Field V → List ℕ → L
 next_pair key value context [] = Err EndOfInput
 next_pair key value context (line ∷ lines) =
     need InvalidKeyValueFormat (key_and_value line) (λ texts.
-    and_then (in_context context (outcome key texts.0)) (λ k.
-    and_then (in_context context (outcome value texts.1)) (λ v. Ok ((k, v), lines))))
+    and_then (in_context context (field_value key texts.0)) (λ k.
+    and_then (in_context context (field_value value texts.1)) (λ v. Ok ((k, v), lines))))
 
 -- a block is a key and a count, and the value of that many lines joined
 abbrev pub next_block : {K V : Type 0} → Field K → Field V → List ℕ → List (List ℕ)
@@ -41,7 +41,7 @@ abbrev pub next_block : {K V : Type 0} → Field K → Field V → List ℕ → 
 next_block key value context lines =
     and_then (next_pair key count_field context lines) (λ head.
     need EndOfInput (first_joined head.0.1 head.1) (λ block.
-    and_then (in_context context (outcome value block.0)) (λ v. Ok ((head.0.0, v), block.1))))
+    and_then (in_context context (field_value value block.0)) (λ v. Ok ((head.0.0, v), block.1))))
 
 -- the value alone
 abbrev pub value_alone : {K V : Type 0} → Result ((K × V) × List (List ℕ)) KvError

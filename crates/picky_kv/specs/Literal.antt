@@ -3,7 +3,7 @@ use Rattle.std.specs.Prelude.{◌≡◌, ◌==◌, ◌||◌, ℕ, Bool, true, fa
 use Rattle.std.specs.Prelude.{Option, Some, None, nat_eq, refl}
 use Rattle.std.specs.List.{list_all}
 use Rattle.std.specs.Cmp.Lexicographic.{pointwise}
-use Rattle.picky_kv.specs.Field.{Field, Row, IsOfRow}
+use Rattle.picky_kv.specs.Field.{Field, FieldRow, IsOfRow}
 
 -- a type of literals: its name, which refusals give, each value's literal, and what is expected
 pub record LiteralRow (A : Type 0) : Type 0 where
@@ -16,7 +16,7 @@ abbrev pub single_row : {A : Type 0} → List ℕ → List ℕ → LiteralRow A
 single_row name literal = record { name = name; literal = λ _. literal; expected = literal }
 
 -- a text stands for the value whose literal it is
-abbrev pub literals_of : {A : Type 0} → LiteralRow A → Row A
+abbrev pub literals_of : {A : Type 0} → LiteralRow A → FieldRow A
 literals_of row = record {
   StandsFor = λ text v. text ≡ row.literal v;
   written = row.literal;

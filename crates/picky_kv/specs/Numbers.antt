@@ -6,7 +6,7 @@ use Rattle.std.specs.Char.{is_digit}
 use Rattle.std.specs.Fmt.{decimal}
 use Rattle.std.specs.List.{list_all}
 use Rattle.std.specs.Str.Parse.{digits_value, without_leading_plus}
-use Rattle.picky_kv.specs.Field.{Row}
+use Rattle.picky_kv.specs.Field.{FieldRow}
 
 -- a number below the limit in decimal: a plus may stand first, and then zeros, which are 48
 pub record IsNumberText (limit : ℕ) (text : List ℕ) (n : ℕ) : Type 0 where
@@ -17,7 +17,7 @@ pub record IsNumberText (limit : ℕ) (text : List ℕ) (n : ℕ) : Type 0 where
   pub below : n < limit
 
 -- the row of the numbers below a limit
-abbrev pub numbers_below : ℕ → List ℕ → Row ℕ
+abbrev pub numbers_below : ℕ → List ℕ → FieldRow ℕ
 numbers_below limit expected = record {
   StandsFor = IsNumberText limit;
   written = decimal;
@@ -26,11 +26,11 @@ numbers_below limit expected = record {
 }
 
 -- the row of Argon2's numbers
-abbrev pub u32_row : Row ℕ
+abbrev pub u32_row : FieldRow ℕ
 u32_row = numbers_below (2 ^ 32) (codes "<valid u32 value>")
 
 -- the row of a block's count of lines
-abbrev pub count_row : Row ℕ
+abbrev pub count_row : FieldRow ℕ
 count_row = numbers_below (2 ^ 16) (codes "<valid lines count>")
 
 -- one digit or more, and nothing else

@@ -2,7 +2,7 @@
 use Rattle.std.specs.Prelude.{◌≡◌, ◌≢◌, ◌↔◌, ℕ, List, ◌∷◌, ◌++◌, length, codes, Ok}
 use Rattle.std.specs.List.{concat}
 use Rattle.picky_text.specs.Lines.{HasNo}
-use Rattle.picky_kv.specs.Field.{Field, outcome}
+use Rattle.picky_kv.specs.Field.{Field, field_value}
 use Rattle.picky_kv.specs.Lines.{next_pair, next_block}
 use Rattle.picky_kv.specs.NumberFields.{count_field}
 
@@ -11,7 +11,7 @@ abbrev pub HasNoSeparator : List ℕ → Type 0
 HasNoSeparator text = (front rest : List ℕ) → text ≢ front ++ codes ": " ++ rest
 
 -- a line is a front in which no separator stands, a separator, and the rest
-pub record AreParts (line front rest : List ℕ) : Type 0 where
+pub record AreKeyAndValue (line front rest : List ℕ) : Type 0 where
   pub joined : line ≡ front ++ codes ": " ++ rest
   pub first : HasNoSeparator front
 
@@ -30,9 +30,9 @@ pub record IsPair {K V : Type 0} (key : Field K) (value : Field V) (lines : List
   pub key_text : List ℕ
   pub value_text : List ℕ
   pub first : lines ≡ line ∷ after
-  pub parts : AreParts line key_text value_text
-  pub key_is : outcome key key_text ≡ Ok k
-  pub value_is : outcome value value_text ≡ Ok v
+  pub parts : AreKeyAndValue line key_text value_text
+  pub key_is : field_value key key_text ≡ Ok k
+  pub value_is : field_value value value_text ≡ Ok v
 
 -- a line of a key and a count, as many lines, whose joined text is the value's, and other lines
 pub record IsBlock {K V : Type 0} (key : Field K) (value : Field V) (lines : List (List ℕ)) (k : K)
@@ -42,7 +42,7 @@ pub record IsBlock {K V : Type 0} (key : Field K) (value : Field V) (lines : Lis
   pub text : List ℕ
   pub head : IsPair key count_field lines k count counted
   pub joined : AreJoined count counted text after
-  pub value_is : outcome value text ≡ Ok v
+  pub value_is : field_value value text ≡ Ok v
 
 -- a pair is read exactly where one stands first
 abbrev pub PairsAreRead : {K V : Type 0} → Field K → Field V → List ℕ → Type 0

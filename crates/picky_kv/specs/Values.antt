@@ -5,14 +5,14 @@ use Rattle.base64.specs.Rfc4648.{encode}
 use Rattle.std.specs.Result.{result_ok}
 use Rattle.hex.specs.Hex.{encode_lower, decode_of}
 use Rattle.picky_layout.specs.Numbers.{IsBytes}
-use Rattle.picky_kv.specs.Field.{Row}
+use Rattle.picky_kv.specs.Field.{FieldRow}
 
 -- there are 2^32 bytes or more
 abbrev pub is_long : List ℕ → Bool
 is_long bytes = not (nat_lt (length bytes) (2 ^ 32))
 
 -- the row of comments: each text stands for itself, and none is refused
-abbrev pub comment_row : Row (List ℕ)
+abbrev pub comment_row : FieldRow (List ℕ)
 comment_row =
     record { StandsFor = λ text v. text ≡ v; written = λ v. v; is_big = is_long; expected = [] }
 
@@ -22,7 +22,7 @@ padded_base64 bytes =
     encode (codes "ABCDEFGHIJKLMNOPQRSTUVWXYZabcdefghijklmnopqrstuvwxyz0123456789+/") 61 true bytes
 
 -- the row of base64: the one text of the bytes stands for them
-abbrev pub base64_row : Row (List ℕ)
+abbrev pub base64_row : FieldRow (List ℕ)
 base64_row = record {
   StandsFor = λ text bytes. IsBytes bytes × (text ≡ padded_base64 bytes);
   written = padded_base64;
@@ -49,7 +49,7 @@ AreHexPairs Is (high ∷ low ∷ text) (b ∷ bytes) =
     Is (b / 16) high × Is (b % 16) low × AreHexPairs Is text bytes
 
 -- the row of hex: two digits a byte in either case stand for the bytes
-abbrev pub hex_row : Row (List ℕ)
+abbrev pub hex_row : FieldRow (List ℕ)
 hex_row = record {
   StandsFor = AreHexPairs IsHexDigit;
   written = encode_lower;

@@ -4,7 +4,7 @@ ghost use Rattle.std.specs.Prelude.{◌≡◌, ◌⊎◌, ◌^◌, ◌<◌, ℕ,
 ghost use Rattle.std.specs.Str.{IsAscii};
 ghost use Rattle.picky_wire.specs.Gives.{Gives};
 ghost use Rattle.picky_kv.specs.Literal.{is_plain};
-ghost use Rattle.picky_kv.specs.Field.{Field, outcome, refusal, Writes};
+ghost use Rattle.picky_kv.specs.Field.{Field, field_value, refusal, IsSpelling};
 
 use crate::error::{PpkValueError, PpkValueParsingError};
 use picky_wire::{SizeError, Text};
@@ -17,11 +17,11 @@ pub trait PpkField: Sized + Drop {
 
     /// The value that the text stands for. Refuses, in order: `Parsing`, `TooLong`.
     fn read(alloc: Global, text: &str) -> Result<Self, PpkValueError>
-        ensures { Gives PpkValueError.NoMemory (λ value. value) result (outcome field text.now) };
+        ensures { Gives PpkValueError.NoMemory (λ value. value) result (field_value field text.now) };
 
     /// The value's one written text. Refuses, in order: `TooLong`.
     fn write(&self, alloc: Global) -> Result<Text, SizeError>
-        ensures text { Writes result (field.spelling self.now) }
+        ensures text { IsSpelling result (field.spelling self.now) }
         ensures fits { field.fits self.now };
 }
 
@@ -97,7 +97,7 @@ pub(crate) fn refused(alloc: Global, expected: &str, text: &str) -> PpkValueErro
 
 /// The string as a text.
 pub(crate) fn text_within(string: String) -> Result<Text, SizeError>
-    ensures { Writes result (string_bytes string) }
+    ensures { IsSpelling result (string_bytes string) }
 {
     if string.len() < 1 << 32 {
         Ok(Text::from_string(string))

@@ -16,7 +16,7 @@ ghost use Rattle.picky_kv.specs.Lines.{key_and_value, first_joined, next_pair, n
 ghost use Rattle.picky_kv.specs.Literal.{IsOfLiterals};
 ghost use Rattle.picky_kv.specs.NumberFields.{count_field};
 ghost use Rattle.picky_kv.specs.Numbers.{count_row, u32_row};
-ghost use Rattle.picky_kv.specs.Parts.{HasNoSeparator, AreParts, AreJoined, PairsAreRead};
+ghost use Rattle.picky_kv.specs.Parts.{HasNoSeparator, AreKeyAndValue, AreJoined, PairsAreRead};
 ghost use Rattle.picky_kv.specs.Parts.{BlocksAreRead, HasNoLineEnd, AreOneLine};
 ghost use Rattle.picky_kv.specs.ReadBack.{PairIsReadBack, BlockIsReadBack};
 ghost use Rattle.picky_kv.specs.Values.{base64_row, comment_row, hex_row, padded_base64};
@@ -206,10 +206,10 @@ pub fn pairs_have_their_types(
 /// none.
 pub fn lines_are_cut_at_their_first_separator()
     ensures parts { (line front rest : List ℕ)
-        → key_and_value line ≡ Some (front, rest) ↔ AreParts line front rest }
+        → key_and_value line ≡ Some (front, rest) ↔ AreKeyAndValue line front rest }
     ensures none { (line : List ℕ) → key_and_value line ≡ None ↔ HasNoSeparator line }
-    ensures unique { (line front rest other more : List ℕ) → AreParts line front rest
-        → AreParts line other more → (front ≡ other) × (rest ≡ more) }
+    ensures unique { (line front rest other more : List ℕ) → AreKeyAndValue line front rest
+        → AreKeyAndValue line other more → (front ≡ other) × (rest ≡ more) }
 {}
 
 /// A block's text is that of its counted lines, joined; there is none where fewer lines are left.

@@ -2,7 +2,7 @@
 
 ghost use Rattle.std.specs.Prelude.{◌≡◌, ◌^◌, ◌<◌, ℕ, IfOk, IsOk};
 ghost use Rattle.picky_wire.specs.Gives.{Gives};
-ghost use Rattle.picky_kv.specs.Field.{outcome, Writes};
+ghost use Rattle.picky_kv.specs.Field.{field_value, IsSpelling};
 ghost use Rattle.picky_kv.specs.NumberFields.{u32_field, count_field};
 
 use crate::error::PpkValueError;
@@ -229,7 +229,7 @@ impl PpkField for LineCount {
 
 #[tactic(auto, unfolding(crate::specs::NumberFields::u32_field))]
 fn read_u32(alloc: Global, text: &str) -> Result<u32, PpkValueError>
-    ensures { Gives PpkValueError.NoMemory (λ number. number) result (outcome u32_field text.now) }
+    ensures { Gives PpkValueError.NoMemory (λ number. number) result (field_value u32_field text.now) }
 {
     match text.parse::<u32>() {
         Ok(number) => Ok(number),
@@ -239,7 +239,7 @@ fn read_u32(alloc: Global, text: &str) -> Result<u32, PpkValueError>
 
 #[tactic(auto, unfolding(crate::specs::NumberFields::u32_field))]
 fn write_u32(alloc: Global, number: u32) -> Result<Text, SizeError>
-    ensures { Writes result (u32_field.spelling number) }
+    ensures { IsSpelling result (u32_field.spelling number) }
 {
     match format!(in alloc; "{number}") {
         Ok(string) => text_within(string),

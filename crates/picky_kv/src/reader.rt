@@ -3,10 +3,10 @@
 ghost use Rattle.std.specs.Prelude.{◌≡◌, ◌⊎◌, ℕ, List, [], IfNone, IfSome, IfOk, IfErr, OnErr, string_bytes};
 ghost use Rattle.picky_text.specs.Lines.{lines};
 ghost use Rattle.picky_wire.specs.Gives.{Gives};
-ghost use Rattle.picky_kv.specs.Field.{outcome};
+ghost use Rattle.picky_kv.specs.Field.{field_value};
 ghost use Rattle.picky_kv.specs.Lines.{next_pair, next_block, value_alone, first_joined};
 ghost use Rattle.picky_kv.specs.Lines.{key_and_value as cut};
-ghost use Rattle.picky_kv.specs.Steps.{in_context};
+ghost use Rattle.picky_kv.specs.Context.{in_context};
 
 use crate::error::{KvError, PpkValueError};
 use crate::field::{PpkField, PpkKeyValue, PpkLiteral, PpkMultilineKeyValue};
@@ -170,7 +170,7 @@ fn key_and_value(line: &str) -> Option<(&str, &str)>
 }
 
 fn read_in<K: PpkLiteral, V: PpkField>(alloc: Global, text: &str) -> Result<V, KvError>
-    ensures { Gives KvError.NoMemory (λ value. value) result (in_context K.name (outcome V.field text.now)) }
+    ensures { Gives KvError.NoMemory (λ value. value) result (in_context K.name (field_value V.field text.now)) }
 {
     match V::read(alloc, text) {
         Ok(value) => Ok(value),

@@ -4,7 +4,7 @@ ghost use Rattle.std.specs.Prelude.{◌≡◌, ℕ, List};
 ghost use Rattle.picky_layout.specs.Numbers.{IsBytes};
 ghost use Rattle.hex.specs.Hex.{encode_lower};
 ghost use Rattle.picky_text.specs.Base64.{base64_of};
-ghost use Rattle.picky_kv.specs.Field.{Writes};
+ghost use Rattle.picky_kv.specs.Field.{IsSpelling};
 ghost use Rattle.picky_kv.specs.ValueFields.{comment_field, base64_field, hex_field};
 
 use crate::error::PpkValueError;
@@ -202,7 +202,7 @@ impl From<HexPpkValue> for Bytes {
 }
 
 fn base64_text(alloc: Global, bytes: &[u8]) -> Result<Text, SizeError>
-    ensures text { Writes result (base64_of bytes.now) }
+    ensures text { IsSpelling result (base64_of bytes.now) }
     ensures bytes { IsBytes bytes.now }
 {
     match picky_text::encode(alloc, bytes) {
@@ -212,7 +212,7 @@ fn base64_text(alloc: Global, bytes: &[u8]) -> Result<Text, SizeError>
 }
 
 fn hex_text(alloc: Global, bytes: &[u8]) -> Result<Text, SizeError>
-    ensures text { Writes result (encode_lower bytes.now) }
+    ensures text { IsSpelling result (encode_lower bytes.now) }
     ensures bytes { IsBytes bytes.now }
 {
     match hex::encode(alloc, bytes) {

@@ -4,7 +4,7 @@ use Rattle.std.proofs.Common.{sym, subst, refl, arith, inl, inr}
 use Rattle.std.proofs.lemmas.List.{append-nil}
 use Rattle.picky_layout.specs.Flaw.{Flaw}
 use Rattle.picky_layout.specs.Grammar.{Grammar}
-use Rattle.picky_layout.specs.Narrowed.{Meaning}
+use Rattle.picky_layout.specs.Narrowed.{Narrowing}
 use Rattle.picky_layout.specs.Wire.{string_of}
 use Rattle.picky_layout.specs.Numbers.{IsBytes}
 use Rattle.picky_layout.proofs.Strings.{string_spells, string_exact}
@@ -13,13 +13,13 @@ use Rattle.picky_layout.proofs.Inside.{sub_exact}
 use Rattle.picky_layout.specs.OrEmpty.{empty_or, or_empty}
 
 -- No bytes are read as e.
-pub empty_reads_empty : {E A : Type 0} (e : A) (M : Meaning E (List ℕ) A) (bytes : List ℕ)
+pub empty_reads_empty : {E A : Type 0} (e : A) (M : Narrowing E (List ℕ) A) (bytes : List ℕ)
     → length bytes ≡ 0 → (empty_or e M).decide bytes ≡ Ok e
 empty_reads_empty e M [] none = refl
 empty_reads_empty e M (b ∷ bytes) none = absurd (omega arith)
 
 -- Any others are read as they were.
-pub empty_reads_more : {E A : Type 0} (e : A) (M : Meaning E (List ℕ) A) (bytes : List ℕ)
+pub empty_reads_more : {E A : Type 0} (e : A) (M : Narrowing E (List ℕ) A) (bytes : List ℕ)
     → 0 < length bytes → (empty_or e M).decide bytes ≡ M.decide bytes
 empty_reads_more e M [] some = absurd (omega arith)
 empty_reads_more e M (b ∷ bytes) some = refl

@@ -2,7 +2,7 @@
 use Rattle.std.specs.Prelude.{◌≡◌, List, ℕ, ◌++◌, ◌<◌, ◌^◌, length, Ok}
 use Rattle.std.specs.Int.{w32, to_be_bytes}
 use Rattle.std.proofs.Common.{refl, ◌∙◌, sym, ap, subst}
-use Rattle.picky_layout.specs.Wire.{cells, string_of}
+use Rattle.picky_layout.specs.Wire.{byte_array, string_of}
 use Rattle.picky_layout.specs.Numbers.{IsBytes}
 use Rattle.picky_layout.proofs.Numbers.{uint32_spells, uint32_exact}
 use Rattle.picky_layout.proofs.Strings.{string_spells, string_exact}
@@ -10,7 +10,7 @@ use Rattle.picky_layout.specs.Fixed.{raw, fixed_uint32, sized}
 
 -- The fixed bytes are a piece.
 pub raw_spells : (i : ℕ) (fixed : List ℕ) → (raw i fixed).piece fixed fixed
-unfolding raw cells
+unfolding raw byte_array
 raw_spells i fixed = (fixed, (refl, refl), (refl, refl))
 
 -- They are read whatever follows.
@@ -21,7 +21,7 @@ raw_reads_back i fixed rest = (raw i fixed).complete fixed fixed rest (raw_spell
 -- No other bytes are a piece.
 pub raw_exact : (i : ℕ) (fixed v bytes : List ℕ) → (raw i fixed).piece v bytes
     → (v ≡ fixed) × (bytes ≡ fixed)
-unfolding raw cells
+unfolding raw byte_array
 raw_exact i fixed v bytes (a, (len, is), (fits, same)) = (same ∙ fits, is ∙ fits)
 
 -- The number's four bytes are a piece.

@@ -6,7 +6,7 @@ use Rattle.std.specs.Cmp.{unsigned_Decides}
 use Rattle.std.proofs.Common.{sym, ◌∙◌, ap, subst, refl, inl, inr}
 use Rattle.std.proofs.lemmas.Slice.Eq.{bytes_eq-Decides}
 use Rattle.picky_layout.specs.Flaw.{Flaw, Short, NotUtf8, Flawed, Reason, Magic, Length, Name, Number}
-use Rattle.picky_layout.specs.Wire.{cells, uint32, string, text, of_length, equal_to}
+use Rattle.picky_layout.specs.Wire.{byte_array, uint32, string, text, of_length, equal_to}
 use Rattle.picky_layout.specs.Fixed.{raw, sized, is_number, fixed_uint32}
 use Rattle.picky_layout.specs.Short.{EndsInString}
 use Rattle.picky_layout.proofs.Strings.{text_reads}
@@ -14,10 +14,10 @@ use Rattle.picky_layout.specs.Table.{Table, find_entry}
 use Rattle.picky_layout.specs.Entry.{entry}
 use Rattle.picky_layout.proofs.Table.{none_is_found}
 use Rattle.picky_layout.specs.carried.Table.{key_is_found}
-use Rattle.picky_layout.specs.Names.{named}
+use Rattle.picky_layout.specs.Named.{named}
 use Rattle.picky_layout.specs.When.{HoldsString}
 use Rattle.picky_layout.proofs.Narrowed.{place_cases, place_flawed_when, place_value_when, allowed_refused, allowed_refuses, same_why}
-use Rattle.picky_layout.proofs.When.{cells_are_short, cells_are_read, cells_read_front, uint32_is_short, uint32_is_read, uint32_read_front, string_is_short, text_is_short, text_is_not_utf8, text_only, text_read_string}
+use Rattle.picky_layout.proofs.When.{byte_array_are_short, byte_array_are_read, byte_array_read_front, uint32_is_short, uint32_is_read, uint32_read_front, string_is_short, text_is_short, text_is_not_utf8, text_only, text_read_string}
 
 -- One fact is the other's, and that one a third's.
 through : {A B C : Type 0} → (A → B) × (B → A) → (B → C) × (C → B) → (A → C) × (C → A)
@@ -46,9 +46,9 @@ unfolding raw
 raw_is_short i fixed bytes =
     let n = length fixed in
     through
-    (place_flawed_when i (cells n) (equal_to (λ _. (i, Magic)) fixed) (raw_has_no_flaw i fixed)
+    (place_flawed_when i (byte_array n) (equal_to (λ _. (i, Magic)) fixed) (raw_has_no_flaw i fixed)
     bytes Short)
-    ((cells_are_short n).short bytes)
+    ((byte_array_are_short n).short bytes)
 
 -- They differ exactly where as many are left and aren't the fixed ones.
 pub raw_is_other : (i : ℕ) (fixed bytes : List ℕ)
@@ -57,17 +57,17 @@ pub raw_is_other : (i : ℕ) (fixed bytes : List ℕ)
 unfolding raw
 raw_is_other i fixed bytes =
     let n = length fixed in
-    let when = place_value_when i (cells n) (equal_to (λ _. (i, Magic)) fixed) Magic
+    let when = place_value_when i (byte_array n) (equal_to (λ _. (i, Magic)) fixed) Magic
     (λ flaw is. cc is) bytes in (
       λ refused.
           let w = when.0 refused in
-          let front = cells_read_front n bytes w.value w.rest w.whole in
+          let front = byte_array_read_front n bytes w.value w.rest w.whole in
           let differs = raw_differs i fixed w.value (i, Magic) w.refused in
           (front.0, λ same. differs.0 (sym front.1 ∙ same)),
       λ (enough, differs). when.1 (record {
         value = take n bytes;
         rest = drop n bytes;
-        whole = cells_are_read n bytes enough;
+        whole = byte_array_are_read n bytes enough;
         refused = allowed_refuses (λ b. b ≡ fixed) (λ b. bytes_eq b fixed) (λ _. (i, Magic))
             (λ b. bytes_eq-Decides b fixed) (take n bytes) differs;
       }),
@@ -79,9 +79,9 @@ pub raw_only : (i : ℕ) (fixed bytes : List ℕ) (r : Reason) → (raw i fixed)
 unfolding raw
 raw_only i fixed bytes r refused =
     let n = length fixed in
-    elim (place_cases i (cells n) (equal_to (λ _. (i, Magic)) fixed) bytes r refused) [
+    elim (place_cases i (byte_array n) (equal_to (λ _. (i, Magic)) fixed) bytes r refused) [
       | inl f ↦
-          let short = (cells_are_short n).only bytes f.flaw f.refused in
+          let short = (byte_array_are_short n).only bytes f.flaw f.refused in
           inl (f.is ∙ ap (λ g. (i, Flawed g)) short)
       | inr w ↦ inr (raw_differs i fixed w.value r w.refused).1
     ]

@@ -8,7 +8,7 @@ pub mod Grammar
 pub mod Inside
 pub mod Many
 pub mod Mpint
-pub mod Names
+pub mod Named
 pub mod Numbers
 pub mod Outcome
 pub mod Refused

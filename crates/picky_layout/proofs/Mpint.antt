@@ -7,7 +7,7 @@ use Rattle.picky_layout.specs.Wire.{string_of}
 use Rattle.picky_layout.specs.Numbers.{IsBytes}
 use Rattle.picky_layout.proofs.Strings.{string_spells, string_exact}
 use Rattle.picky_layout.proofs.Zeros.{length_with_zeros}
-use Rattle.picky_layout.specs.Magnitude.{IsMpint}
+use Rattle.picky_layout.specs.Magnitude.{IsMagnitude}
 use Rattle.picky_layout.specs.Mpint.{mpint, mpint_of, IsMpintPiece}
 
 -- The zero byte stands exactly before a first byte of 128 or more.
@@ -23,7 +23,7 @@ mpint_of_low v low =
     ap (λ t. string_of (if t then 0 ∷ v else v)) (lt-leb 128 (slice_index v 0) low)
 
 -- Each number of zeros that fits a string may stand in front.
-pub mpint_spells_with : (zeros : ℕ) (v : List ℕ) → IsMpint v → zeros + length v < 2 ^ 32
+pub mpint_spells_with : (zeros : ℕ) (v : List ℕ) → IsMagnitude v → zeros + length v < 2 ^ 32
     → mpint.piece v (string_of (replicate zeros 0 ++ v))
 unfolding mpint
 mpint_spells_with zeros v number short =
@@ -32,7 +32,7 @@ mpint_spells_with zeros v number short =
     (bytes, string_spells bytes fits, record { mpint = number; zeros = zeros; are = refl })
 
 -- The spelling that is written is a piece.
-pub mpint_spells : (v : List ℕ) → IsMpint v → mpint.piece v (mpint_of v)
+pub mpint_spells : (v : List ℕ) → IsMagnitude v → mpint.piece v (mpint_of v)
 mpint_spells v number =
     let is_piece = mpint.piece v in
     elim (cases_lt (slice_index v 0) 128) [
@@ -43,7 +43,7 @@ mpint_spells v number =
     ]
 
 -- It is read back whatever follows.
-pub mpint_reads_back : (v rest : List ℕ) → IsMpint v
+pub mpint_reads_back : (v rest : List ℕ) → IsMagnitude v
     → mpint.read (mpint_of v ++ rest) ≡ Ok (v, rest)
 mpint_reads_back v rest number = mpint.complete v (mpint_of v) rest (mpint_spells v number)
 

@@ -6,7 +6,7 @@ use Rattle.picky_layout.specs.Outcome.{and_then, map_err}
 use Rattle.picky_layout.specs.carried.Outcome.{and_then_ok, map_err_ok, same_pair}
 use Rattle.picky_layout.specs.Flaw.{Flaw, Flawed, Why, Reason}
 use Rattle.picky_layout.specs.Grammar.{Grammar, Fits}
-use Rattle.picky_layout.specs.Narrowed.{Meaning, meant}
+use Rattle.picky_layout.specs.Narrowed.{Narrowing, meant}
 use Rattle.picky_layout.specs.Combine.{narrow, at, ◌>>=◌}
 use Rattle.picky_layout.proofs.Refused.{Stuck, First, Later, both_refused, StuckNarrowed, Field, Value, narrow_refused}
 
@@ -57,7 +57,7 @@ both_refused_when {A = A} G H bytes e =
 -- ---- a field that may say less than its kind
 
 -- A field is read exactly where its kind is and its value stands for something.
-pub narrow_read_when : {E A B : Type 0} (G : Grammar E A) (M : Meaning E A B) (bytes : List ℕ)
+pub narrow_read_when : {E A B : Type 0} (G : Grammar E A) (M : Narrowing E A B) (bytes : List ℕ)
     (b : B) (rest : List ℕ) → (narrow G M).read bytes ≡ Ok (b, rest)
     ↔ ((a : A) × (G.read bytes ≡ Ok (a, rest)) × M.means a b)
 narrow_read_when G M bytes b rest = (
@@ -76,7 +76,7 @@ narrow_read_when G M bytes b rest = (
 )
 
 -- The same of a field that may say less.
-stuck_narrowed : {E A B : Type 0} (G : Grammar E A) (M : Meaning E A B) (bytes : List ℕ) (e : E)
+stuck_narrowed : {E A B : Type 0} (G : Grammar E A) (M : Narrowing E A B) (bytes : List ℕ) (e : E)
     → StuckNarrowed G M bytes e
     → (G.read bytes ≡ Err e)
     ⊎ ((a : A) × (rest : List ℕ) × Fits G.piece a bytes rest × (M.decide a ≡ Err e))
@@ -84,7 +84,7 @@ stuck_narrowed G M bytes e (Field is) = inl is
 stuck_narrowed G M bytes e (Value a rest fits is) = inr (a, rest, fits, is)
 
 -- A field is refused exactly where its kind is, or where a piece stands in front whose value is.
-pub narrow_refused_when : {E A B : Type 0} (G : Grammar E A) (M : Meaning E A B) (bytes : List ℕ)
+pub narrow_refused_when : {E A B : Type 0} (G : Grammar E A) (M : Narrowing E A B) (bytes : List ℕ)
     (e : E) → (narrow G M).read bytes ≡ Err e
     ↔ ((G.read bytes ≡ Err e)
     ⊎ ((a : A) × (rest : List ℕ) × Fits G.piece a bytes rest × (M.decide a ≡ Err e)))
@@ -107,7 +107,7 @@ pub record WholeButRefused {E F A B : Type 0} (read : List ℕ → Result (A × 
   pub refused : decide value ≡ Err e
 
 -- Where the value is stuck, it is whole.
-stuck_cases : {E A B : Type 0} (G : Grammar E A) (M : Meaning E A B) (bytes : List ℕ) (e : E)
+stuck_cases : {E A B : Type 0} (G : Grammar E A) (M : Narrowing E A B) (bytes : List ℕ) (e : E)
     → StuckNarrowed G M bytes e → (G.read bytes ≡ Err e) ⊎ WholeButRefused G.read M.decide bytes e
 stuck_cases G M bytes e (Field is) = inl is
 stuck_cases G M bytes e (Value a rest fits is) =
@@ -119,18 +119,18 @@ stuck_cases G M bytes e (Value a rest fits is) =
     })
 
 -- A field is refused as its kind is, or it is whole and its value is refused.
-pub narrow_cases : {E A B : Type 0} (G : Grammar E A) (M : Meaning E A B) (bytes : List ℕ) (e : E)
+pub narrow_cases : {E A B : Type 0} (G : Grammar E A) (M : Narrowing E A B) (bytes : List ℕ) (e : E)
     → (narrow G M).read bytes ≡ Err e
     → (G.read bytes ≡ Err e) ⊎ WholeButRefused G.read M.decide bytes e
 narrow_cases G M bytes e refused = stuck_cases G M bytes e (narrow_refused G M bytes e refused)
 
 -- What its kind refuses, it refuses.
-pub narrow_keeps : {E A B : Type 0} (G : Grammar E A) (M : Meaning E A B) (bytes : List ℕ) (e : E)
+pub narrow_keeps : {E A B : Type 0} (G : Grammar E A) (M : Narrowing E A B) (bytes : List ℕ) (e : E)
     → G.read bytes ≡ Err e → (narrow G M).read bytes ≡ Err e
 narrow_keeps G M bytes e is = ap (λ r. and_then r (meant M)) is
 
 -- A whole field is refused for its value.
-pub narrow_refuses : {E A B : Type 0} (G : Grammar E A) (M : Meaning E A B) (bytes : List ℕ) (e : E)
+pub narrow_refuses : {E A B : Type 0} (G : Grammar E A) (M : Narrowing E A B) (bytes : List ℕ) (e : E)
     → WholeButRefused G.read M.decide bytes e → (narrow G M).read bytes ≡ Err e
 narrow_refuses G M bytes e w =
     ap (λ r. and_then r (meant M)) w.whole
@@ -152,7 +152,7 @@ map_err_err f (Ok x) e same = cc same
 map_err_err f (Err g) e same = (g, refl, cc same)
 
 -- A field at a place is refused with its place, for a flaw of its kind or for its value.
-pub place_cases : {A B : Type 0} (i : ℕ) (G : Grammar Flaw A) (M : Meaning Reason A B)
+pub place_cases : {A B : Type 0} (i : ℕ) (G : Grammar Flaw A) (M : Narrowing Reason A B)
     (bytes : List ℕ) (r : Reason) → (narrow (at i G) M).read bytes ≡ Err r
     → FlawedAt i G.read bytes r ⊎ WholeButRefused G.read M.decide bytes r
 place_cases i G M bytes r refused =
@@ -171,14 +171,14 @@ place_cases i G M bytes r refused =
     ]
 
 -- A flaw of its kind is a reason.
-pub place_keeps : {A B : Type 0} (i : ℕ) (G : Grammar Flaw A) (M : Meaning Reason A B)
+pub place_keeps : {A B : Type 0} (i : ℕ) (G : Grammar Flaw A) (M : Narrowing Reason A B)
     (bytes : List ℕ) (flaw : Flaw) → G.read bytes ≡ Err flaw
     → (narrow (at i G) M).read bytes ≡ Err (i, Flawed flaw)
 place_keeps i G M bytes flaw is =
     narrow_keeps (at i G) M bytes (i, Flawed flaw) (ap (map_err (λ f. (i, Flawed f))) is)
 
 -- So is what refuses its value.
-pub place_refuses : {A B : Type 0} (i : ℕ) (G : Grammar Flaw A) (M : Meaning Reason A B)
+pub place_refuses : {A B : Type 0} (i : ℕ) (G : Grammar Flaw A) (M : Narrowing Reason A B)
     (bytes : List ℕ) (r : Reason) → WholeButRefused G.read M.decide bytes r
     → (narrow (at i G) M).read bytes ≡ Err r
 place_refuses i G M bytes r w =
@@ -194,7 +194,7 @@ pub same_why : (r s : Reason) → r ≡ s → r.1 ≡ s.1
 same_why r s same = ap (λ (t : Reason). t.1) same
 
 -- Where no value is refused for a flaw, the flaws are those of its kind.
-pub place_flawed_when : {A B : Type 0} (i : ℕ) (G : Grammar Flaw A) (M : Meaning Reason A B)
+pub place_flawed_when : {A B : Type 0} (i : ℕ) (G : Grammar Flaw A) (M : Narrowing Reason A B)
     → ((a : A) (flaw : Flaw) → M.decide a ≡ Err (i, Flawed flaw) → ⊥)
     → (bytes : List ℕ) (flaw : Flaw)
     → (narrow (at i G) M).read bytes ≡ Err (i, Flawed flaw) ↔ G.read bytes ≡ Err flaw
@@ -210,7 +210,7 @@ place_flawed_when {A = A} i G M other bytes flaw = (forth, place_keeps i G M byt
     ]
 
 -- A reason that is no flaw is that of the value.
-pub place_value_when : {A B : Type 0} (i : ℕ) (G : Grammar Flaw A) (M : Meaning Reason A B)
+pub place_value_when : {A B : Type 0} (i : ℕ) (G : Grammar Flaw A) (M : Narrowing Reason A B)
     (why : Why) → ((flaw : Flaw) → why ≡ Flawed flaw → ⊥) → (bytes : List ℕ)
     → (narrow (at i G) M).read bytes ≡ Err (i, why)
     ↔ WholeButRefused G.read M.decide bytes (i, why)

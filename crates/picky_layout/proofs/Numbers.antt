@@ -6,7 +6,7 @@ use Rattle.std.proofs.lemmas.Bool.{cases_lt}
 use Rattle.std.proofs.lemmas.List.{get_or_append_left, get_or-append-add, get_or_past, take-append-drop}
 use Rattle.std.proofs.lemmas.Nat.{be_bytes_4, be_bytes_8, from_be_bytes-to_be_bytes_4}
 use Rattle.std.proofs.lemmas.Nat.{from_be_bytes-to_be_bytes_8}
-use Rattle.picky_layout.specs.Wire.{cells, number, uint32}
+use Rattle.picky_layout.specs.Wire.{byte_array, number, uint32}
 use Rattle.picky_layout.specs.Numbers.{byte, uint64, IsBytes}
 
 -- What bytes are made of is bytes.
@@ -32,7 +32,7 @@ back_bytes n bytes each =
 
 number_spells : (w : Width) (n : ℕ) → length (to_be_bytes w n) ≡ byte_len w
     → from_be_bytes w (to_be_bytes w n) ≡ n → (number w).piece n (to_be_bytes w n)
-unfolding cells
+unfolding byte_array
 number_spells w n len same = (to_be_bytes w n, (len, refl), same)
 
 byte_from_spelling : (n : ℕ) → n < 2 ^ 8 → from_be_bytes w8 (to_be_bytes w8 n) ≡ n
@@ -91,7 +91,7 @@ uint64_below bytes each =
 -- A piece is the number's one byte, and the number is below 2^8.
 pub byte_exact : (n : ℕ) (bytes : List ℕ) → IsBytes bytes → byte.piece n bytes
     → (bytes ≡ to_be_bytes w8 n) × (n < 2 ^ 8)
-unfolding byte cells
+unfolding byte byte_array
 byte_exact n bytes each (v, (len, is), same) =
     let whole : n ≡ from_be_bytes w8 bytes = sym same ∙ ap (from_be_bytes w8) (sym is) in (
       sym (byte_is_spelling bytes n (ap length is ∙ len) each whole),
@@ -101,7 +101,7 @@ byte_exact n bytes each (v, (len, is), same) =
 -- A piece is the number's four bytes, and the number is below 2^32.
 pub uint32_exact : (n : ℕ) (bytes : List ℕ) → IsBytes bytes → uint32.piece n bytes
     → (bytes ≡ to_be_bytes w32 n) × (n < 2 ^ 32)
-unfolding uint32 cells
+unfolding uint32 byte_array
 uint32_exact n bytes each (v, (len, is), same) =
     let whole : n ≡ from_be_bytes w32 bytes = sym same ∙ ap (from_be_bytes w32) (sym is) in (
       sym (be_bytes_4 bytes n (ap length is ∙ len) each whole),
@@ -111,7 +111,7 @@ uint32_exact n bytes each (v, (len, is), same) =
 -- A piece is the number's eight bytes, and the number is below 2^64.
 pub uint64_exact : (n : ℕ) (bytes : List ℕ) → IsBytes bytes → uint64.piece n bytes
     → (bytes ≡ to_be_bytes w64 n) × (n < 2 ^ 64)
-unfolding uint64 cells
+unfolding uint64 byte_array
 uint64_exact n bytes each (v, (len, is), same) =
     let whole : n ≡ from_be_bytes w64 bytes = sym same ∙ ap (from_be_bytes w64) (sym is) in (
       sym (be_bytes_8 bytes n (ap length is ∙ len) each whole),

@@ -3,7 +3,7 @@ use Rattle.std.specs.Prelude.{◌≡◌, List, ℕ, Result, Ok, Err}
 use Rattle.std.proofs.Common.{sym, ◌∙◌, ap, refl}
 use Rattle.picky_layout.specs.Outcome.{and_then}
 use Rattle.picky_layout.specs.Grammar.{Grammar, Fits}
-use Rattle.picky_layout.specs.Narrowed.{Meaning, meant}
+use Rattle.picky_layout.specs.Narrowed.{Narrowing, meant}
 use Rattle.picky_layout.specs.Combine.{narrow, ◌>>=◌}
 
 -- ---- one answer
@@ -52,7 +52,7 @@ both_refused {E = E} {A = A} G H bytes e same = go (G.read bytes) refl same
     go (Err f) is first = First (is ∙ cc first)
 
 -- the reason is the field's, or the field fits and the reason is that of its value
-pub data StuckNarrowed {E A B : Type 0} (G : Grammar E A) (M : Meaning E A B) (bytes : List ℕ)
+pub data StuckNarrowed {E A B : Type 0} (G : Grammar E A) (M : Narrowing E A B) (bytes : List ℕ)
     (e : E) : Type 0 where
   Field : G.read bytes ≡ Err e → StuckNarrowed G M bytes e
   Value : (a : A) (rest : List ℕ) → Fits G.piece a bytes rest → M.decide a ≡ Err e
@@ -64,7 +64,7 @@ value_refused (Ok b) rest e same = cc same
 value_refused (Err f) rest e same = ap Err (cc same)
 
 -- A field that may say less than its kind is refused as its kind is, or for its value.
-pub narrow_refused : {E A B : Type 0} (G : Grammar E A) (M : Meaning E A B) (bytes : List ℕ) (e : E)
+pub narrow_refused : {E A B : Type 0} (G : Grammar E A) (M : Narrowing E A B) (bytes : List ℕ) (e : E)
     → (narrow G M).read bytes ≡ Err e → StuckNarrowed G M bytes e
 narrow_refused {E = E} {A = A} G M bytes e same = go (G.read bytes) refl same
   where

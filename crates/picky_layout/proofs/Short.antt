@@ -10,41 +10,41 @@ use Rattle.picky_layout.proofs.Outcome.{guard_err}
 use Rattle.picky_layout.specs.Flaw.{Flaw, Short}
 use Rattle.picky_layout.specs.Combine.{each}
 use Rattle.picky_layout.specs.Narrowed.{meant}
-use Rattle.picky_layout.specs.Wire.{cells, uint32, string}
-use Rattle.picky_layout.specs.Cells.{read_cells}
+use Rattle.picky_layout.specs.Wire.{byte_array, uint32, string}
+use Rattle.picky_layout.specs.ByteArray.{read_byte_array}
 use Rattle.picky_layout.specs.Short.{EndsInString}
 
 -- reading a string, where the first test says whether its length is cut off
 abbrev read_by : Bool → List ℕ → Result (List ℕ × List ℕ) Flaw
-unfolding cells
+unfolding byte_array
 read_by cut bytes =
     and_then (and_then (if cut then Err Short else Ok (take 4 bytes, drop 4 bytes))
-    (meant (each (from_be_bytes w32)))) (λ first. (cells first.0).read first.1)
+    (meant (each (from_be_bytes w32)))) (λ first. (byte_array first.0).read first.1)
 
 read_by_is : (bytes : List ℕ) → string.read bytes ≡ read_by (nat_lt (length bytes) 4) bytes
-unfolding string uint32 cells
+unfolding string uint32 byte_array
 read_by_is bytes = refl
 
 read_short : (bytes : List ℕ) → length bytes < 4 → string.read bytes ≡ Err Short
-unfolding cells
+unfolding byte_array
 read_short bytes short =
     read_by_is bytes ∙ ap (λ cut. read_by cut bytes) (lt-ltb (length bytes) 4 short)
 
 read_long : (bytes : List ℕ) → 4 ≤ length bytes
-    → string.read bytes ≡ read_cells (from_be_bytes w32 (take 4 bytes)) (drop 4 bytes)
-unfolding cells
+    → string.read bytes ≡ read_byte_array (from_be_bytes w32 (take 4 bytes)) (drop 4 bytes)
+unfolding byte_array
 read_long bytes long =
     read_by_is bytes ∙ ap (λ cut. read_by cut bytes) (le-ltb (length bytes) 4 long)
 
 -- Too few bytes are refused as short, and for nothing else.
-pub cells_short : (n : ℕ) (bytes : List ℕ) → length bytes < n → read_cells n bytes ≡ Err Short
-cells_short n bytes short =
+pub byte_array_short : (n : ℕ) (bytes : List ℕ) → length bytes < n → read_byte_array n bytes ≡ Err Short
+byte_array_short n bytes short =
     ap (λ cut. if cut then Err Short else Ok (take n bytes, drop n bytes))
     (lt-ltb (length bytes) n short)
 
-pub cells_refused : (n : ℕ) (bytes : List ℕ) (e : Flaw) → read_cells n bytes ≡ Err e
+pub byte_array_refused : (n : ℕ) (bytes : List ℕ) (e : Flaw) → read_byte_array n bytes ≡ Err e
     → (e ≡ Short) × (length bytes < n)
-cells_refused n bytes e refused =
+byte_array_refused n bytes e refused =
     let cut = guard_err (nat_lt (length bytes) n) Short e (take n bytes, drop n bytes) refused in
     (cut.1, ltb-true (length bytes) n cut.0)
 
@@ -56,7 +56,7 @@ string_short bytes ends =
       | inl short ↦ read_short bytes short
       | inr long ↦
           read_long bytes long
-          ∙ cells_short n (drop 4 bytes) (omega (arith, length-drop 4 bytes))
+          ∙ byte_array_short n (drop 4 bytes) (omega (arith, length-drop 4 bytes))
     ]
 
 -- It is refused for no other reason.
@@ -67,6 +67,6 @@ string_refused bytes e refused =
     elim (cases_lt (length bytes) 4) [
       | inl short ↦ let same = sym refused ∙ read_short bytes short in (cc same, omega arith)
       | inr long ↦
-          let cut = cells_refused n (drop 4 bytes) e (sym (read_long bytes long) ∙ refused) in
+          let cut = byte_array_refused n (drop 4 bytes) e (sym (read_long bytes long) ∙ refused) in
           (cut.0, omega (arith, length-drop 4 bytes))
     ]

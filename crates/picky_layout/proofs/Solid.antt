@@ -4,7 +4,7 @@ use Rattle.std.proofs.Common.{refl, arith}
 use Rattle.picky_layout.specs.Flaw.{Short}
 use Rattle.picky_layout.specs.Grammar.{Grammar}
 use Rattle.picky_layout.proofs.Grammar.{refused_has_none}
-use Rattle.picky_layout.specs.Wire.{cells, uint32, string, text}
+use Rattle.picky_layout.specs.Wire.{byte_array, uint32, string, text}
 use Rattle.picky_layout.specs.Numbers.{byte, uint64}
 use Rattle.picky_layout.specs.Mpint.{mpint}
 use Rattle.picky_layout.specs.Row.{Solid}
@@ -24,25 +24,25 @@ read_shortens G solid bytes v rest is = shorter G solid bytes rest v (G.sound by
 -- ---- numbers, strings and mpints
 
 pub byte_solid : Solid byte.piece
-unfolding byte cells
+unfolding byte byte_array
 byte_solid = refuses_empty byte Short refl
 
 pub uint32_solid : Solid uint32.piece
-unfolding uint32 cells
+unfolding uint32 byte_array
 uint32_solid = refuses_empty uint32 Short refl
 
 pub uint64_solid : Solid uint64.piece
-unfolding uint64 cells
+unfolding uint64 byte_array
 uint64_solid = refuses_empty uint64 Short refl
 
 pub string_solid : Solid string.piece
-unfolding string uint32 cells
+unfolding string uint32 byte_array
 string_solid = refuses_empty string Short refl
 
 pub text_solid : Solid text.piece
-unfolding text string uint32 cells
+unfolding text string uint32 byte_array
 text_solid = refuses_empty text Short refl
 
 pub mpint_solid : Solid mpint.piece
-unfolding mpint string uint32 cells
+unfolding mpint string uint32 byte_array
 mpint_solid = refuses_empty mpint Short refl

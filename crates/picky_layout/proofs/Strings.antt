@@ -7,14 +7,14 @@ use Rattle.std.proofs.Common.{sym, ◌∙◌, ap, subst, refl}
 use Rattle.picky_layout.specs.Outcome.{and_then}
 use Rattle.picky_layout.specs.Flaw.{Flaw, NotUtf8}
 use Rattle.picky_layout.specs.Narrowed.{meant}
-use Rattle.picky_layout.specs.Wire.{cells, string, string_of, text, utf8}
+use Rattle.picky_layout.specs.Wire.{byte_array, string, string_of, text, utf8}
 use Rattle.picky_layout.specs.carried.Wire.{IsUtf8-Decides}
 use Rattle.picky_layout.specs.Numbers.{IsBytes}
 use Rattle.picky_layout.proofs.Numbers.{bytes_in_front, uint32_spells, uint32_exact}
 
 -- Bytes shorter than 2^32 are spelled by their string.
 pub string_spells : (v : List ℕ) → length v < 2 ^ 32 → string.piece v (string_of v)
-unfolding string string_of cells
+unfolding string string_of byte_array
 string_spells v short =
     (length v, to_be_bytes w32 (length v), v, uint32_spells (length v) short, (refl, refl), refl)
 
@@ -26,7 +26,7 @@ string_reads_back v rest short = string.complete v (string_of v) rest (string_sp
 -- A piece is the four bytes of the length and then the bytes, which are fewer than 2^32.
 pub string_exact : (v bytes : List ℕ) → IsBytes bytes → string.piece v bytes
     → (bytes ≡ string_of v) × (length v < 2 ^ 32)
-unfolding string string_of cells
+unfolding string string_of byte_array
 string_exact v bytes each (n, x, y, number, (len, is), joined) =
     let front = bytes_in_front x y (subst IsBytes joined each) in
     let exact = uint32_exact n x front number in (

@@ -10,12 +10,12 @@ use Rattle.picky_layout.specs.carried.Outcome.{guard_ok, pass_ok, same_pair}
 use Rattle.picky_layout.specs.Flaw.{Flaw, Short, NotUtf8, Big}
 use Rattle.picky_layout.specs.Combine.{each}
 use Rattle.picky_layout.specs.Narrowed.{meant}
-use Rattle.picky_layout.specs.Wire.{cells, number, uint32, string, text, utf8}
+use Rattle.picky_layout.specs.Wire.{byte_array, number, uint32, string, text, utf8}
 use Rattle.picky_layout.specs.carried.Wire.{IsUtf8-Decides}
 use Rattle.picky_layout.specs.Numbers.{byte, uint64}
 use Rattle.picky_layout.proofs.Strings.{text_refuses, text_stuck}
 use Rattle.picky_layout.specs.Short.{EndsInString}
-use Rattle.picky_layout.proofs.Short.{cells_short, cells_refused, string_short, string_refused}
+use Rattle.picky_layout.proofs.Short.{byte_array_short, byte_array_refused, string_short, string_refused}
 use Rattle.picky_layout.specs.Zeros.{without_zeros}
 use Rattle.picky_layout.specs.carried.Zeros.{zeros_in_front}
 use Rattle.picky_layout.proofs.Zeros.{length_with_zeros}
@@ -26,26 +26,26 @@ use Rattle.picky_layout.proofs.Narrowed.{fits_is_read, narrow_cases, narrow_keep
 -- ---- byte[n]
 
 -- byte[n] is refused exactly where fewer bytes are left.
-pub cells_are_short : (n : ℕ) → IsShortWhere (cells n).read (λ bytes. length bytes < n)
-unfolding cells
-cells_are_short n = record {
-  short = λ bytes. (λ is. (cells_refused n bytes Short is).1, cells_short n bytes);
-  only = λ bytes e is. (cells_refused n bytes e is).0;
+pub byte_array_are_short : (n : ℕ) → IsShortWhere (byte_array n).read (λ bytes. length bytes < n)
+unfolding byte_array
+byte_array_are_short n = record {
+  short = λ bytes. (λ is. (byte_array_refused n bytes Short is).1, byte_array_short n bytes);
+  only = λ bytes e is. (byte_array_refused n bytes e is).0;
 }
 
 -- Where as many are left, they are read.
-pub cells_are_read : (n : ℕ) (bytes : List ℕ) → n ≤ length bytes
-    → (cells n).read bytes ≡ Ok (take n bytes, drop n bytes)
-unfolding cells
-cells_are_read n bytes enough =
+pub byte_array_are_read : (n : ℕ) (bytes : List ℕ) → n ≤ length bytes
+    → (byte_array n).read bytes ≡ Ok (take n bytes, drop n bytes)
+unfolding byte_array
+byte_array_are_read n bytes enough =
     pass_ok (nat_lt (length bytes) n) Short (take n bytes, drop n bytes)
     (take n bytes, drop n bytes) (le-ltb (length bytes) n enough) refl
 
 -- What is read is that many bytes.
-pub cells_read_front : (n : ℕ) (bytes v rest : List ℕ) → (cells n).read bytes ≡ Ok (v, rest)
+pub byte_array_read_front : (n : ℕ) (bytes v rest : List ℕ) → (byte_array n).read bytes ≡ Ok (v, rest)
     → (n ≤ length bytes) × (take n bytes ≡ v)
-unfolding cells
-cells_read_front n bytes v rest is =
+unfolding byte_array
+byte_array_read_front n bytes v rest is =
     let short = nat_lt (length bytes) n in
     let passed = guard_ok short Short (take n bytes, drop n bytes) (v, rest) is in
     (ltb-false (length bytes) n passed.0, ap (λ p. p.0) passed.1)
@@ -54,9 +54,9 @@ cells_read_front n bytes v rest is =
 
 -- A number is refused as its bytes are.
 number_refused : (w : Width) (bytes : List ℕ) (e : Flaw) → (number w).read bytes ≡ Err e
-    → (cells (byte_len w)).read bytes ≡ Err e
+    → (byte_array (byte_len w)).read bytes ≡ Err e
 number_refused w bytes e refused =
-    elim (narrow_cases (cells (byte_len w)) (each (from_be_bytes w)) bytes e refused) [
+    elim (narrow_cases (byte_array (byte_len w)) (each (from_be_bytes w)) bytes e refused) [
       | inl is ↦ is
       | inr v ↦ cc v.refused
     ]
@@ -64,8 +64,8 @@ number_refused w bytes e refused =
 -- So it is short exactly where they are.
 number_is_short : (w : Width) → IsShortWhere (number w).read (λ bytes. length bytes < byte_len w)
 number_is_short w =
-    let G = cells (byte_len w) in
-    let kind = cells_are_short (byte_len w) in
+    let G = byte_array (byte_len w) in
+    let kind = byte_array_are_short (byte_len w) in
     record {
       short = λ bytes. (
         λ is. (kind.short bytes).0 (number_refused w bytes Short is),
@@ -79,7 +79,7 @@ number_is_read : (w : Width) (bytes : List ℕ) → byte_len w ≤ length bytes
     → (number w).read bytes
     ≡ Ok (from_be_bytes w (take (byte_len w) bytes), drop (byte_len w) bytes)
 number_is_read w bytes enough =
-    ap (λ r. and_then r (meant (each (from_be_bytes w)))) (cells_are_read (byte_len w) bytes enough)
+    ap (λ r. and_then r (meant (each (from_be_bytes w)))) (byte_array_are_read (byte_len w) bytes enough)
 
 -- A byte is refused exactly where no byte is left.
 pub byte_is_short : IsShortWhere byte.read (λ bytes. length bytes < 1)
@@ -147,12 +147,12 @@ string_is_read bytes whole =
     let n = from_be_bytes w32 (take 4 bytes) in
     let enough : 4 + n ≤ length bytes = omega arith in
     let len = uint32_is_read bytes (omega arith) in
-    ap (λ r. and_then r (λ first. (cells first.0).read first.1)) len
-    ∙ cells_are_read n (drop 4 bytes) (omega (arith, length-drop 4 bytes))
+    ap (λ r. and_then r (λ first. (byte_array first.0).read first.1)) len
+    ∙ byte_array_are_read n (drop 4 bytes) (omega (arith, length-drop 4 bytes))
 
 -- A string's piece is four bytes longer than what it holds.
 pub string_len : (v bytes : List ℕ) → string.piece v bytes → length bytes ≡ 4 + length v
-unfolding string uint32 cells
+unfolding string uint32 byte_array
 string_len v bytes (n, x, y, (a, (four, is_a), means), (len, is), joined) =
     omega (arith, ap length joined, length-append x y, ap length is_a, ap length is)
 

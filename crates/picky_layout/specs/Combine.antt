@@ -10,7 +10,7 @@ use Rattle.picky_layout.specs.carried.Combine.{done_sound, done_complete, done_t
 use Rattle.picky_layout.specs.carried.Combine.{both_complete, both_takes, narrow_sound, narrow_complete}
 use Rattle.picky_layout.specs.carried.Combine.{narrow_takes, allowed_sound, allowed_complete, each_sound}
 use Rattle.picky_layout.specs.Joined.{Joined, read_both, used_both}
-use Rattle.picky_layout.specs.Narrowed.{Meaning, Narrowed, read_narrowed}
+use Rattle.picky_layout.specs.Narrowed.{Narrowing, Narrowed, read_narrowed}
 
 -- a value that takes no bytes
 abbrev pub done : {E A : Type 0} → A → Grammar E A
@@ -36,7 +36,7 @@ G >>= H = record {
 }
 
 -- the field's pieces, each with the value that its own value stands for
-abbrev pub narrow : {E A B : Type 0} → Grammar E A → Meaning E A B → Grammar E B
+abbrev pub narrow : {E A B : Type 0} → Grammar E A → Narrowing E A B → Grammar E B
 narrow G M = record {
   piece = Narrowed G M;
   read = read_narrowed G M;
@@ -47,7 +47,7 @@ narrow G M = record {
 }
 
 abbrev pub allowed : {E A : Type 0} (P : A → Type 0) (test : A → Bool) (why : A → E)
-    → ((a : A) → Decides (test a) (P a)) → Meaning E A A
+    → ((a : A) → Decides (test a) (P a)) → Narrowing E A A
 allowed P test why decides = record {
   means = λ a b. P a × (b ≡ a);
   decide = λ a. if test a then Ok a else Err (why a);
@@ -55,7 +55,7 @@ allowed P test why decides = record {
   complete = allowed_complete P test why decides;
 }
 
-abbrev pub each : {E A B : Type 0} → (A → B) → Meaning E A B
+abbrev pub each : {E A B : Type 0} → (A → B) → Narrowing E A B
 each f = record {
   means = λ a b. f a ≡ b;
   decide = λ a. Ok (f a);

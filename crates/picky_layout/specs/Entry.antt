@@ -1,12 +1,12 @@
 -- What a key of a table stands for.
 use Rattle.std.specs.Prelude.{◌≡◌, ok_or}
 use Rattle.std.proofs.Common.{ap}
-use Rattle.picky_layout.specs.Narrowed.{Meaning}
+use Rattle.picky_layout.specs.Narrowed.{Narrowing}
 use Rattle.picky_layout.specs.Table.{Table, find_entry}
 use Rattle.picky_layout.specs.carried.Table.{key_is_found, entry_sound}
 
 -- a key stands for its entry
-abbrev pub entry : {E K A : Type 0} → (K → E) → Table K A → Meaning E K A
+abbrev pub entry : {E K A : Type 0} → (K → E) → Table K A → Narrowing E K A
 entry why T = record {
   means = λ k a. T.key a ≡ k;
   decide = λ k. ok_or (find_entry T k) (why k);

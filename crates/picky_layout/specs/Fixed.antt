@@ -3,18 +3,18 @@ use Rattle.std.specs.Prelude.{◌≡◌, List, ℕ, length, ◌==◌}
 use Rattle.std.specs.Cmp.{unsigned_Decides}
 use Rattle.picky_layout.specs.Flaw.{Reason, Magic, Length, Number}
 use Rattle.picky_layout.specs.Grammar.{Grammar}
-use Rattle.picky_layout.specs.Narrowed.{Meaning}
+use Rattle.picky_layout.specs.Narrowed.{Narrowing}
 use Rattle.picky_layout.specs.Combine.{narrow, allowed, at}
-use Rattle.picky_layout.specs.Wire.{cells, uint32, string, of_length, equal_to}
+use Rattle.picky_layout.specs.Wire.{byte_array, uint32, string, of_length, equal_to}
 
 -- byte[n], of one fixed value, as field i
 unfoldable pub raw : ℕ → List ℕ → Grammar Reason (List ℕ)
-raw i fixed = narrow (at i (cells (length fixed))) (equal_to (λ _. (i, Magic)) fixed)
+raw i fixed = narrow (at i (byte_array (length fixed))) (equal_to (λ _. (i, Magic)) fixed)
 
 -- ---- a number
 
 -- a number that must be this one
-abbrev pub is_number : {E : Type 0} → (ℕ → E) → ℕ → Meaning E ℕ ℕ
+abbrev pub is_number : {E : Type 0} → (ℕ → E) → ℕ → Narrowing E ℕ ℕ
 is_number why n = allowed (λ m. m ≡ n) (λ m. m == n) why (λ m. unsigned_Decides m n)
 
 -- uint32, of one fixed value, as field i

@@ -2,14 +2,14 @@
 use Rattle.std.specs.Prelude.{◌≡◌, List, ℕ, ◌++◌, ◌<◌, ◌^◌, length}
 use Rattle.picky_layout.specs.Flaw.{Flaw}
 use Rattle.picky_layout.specs.Grammar.{Grammar}
-use Rattle.picky_layout.specs.Narrowed.{Meaning}
+use Rattle.picky_layout.specs.Narrowed.{Narrowing}
 use Rattle.picky_layout.specs.Combine.{narrow, tag}
 use Rattle.picky_layout.specs.Wire.{string, string_of}
 use Rattle.picky_layout.specs.Front.{Begins, read_front}
 use Rattle.picky_layout.specs.carried.Inside.{front_sound, front_complete}
 
 -- bytes stand for the value of the piece that they begin with
-abbrev pub begins : {E A : Type 0} → Grammar E A → Meaning E (List ℕ) A
+abbrev pub begins : {E A : Type 0} → Grammar E A → Narrowing E (List ℕ) A
 begins G = record {
   means = Begins G.piece;
   decide = read_front G;
@@ -18,7 +18,7 @@ begins G = record {
 }
 
 -- a string whose bytes stand for a value; a string that is cut has this reason
-abbrev pub inside : {E A : Type 0} → (Flaw → E) → Meaning E (List ℕ) A → Grammar E A
+abbrev pub inside : {E A : Type 0} → (Flaw → E) → Narrowing E (List ℕ) A → Grammar E A
 inside cut M = narrow (tag cut string) M
 
 -- the bytes are a string that begins with a piece of the value

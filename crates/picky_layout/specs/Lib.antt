@@ -8,7 +8,7 @@ pub mod Short
 pub mod When
 pub mod Fixed
 pub mod Table
-pub mod Names
+pub mod Named
 pub mod Zeros
 pub mod Mpint
 pub mod Inside
@@ -21,5 +21,5 @@ pub mod OrEmpty
 pub mod Front
 pub mod Magnitude
 pub mod Entry
-pub mod Cells
+pub mod ByteArray
 pub mod carried

@@ -6,7 +6,7 @@ use Rattle.picky_layout.specs.Flaw.{Flaw, Big}
 use Rattle.picky_layout.specs.Zeros.{BeginsWithNoZero, without_zeros}
 
 -- the bytes of a number, most significant first: no 0 begins them, and one more fits a string
-pub record IsMpint (v : List ℕ) : Type 0 where
+pub record IsMagnitude (v : List ℕ) : Type 0 where
   pub begins : BeginsWithNoZero v
   pub short : length v < 2 ^ 32 - 1
 
@@ -14,7 +14,7 @@ pub record IsMpint (v : List ℕ) : Type 0 where
 
 -- the bytes stand for this number
 pub record StandsFor (bytes v : List ℕ) : Type 0 where
-  pub mpint : IsMpint v
+  pub mpint : IsMagnitude v
   -- how many zeros stand in front
   pub zeros : ℕ
   pub are : bytes ≡ replicate zeros 0 ++ v

@@ -3,14 +3,14 @@ use Rattle.std.specs.Prelude.{◌≡◌, List, ℕ, ◌<◌, ◌^◌, length, Re
 use Rattle.picky_layout.specs.Outcome.{and_then, map_err}
 use Rattle.picky_layout.specs.Flaw.{Flaw}
 use Rattle.picky_layout.specs.Grammar.{Grammar}
-use Rattle.picky_layout.specs.Narrowed.{Meaning}
+use Rattle.picky_layout.specs.Narrowed.{Narrowing}
 use Rattle.picky_layout.specs.Inside.{inside}
 use Rattle.picky_layout.specs.Wire.{string, string_of}
 use Rattle.picky_layout.specs.Row.{Solid, Row, read_all}
 use Rattle.picky_layout.specs.carried.Row.{row_sound, row_complete}
 
 -- the values whose pieces the whole string is, where no piece is empty
-abbrev pub row : {E A : Type 0} → (G : Grammar E A) → Solid G.piece → Meaning E (List ℕ) (List A)
+abbrev pub row : {E A : Type 0} → (G : Grammar E A) → Solid G.piece → Narrowing E (List ℕ) (List A)
 row G solid = record {
   means = λ block vs. Row G.piece vs block;
   decide = read_all G;

@@ -3,14 +3,14 @@ use Rattle.std.specs.Prelude.{◌≡◌, List, ◌∷◌, ℕ, ◌+◌, ◌++◌
 use Rattle.std.specs.Prelude.{if◌then◌else◌}
 use Rattle.picky_layout.specs.Flaw.{Flaw}
 use Rattle.picky_layout.specs.Grammar.{Grammar}
-use Rattle.picky_layout.specs.Narrowed.{Meaning}
+use Rattle.picky_layout.specs.Narrowed.{Narrowing}
 use Rattle.picky_layout.specs.Combine.{narrow}
 use Rattle.picky_layout.specs.Wire.{string, string_of}
-use Rattle.picky_layout.specs.Magnitude.{IsMpint, StandsFor, read_mpint}
+use Rattle.picky_layout.specs.Magnitude.{IsMagnitude, StandsFor, read_mpint}
 use Rattle.picky_layout.specs.carried.Mpint.{mpint_sound, mpint_complete}
 
 -- bytes stand for the number that follows their zeros
-abbrev pub as_mpint : Meaning Flaw (List ℕ) (List ℕ)
+abbrev pub as_mpint : Narrowing Flaw (List ℕ) (List ℕ)
 as_mpint = record {
   means = StandsFor;
   decide = read_mpint;
@@ -34,7 +34,7 @@ mpint_of v = string_of (with_sign v)
 
 -- the bytes are the string of the number after zeros, as a string fits them
 pub record IsMpintPiece (v bytes : List ℕ) : Type 0 where
-  pub mpint : IsMpint v
+  pub mpint : IsMagnitude v
   pub zeros : ℕ
   pub are : bytes ≡ string_of (replicate zeros 0 ++ v)
   pub short : zeros + length v < 2 ^ 32

@@ -2,13 +2,13 @@
 use Rattle.std.specs.Prelude.{List, ℕ}
 use Rattle.picky_layout.specs.Flaw.{Flaw}
 use Rattle.picky_layout.specs.Grammar.{Grammar}
-use Rattle.picky_layout.specs.Narrowed.{Meaning}
+use Rattle.picky_layout.specs.Narrowed.{Narrowing}
 use Rattle.picky_layout.specs.Inside.{begins, inside}
 use Rattle.picky_layout.specs.Empty.{EmptyOr, decide_empty_or}
 use Rattle.picky_layout.specs.carried.Empty.{empty_or_sound, empty_or_complete}
 
 -- no bytes stand for e, and any others for what they stand for
-abbrev pub empty_or : {E A : Type 0} → A → Meaning E (List ℕ) A → Meaning E (List ℕ) A
+abbrev pub empty_or : {E A : Type 0} → A → Narrowing E (List ℕ) A → Narrowing E (List ℕ) A
 empty_or e M = record {
   means = EmptyOr e M.means;
   decide = decide_empty_or e M;

@@ -8,7 +8,7 @@ use Rattle.std.proofs.lemmas.List.{append_assoc}
 use Rattle.picky_text.specs.Lines.{HasNo}
 use Rattle.picky_text.proofs.ListLaws.{cut_at_first}
 use Rattle.picky_sshpub.proofs.ByteLaws.{no_by_test}
-use Rattle.picky_ppk.specs.PuttyPublic.{comment_key}
+use Rattle.picky_ppk.specs.PuttyPublic.{comment_start}
 use Rattle.picky_ppk.specs.PuttyRefusal.{is_quote, between_quotes, behind, quoted}
 use Rattle.picky_ppk.proofs.QuoteMarks.{fail_test, no_quote, has_quote, first_quote, last_quote}
 use Rattle.picky_ppk.proofs.QuoteMarks.{before_last_quote}
@@ -86,18 +86,18 @@ behind_says (c ∷ front) (b ∷ text) rest says = elim (cases_Bool (c == b)) [
 -- ---- a comment line
 
 -- A line that begins with the key quotes what is quoted behind it.
-pub quoted_behind : (line quotes : List ℕ) → line ≡ comment_key ++ quotes → quoted line ≡ between_quotes quotes
+pub quoted_behind : (line quotes : List ℕ) → line ≡ comment_start ++ quotes → quoted line ≡ between_quotes quotes
 unfolding quoted
-quoted_behind line quotes is = ap quoted is ∙ ap (option_and_then between_quotes) (behind_front comment_key quotes)
+quoted_behind line quotes is = ap quoted is ∙ ap (option_and_then between_quotes) (behind_front comment_start quotes)
 
 -- the parts of a comment line, however they are joined
-comment_parts : (before between after : List ℕ) → comment_key ++ before ++ 34 ∷ between ++ 34 ∷ after
-    ≡ comment_key ++ (before ++ 34 ∷ (between ++ 34 ∷ after))
+comment_parts : (before between after : List ℕ) → comment_start ++ before ++ 34 ∷ between ++ 34 ∷ after
+    ≡ comment_start ++ (before ++ 34 ∷ (between ++ 34 ∷ after))
 comment_parts before between after = simp append_assoc
 
 -- A comment line quotes what stands between its first and its last quote.
 pub quoted_of : (before between after : List ℕ) → HasNo 34 before → HasNo 34 after
-    → quoted (comment_key ++ before ++ 34 ∷ between ++ 34 ∷ after) ≡ Some between
+    → quoted (comment_start ++ before ++ 34 ∷ between ++ 34 ∷ after) ≡ Some between
 quoted_of before between after first last =
     quoted_behind _ (before ++ 34 ∷ (between ++ 34 ∷ after)) (comment_parts before between after)
     ∙ between_quotes_of before between after first last
@@ -106,16 +106,16 @@ quoted_of before between after first last =
 pub record IsCommentLine (line between : List ℕ) : Type 0 where
   pub before : List ℕ
   pub after : List ℕ
-  pub is : line ≡ comment_key ++ before ++ 34 ∷ between ++ 34 ∷ after
+  pub is : line ≡ comment_start ++ before ++ 34 ∷ between ++ 34 ∷ after
   pub first : HasNo 34 before
   pub last : HasNo 34 after
 
 -- What a line quotes stands there.
 pub quoted_says : (line between : List ℕ) → quoted line ≡ Some between → IsCommentLine line between
 unfolding quoted
-quoted_says line between says = go (behind comment_key line) refl says
+quoted_says line between says = go (behind comment_start line) refl says
   where
-    go : (o : Option (List ℕ)) → behind comment_key line ≡ o → option_and_then between_quotes o ≡ Some between
+    go : (o : Option (List ℕ)) → behind comment_start line ≡ o → option_and_then between_quotes o ≡ Some between
         → IsCommentLine line between
     go None is none = cc none
     go (Some quotes) is some =
@@ -123,7 +123,7 @@ quoted_says line between says = go (behind comment_key line) refl says
         record {
           before = cut.before;
           after = cut.after;
-          is = behind_says comment_key line quotes is ∙ ap (λ q. comment_key ++ q) cut.is
+          is = behind_says comment_start line quotes is ∙ ap (λ q. comment_start ++ q) cut.is
               ∙ sym (comment_parts cut.before between cut.after);
           first = cut.first;
           last = cut.last;

@@ -15,7 +15,7 @@ use Rattle.picky_text.specs.Quote.{unquote}
 use Rattle.picky_sshpub.specs.LineRefusal.{is_short}
 use Rattle.picky_ppk.specs.declared.error.PuttyError.TheVariants as errors
 use Rattle.picky_ppk.specs.declared.putty_public.PuttyPublicKey.{PuttyPublicKey}
-use Rattle.picky_ppk.specs.PuttyPublic.{header, footer, comment_key, putty_public, SaysPuttyPublic}
+use Rattle.picky_ppk.specs.PuttyPublic.{header, footer, comment_start, putty_public, SaysPuttyPublic}
 use Rattle.picky_ppk.specs.PuttyRefusal.{quoted, body_from, of_parts, after_comment, after_header, of_lines}
 use Rattle.picky_ppk.specs.PuttyRefusal.{putty_meaning}
 use Rattle.picky_ppk.proofs.CommentLaws.{quoted_of, quoted_says}
@@ -55,7 +55,7 @@ pub putty_meaning_of : (text blob comment : List ℕ) → SaysPuttyPublic text b
 unfolding putty_meaning
 putty_meaning_of text blob comment says =
     let rest : List (List ℕ) = says.body ++ footer ∷ says.more in
-    let line : List ℕ = comment_key ++ says.before ++ 34 ∷ says.between ++ 34 ∷ says.after in
+    let line : List ℕ = comment_start ++ says.before ++ 34 ∷ says.between ++ 34 ∷ says.after in
     let some = ap decoded says.body_is ∙ base64_is_read_back blob says.bytes in
     let short = subst (λ c. length c < 2 ^ 32) says.comment_is says.comment_short in
     ap of_lines says.whole ∙ header_first header (line ∷ rest) (same_line header header refl)

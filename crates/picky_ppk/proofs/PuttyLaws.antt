@@ -18,9 +18,9 @@ use Rattle.picky_sshpub.specs.declared.key.SshPublicKey.{SshPublicKey}
 use Rattle.picky_sshpub.specs.Key.{IsKey}
 use Rattle.picky_sshpub.specs.Blob.{blob_of}
 use Rattle.picky_sshpub.specs.carried.Blob.{blob_spells}
-use Rattle.picky_sshpub.proofs.LineLaws.{blob_bytes}
+use Rattle.picky_sshpub.proofs.LineLaws.{blob_is_bytes}
 use Rattle.picky_sshpub.proofs.ByteLaws.{no_by_test}
-use Rattle.picky_ppk.specs.PuttyPublic.{header, footer, comment_key, comment_line, putty_public}
+use Rattle.picky_ppk.specs.PuttyPublic.{header, footer, comment_start, comment_line, putty_public}
 use Rattle.picky_ppk.specs.PuttyPublic.{SpellsPuttyPublic, SaysPuttyPublic, IsPuttyPublic}
 
 -- ---- the one spelling
@@ -53,7 +53,7 @@ footer_line = no_by_test 10 (codes "---- END SSH2 PUBLIC KEY ----") refl
 
 -- the comment line of a comment without LF is one line
 comment_is_line : (comment : List ℕ) → HasNo 10 comment → HasNo 10 (comment_line comment)
-unfolding comment_line comment_key
+unfolding comment_line comment_start
 comment_is_line comment none =
     let quoted = quote_has_no 10 comment (λ same. absurd (omega arith)) none in
     let key = no_by_test 10 (codes "Comment: \"") refl in
@@ -78,7 +78,7 @@ written_lines blob comment small none =
 -- What is written says the blob and the comment.
 pub putty_public_says : (blob comment : List ℕ) → IsBytes blob → HasNo 10 comment → length blob < 2 ^ 32
     → length comment < 2 ^ 32 → SaysPuttyPublic (putty_public blob comment) blob comment
-unfolding putty_public comment_line comment_key
+unfolding putty_public comment_line comment_start
 putty_public_says blob comment small none blob_short comment_short =
     let rows = rows_of (base64_of blob) in
     let ls = header ∷ comment_line comment ∷ rows ++ footer ∷ [] in
@@ -104,7 +104,7 @@ pub putty_public_means : (key : SshPublicKey) → IsKey key.inner_key → HasNo 
     → length (blob_of key.inner_key) < 2 ^ 32 → length key.comment < 2 ^ 32
     → IsPuttyPublic (putty_public (blob_of key.inner_key) key.comment) key
 putty_public_means key is none blob_short comment_short =
-    let small = blob_bytes key.inner_key is in
+    let small = blob_is_bytes key.inner_key is in
     record {
       blob = blob_of key.inner_key;
       says = putty_public_says (blob_of key.inner_key) key.comment small none blob_short comment_short;

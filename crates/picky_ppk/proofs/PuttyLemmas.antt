@@ -3,20 +3,20 @@ use Rattle.std.proofs.Common.{◌≡◌, ℕ, List, [], ◌∷◌, ◌++◌, Boo
 use Rattle.std.proofs.lemmas.List.{append_assoc, append-nil}
 use Rattle.picky_text.specs.Base64.{base64_of}
 use Rattle.picky_text.specs.Rows.{rows_of}
-use Rattle.picky_text.specs.Lines.{text_of, end_of}
+use Rattle.picky_text.specs.Lines.{text_of, end_bytes}
 use Rattle.picky_text.specs.Quote.{quote}
 use Rattle.picky_text.specs.declared.lines.LineEnd.{LineEnd}
 use Rattle.picky_text.specs.declared.lines.LineEnd.TheVariants.{CrLf}
-use Rattle.picky_ppk.specs.PuttyPublic.{header, footer, comment_key, comment_line, putty_public}
+use Rattle.picky_ppk.specs.PuttyPublic.{header, footer, comment_start, comment_line, putty_public}
 
 -- the text of some lines and one more
 text_of-push : (end : LineEnd) (ls : List (List ℕ)) (line : List ℕ)
-    → text_of end (ls ++ line ∷ []) ≡ text_of end ls ++ (line ++ end_of end)
+    → text_of end (ls ++ line ∷ []) ≡ text_of end ls ++ (line ++ end_bytes end)
 unfolding text_of
-text_of-push end [] line = append-nil (line ++ end_of end)
+text_of-push end [] line = append-nil (line ++ end_bytes end)
 text_of-push end (l ∷ ls) line =
-    ap (λ r. (l ++ end_of end) ++ r) (text_of-push end ls line)
-    ∙ sym (append_assoc (l ++ end_of end) (text_of end ls) (line ++ end_of end))
+    ap (λ r. (l ++ end_bytes end) ++ r) (text_of-push end ls line)
+    ∙ sym (append_assoc (l ++ end_bytes end) (text_of end ls) (line ++ end_bytes end))
 
 -- a test that lets nothing pass failed
 pub failed : {A E : Type 0} (passes : Bool) (e f : E) (x : A) → (if passes then Ok x else Err e) ≡ Err f → passes ≡ false
@@ -27,7 +27,7 @@ failed false e f x same = refl
 pub putty_public_is : (blob comment : List ℕ) → putty_public blob comment
     ≡ ((((codes "---- BEGIN SSH2 PUBLIC KEY ----\r\n" ++ codes "Comment: \"") ++ quote comment) ++ codes "\"\r\n")
     ++ text_of CrLf (rows_of (base64_of blob))) ++ codes "---- END SSH2 PUBLIC KEY ----\r\n"
-unfolding putty_public header footer comment_key comment_line text_of
+unfolding putty_public header footer comment_start comment_line text_of
 putty_public_is blob comment =
     let rows = text_of CrLf (rows_of (base64_of blob)) in
     let end = codes "---- END SSH2 PUBLIC KEY ----\r\n" in

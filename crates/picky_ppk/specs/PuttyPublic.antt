@@ -17,12 +17,12 @@ header = codes "---- BEGIN SSH2 PUBLIC KEY ----"
 unfoldable pub footer : List ℕ
 footer = codes "---- END SSH2 PUBLIC KEY ----"
 
-unfoldable pub comment_key : List ℕ
-comment_key = codes "Comment: "
+unfoldable pub comment_start : List ℕ
+comment_start = codes "Comment: "
 
 -- the comment line, with the comment quoted
 unfoldable pub comment_line : List ℕ → List ℕ
-comment_line comment = comment_key ++ 34 ∷ quote comment ++ 34 ∷ []
+comment_line comment = comment_start ++ 34 ∷ quote comment ++ 34 ∷ []
 
 -- ---- written
 
@@ -47,7 +47,7 @@ pub record SaysPuttyPublic (text blob comment : List ℕ) : Type 0 where
   pub after : List ℕ
   pub body : List (List ℕ)
   pub more : List (List ℕ)
-  pub whole : lines text ≡ header ∷ (comment_key ++ before ++ 34 ∷ between ++ 34 ∷ after) ∷ body ++ footer ∷ more
+  pub whole : lines text ≡ header ∷ (comment_start ++ before ++ 34 ∷ between ++ 34 ∷ after) ∷ body ++ footer ∷ more
   pub first_quote : HasNo 34 before
   pub last_quote : HasNo 34 after
   pub comment_is : comment ≡ unquote between

@@ -18,7 +18,7 @@ use Rattle.picky_sshpub.specs.LineRefusal.{is_short, blob_key}
 use Rattle.picky_ppk.specs.declared.error.PuttyError.{PuttyError}
 use Rattle.picky_ppk.specs.declared.error.PuttyError.TheVariants as errors
 use Rattle.picky_ppk.specs.declared.putty_public.PuttyPublicKey.{PuttyPublicKey}
-use Rattle.picky_ppk.specs.PuttyPublic.{header, footer, comment_key, putty_public}
+use Rattle.picky_ppk.specs.PuttyPublic.{header, footer, comment_start, putty_public}
 
 -- ---- a text
 
@@ -39,7 +39,7 @@ behind (c ∷ front) (b ∷ text) = if c == b then behind front text else None
 
 -- the quoted comment in a comment line
 unfoldable pub quoted : List ℕ → Option (List ℕ)
-quoted line = option_and_then between_quotes (behind comment_key line)
+quoted line = option_and_then between_quotes (behind comment_start line)
 
 -- the lines up to the first footer, joined after what was joined so far
 unfoldable pub body_from : List ℕ → List (List ℕ) → Option (List ℕ)
@@ -109,11 +109,11 @@ to_openssh key =
     and_then (inner_key_of key) (λ inner. Ok (record { inner_key = inner; comment = key.comment }))
 
 -- the key in the blob, of a kind that PuTTY has
-abbrev pub plain : SshBasePublicKey → Result PublicKey PuttyError
-plain key = if is_hardware key then Err no_hardware_keys else Ok (public_key_of key)
+abbrev pub plain_key : SshBasePublicKey → Result PublicKey PuttyError
+plain_key key = if is_hardware key then Err no_hardware_keys else Ok (public_key_of key)
 
 unfoldable pub plain_key_of : PuttyPublicKey → Result PublicKey PuttyError
-plain_key_of key = and_then (inner_key_of key) plain
+plain_key_of key = and_then (inner_key_of key) plain_key
 
 -- the key with another comment
 unfoldable pub commented : PuttyPublicKey → List ℕ → Result PuttyPublicKey PuttyError

@@ -5,7 +5,7 @@ ghost use Rattle.picky_layout.specs.Numbers.{IsBytes};
 ghost use Rattle.picky_text.specs.Lines.{HasNo};
 ghost use Rattle.picky_wire.specs.Gives.{Gives};
 ghost use Rattle.picky_ppk.specs.PuttyPublic.{putty_public as text_of};
-ghost use Rattle.picky_ppk.specs.PuttyRefusal.{quoted as quoted_in, after_header as after_header_of, after_comment as after_comment_of, body_from, of_parts as of_parts_of, putty_meaning, putty_text, is_hardware as is_hardware_of, of_openssh, inner_key_of, to_openssh as to_openssh_of, plain_key_of, plain as plain_of, no_hardware_keys as no_hardware_keys_of, commented};
+ghost use Rattle.picky_ppk.specs.PuttyRefusal.{quoted as quoted_in, after_header as after_header_of, after_comment as after_comment_of, body_from, of_parts as of_parts_of, putty_meaning, putty_text, is_hardware as is_hardware_of, of_openssh, inner_key_of, to_openssh as to_openssh_of, plain_key_of, plain_key as plain_of, no_hardware_keys as no_hardware_keys_of, commented};
 
 use crate::error::PuttyError;
 use picky_keys::PublicKey;

@@ -7,7 +7,7 @@ use Rattle.picky_layout.proofs.Numbers.{bytes_in_front, bytes_behind}
 use Rattle.picky_layout.proofs.Strings.{string_exact, text_exact}
 use Rattle.picky_layout.specs.Mpint.{mpint}
 use Rattle.picky_layout.proofs.Mpint.{mpint_exact}
-use Rattle.picky_layout.proofs.Names.{named_exact}
+use Rattle.picky_layout.proofs.Named.{named_exact}
 use Rattle.picky_keys.specs.declared.kind.KeyKind.{KeyKind}
 use Rattle.picky_keys.specs.declared.kind.KeyKind.TheVariants as kinds
 use Rattle.picky_keys.specs.declared.curve.EcCurve.{EcCurve}

@@ -66,9 +66,9 @@ bytes_by_test bytes all i = elim (cases_lt i (length bytes)) [
 
 -- ---- the words of bytes
 
-pub word_bytes : (text : List ℕ) → IsBytes text → IsBytes (first_word text)
+pub word_is_bytes : (text : List ℕ) → IsBytes text → IsBytes (first_word text)
 unfolding first_word
-word_bytes text each = front_bytes (position_or_len ends_word text) text each
+word_is_bytes text each = front_bytes (position_or_len ends_word text) text each
 
 either_bytes : (b : Bool) (x y : List ℕ) → IsBytes x → IsBytes y → IsBytes (if b then x else y)
 either_bytes true x y left right = left

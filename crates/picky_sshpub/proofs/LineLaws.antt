@@ -34,7 +34,7 @@ use Rattle.picky_sshpub.specs.Line.{IsPublicLine, line_of, line_name, line_body,
 use Rattle.picky_sshpub.specs.LineRefusal.{blob_key, body_key, is_key_type, is_short, line_meaning}
 use Rattle.picky_sshpub.specs.LineRefusal.{words_meaning, is_short_text, comment_text}
 use Rattle.picky_sshpub.proofs.ByteLaws.{bytes_joined, string_bytes_each, mpint_bytes_each, no_bytes}
-use Rattle.picky_sshpub.proofs.ByteLaws.{word_bytes, after_bytes, name_is_word, name_bytes, identifier_bytes}
+use Rattle.picky_sshpub.proofs.ByteLaws.{word_is_bytes, after_bytes, name_is_word, name_bytes, identifier_bytes}
 
 -- ---- a blob and its key
 
@@ -63,9 +63,9 @@ fields_bytes (keys.SkEd25519 key application) is =
     bytes_joined _ _ (string_bytes_each key is.0.bytes)
     (bytes_joined _ _ (string_bytes_each application is.1.string.bytes) no_bytes)
 
-pub blob_bytes : (key : SshBasePublicKey) → IsKey key → IsBytes (blob_of key)
+pub blob_is_bytes : (key : SshBasePublicKey) → IsKey key → IsBytes (blob_of key)
 unfolding blob_of
-blob_bytes key is =
+blob_is_bytes key is =
     bytes_joined _ _ (string_bytes_each _ (name_bytes (kind_of key))) (fields_bytes key is)
 
 -- ---- a line's meaning
@@ -154,7 +154,7 @@ line_meaning_says text key small means =
     let comment = rest_text_says (after_body text) last.0 some in
     let comment_fits = ap is_short_text (ap Some comment.1 ∙ sym some) ∙ both.1 in
     let kind = found (find_entry key_types (first_word text)) named.0 in
-    let body = body_key_says (body_word text) step.0 (word_bytes (after_word text) (after_bytes text small)) step.1 in
+    let body = body_key_says (body_word text) step.0 (word_is_bytes (after_word text) (after_bytes text small)) step.1 in
     let is : record { inner_key = step.0; comment = last.0 } ≡ key = cc last.2 in
     record {
       kind = kind.0;
@@ -195,7 +195,7 @@ line_parts : (key : SshPublicKey) → IsKept key
     → AreParts (line_name key) (line_body key) key.comment
 line_parts key kept = record {
   name_word = name_is_word (kind_of key.inner_key);
-  body_word = base64_is_word (blob_of key.inner_key) (blob_bytes key.inner_key kept.is_key);
+  body_word = base64_is_word (blob_of key.inner_key) (blob_is_bytes key.inner_key kept.is_key);
   no_cr = kept.no_cr;
   no_lf = kept.no_lf;
   trimmed = kept.trimmed;
@@ -210,7 +210,7 @@ parts_say key line kept is =
       kind = kind_of key.inner_key;
       name = is.name_is;
       blob_bytes = blob_of key.inner_key;
-      are_bytes = blob_bytes key.inner_key kept.is_key;
+      are_bytes = blob_is_bytes key.inner_key kept.is_key;
       body = is.body_is;
       body_short = subst (λ w. length w < 2 ^ 32) (sym is.body_is) (omega (arith, kept.short, len));
       rest = [];

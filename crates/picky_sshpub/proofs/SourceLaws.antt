@@ -15,7 +15,7 @@ use Rattle.picky_sshpub.specs.Line.{line_of, line_name, line_body, IsKept}
 use Rattle.picky_sshpub.specs.LineRefusal.{line_meaning}
 use Rattle.picky_sshpub.specs.SourceLine.{after_line, read_line, source_meaning}
 use Rattle.picky_sshpub.proofs.ByteLaws.{name_is_word}
-use Rattle.picky_sshpub.proofs.LineLaws.{blob_bytes, line_front, front_reads_back}
+use Rattle.picky_sshpub.proofs.LineLaws.{blob_is_bytes, line_front, front_reads_back}
 use Rattle.picky_sshpub.specs.inner.SourceLine.{Stays}
 
 -- Where a length can say the line in front, the source is answered as that line is.
@@ -28,7 +28,7 @@ front_stays : (key : SshPublicKey) → IsKept key → Stays (line_front key)
 front_stays key kept =
     let goes_on : ℕ → Type 0 = λ b. ends_line b ≡ false in
     let name = name_is_word (kind_of key.inner_key) in
-    let body = base64_is_word (blob_of key.inner_key) (blob_bytes key.inner_key kept.is_key) in
+    let body = base64_is_word (blob_of key.inner_key) (blob_is_bytes key.inner_key kept.is_key) in
     let words = all_append goes_on (line_name key) (32 ∷ line_body key)
     (stays_line (line_name key) name.1 name.2) (refl, stays_line (line_body key) body.1 body.2) in
     all_append goes_on (line_name key ++ 32 ∷ line_body key) (32 ∷ key.comment) words

@@ -4,7 +4,7 @@ use Rattle.std.specs.Str.{is_utf8, chars}
 use Rattle.picky_layout.specs.Flaw.{Flaw, Reason, Flawed, Short, NotUtf8, Big, Length, Magic, Name, Number}
 use Rattle.picky_layout.specs.Outcome.{map_err, and_then}
 use Rattle.picky_layout.specs.Combine.{at, placed}
-use Rattle.picky_layout.specs.Wire.{cells, uint32, string, string_of, text}
+use Rattle.picky_layout.specs.Wire.{byte_array, uint32, string, string_of, text}
 use Rattle.picky_layout.specs.Mpint.{mpint}
 use Rattle.picky_keys.specs.declared.kind.KeyKind.{KeyKind}
 use Rattle.picky_keys.specs.declared.kind.KeyKind.TheVariants as kinds
@@ -59,15 +59,15 @@ says_stops = record {
 -- ---- some bytes are refused with each error
 
 no_blob_is_short : Refuses read_blob (errors.IoError kinds_io.UnexpectedEnd)
-unfolding read_blob blob key_type text string uint32 cells
+unfolding read_blob blob key_type text string uint32 byte_array
 no_blob_is_short = ([], refl)
 
 name_is_no_text : Refuses read_blob errors.InvalidUtf8
-unfolding read_blob blob key_type text string uint32 cells is_utf8 chars
+unfolding read_blob blob key_type text string uint32 byte_array is_utf8 chars
 name_is_no_text = (0 ∷ 0 ∷ 0 ∷ 1 ∷ 255 ∷ [], refl)
 
 name_is_empty : Refuses read_blob errors.UnknownKeyType
-unfolding read_blob blob key_type text string uint32 cells is_utf8 chars key_types kind_name curve_key_type ed_key_type
+unfolding read_blob blob key_type text string uint32 byte_array is_utf8 chars key_types kind_name curve_key_type ed_key_type
 name_is_empty = (0 ∷ 0 ∷ 0 ∷ 0 ∷ [], refl)
 
 -- after its name a blob is refused as its fields are
@@ -82,7 +82,7 @@ after_name kind rest r refused = (
 )
 
 key_is_empty : Refuses read_blob errors.KeyError
-unfolding ed_fields ed_key string uint32 cells
+unfolding ed_fields ed_key string uint32 byte_array
 key_is_empty = after_name (kinds.Ed Ed25519) (0 ∷ 0 ∷ 0 ∷ 0 ∷ []) (1, Length) refl
 
 number_refused : (r : Result (List ℕ × List ℕ) Flaw) → map_err wire_error r ≡ Err wire.TooLong → r ≡ Err Big

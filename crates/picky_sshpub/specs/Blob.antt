@@ -7,7 +7,7 @@ use Rattle.picky_layout.specs.Combine.{at, done, ◌>>=◌}
 use Rattle.picky_layout.specs.Wire.{string, string_of, text}
 use Rattle.picky_layout.specs.Fixed.{sized}
 use Rattle.picky_layout.specs.Mpint.{mpint, mpint_of}
-use Rattle.picky_layout.specs.Names.{named}
+use Rattle.picky_layout.specs.Named.{named}
 use Rattle.picky_keys.specs.declared.curve.EcCurve.{EcCurve}
 use Rattle.picky_keys.specs.declared.curve.EcCurve.TheVariants.{NistP256}
 use Rattle.picky_keys.specs.declared.kind.KeyKind.{KeyKind}

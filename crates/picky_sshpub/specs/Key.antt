@@ -1,7 +1,7 @@
 -- What an SSH public key is made of, and what holds of each value (RFC 4251, section 5).
 use Rattle.std.specs.Prelude.{◌≡◌, List, ℕ, ◌<◌, ◌^◌, length, IsUtf8}
 use Rattle.picky_layout.specs.Numbers.{IsBytes}
-use Rattle.picky_layout.specs.Magnitude.{IsMpint}
+use Rattle.picky_layout.specs.Magnitude.{IsMagnitude}
 use Rattle.picky_keys.specs.declared.curve.EcCurve.TheVariants.{NistP256}
 use Rattle.picky_keys.specs.declared.curve.EdAlgorithm.TheVariants.{Ed25519}
 use Rattle.picky_keys.specs.declared.kind.KeyKind.{KeyKind}
@@ -14,7 +14,7 @@ use Rattle.picky_sshpub.specs.declared.key.SshBasePublicKey.TheVariants as keys
 -- a number as its bytes, a string, a text and an Ed25519 key
 pub record IsNumber (v : List ℕ) : Type 0 where
   pub bytes : IsBytes v
-  pub mpint : IsMpint v
+  pub mpint : IsMagnitude v
 
 pub record IsString (v : List ℕ) : Type 0 where
   pub bytes : IsBytes v

@@ -7,7 +7,7 @@ use Rattle.std.proofs.lemmas.List.Elements.{All-from_recursion}
 use Rattle.std.proofs.lemmas.List.Splits.{slice_split_at, length-slice_split}
 use Rattle.std.specs.List.{flat_map, slice_split}
 use Rattle.std.specs.Str.Lines.{lines_of_parts, strip_carriage_return}
-use Rattle.picky_text.specs.Lines.{HasNo, lines, end_of, text_of, IsLine, AreLines, AreReadFirst}
+use Rattle.picky_text.specs.Lines.{HasNo, lines, end_bytes, text_of, IsLine, AreLines, AreReadFirst}
 use Rattle.picky_text.proofs.ListLaws.{all_weaker, all_append}
 use Rattle.picky_text.specs.declared.lines.LineEnd.{LineEnd}
 use Rattle.picky_text.specs.declared.lines.LineEnd.TheVariants.{Lf, CrLf}
@@ -45,7 +45,7 @@ cr_is_stripped line =
 
 -- one line that is written is read back, whatever follows
 pub line_is_read_back : (end : LineEnd) (line more : List ℕ) → IsLine end line
-    → lines (line ++ end_of end ++ more) ≡ line ∷ lines more
+    → lines (line ++ end_bytes end ++ more) ≡ line ∷ lines more
 line_is_read_back Lf line more is =
     rw append_assoc (first_line line more is.0
     ∙ ap (λ l. l ∷ lines more) (kept_without_cr line is.1))
@@ -63,8 +63,8 @@ pub lines_are_read_first : (end : LineEnd) (ls : List (List ℕ)) → AreLines e
 unfolding text_of
 lines_are_read_first end [] are rest = refl
 lines_are_read_first end (line ∷ ls) are rest =
-    let more : List ℕ = flat_map (λ l. l ++ end_of end) ls in
-    rw (append_assoc (line ++ end_of end) more rest)
+    let more : List ℕ = flat_map (λ l. l ++ end_bytes end) ls in
+    rw (append_assoc (line ++ end_bytes end) more rest)
     (line_is_read_back end line (more ++ rest) are.0
     ∙ ap (λ l. line ∷ l) (lines_are_read_first end ls are.1 rest))
 

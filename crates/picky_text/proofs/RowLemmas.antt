@@ -5,7 +5,7 @@ use Rattle.std.proofs.lemmas.List.{append_assoc, take_min, drop_min, nil_from_le
 use Rattle.std.proofs.lemmas.Bool.{eqb-true}
 use Rattle.std.proofs.lemmas.Bool.Decides.{nat_tests}
 use Rattle.std.specs.List.{flat_map}
-use Rattle.picky_text.specs.Lines.{text_of, end_of}
+use Rattle.picky_text.specs.Lines.{text_of, end_bytes}
 use Rattle.picky_text.specs.Rows.{rows_of}
 use Rattle.picky_text.proofs.RowLaws.{rows_more}
 use Rattle.picky_text.specs.declared.lines.LineEnd.{LineEnd}
@@ -13,14 +13,14 @@ use Rattle.picky_text.specs.declared.lines.LineEnd.{LineEnd}
 -- the first row of a text, its end, and the text of the other rows
 pub text_of_first_row : (end : LineEnd) (text row more : List ℕ) (n : ℕ) → 0 < length text
     → n ≡ min (length text) 64 → row ≡ take n text → more ≡ drop n text
-    → text_of end (rows_of text) ≡ row ++ (end_of end ++ text_of end (rows_of more))
+    → text_of end (rows_of text) ≡ row ++ (end_bytes end ++ text_of end (rows_of more))
 unfolding text_of
 text_of_first_row end text row more n some n_is row_is more_is =
     let k : n ≡ min 64 (length text) = omega arith in
     let front : row ≡ take 64 text = row_is ∙ ap (λ m. take m text) k ∙ take_min 64 text in
     let back : more ≡ drop 64 text = more_is ∙ ap (λ m. drop m text) k ∙ drop_min 64 text in
-    let first = append_assoc (take 64 text) (end_of end)
-    (flat_map (λ line. line ++ end_of end) (rows_of (drop 64 text))) in
+    let first = append_assoc (take 64 text) (end_bytes end)
+    (flat_map (λ line. line ++ end_bytes end) (rows_of (drop 64 text))) in
     rw (rows_more text some, front, back) first
 
 -- an empty text has none

@@ -23,7 +23,7 @@ use Rattle.picky_text.specs.Words.{HasParts, IsRead}
 use Rattle.picky_text.specs.Base64.{base64_of}
 use Rattle.picky_text.proofs.Base64Laws.{base64_has_no}
 use Rattle.picky_text.proofs.ListLaws.{all_front, all_weaker, none_before_first, cut_at_first, uncut}
-use Rattle.picky_text.specs.Lines.{HasNo, end_of}
+use Rattle.picky_text.specs.Lines.{HasNo, end_bytes}
 use Rattle.picky_text.specs.declared.lines.LineEnd.{LineEnd}
 use Rattle.picky_text.specs.declared.lines.LineEnd.TheVariants.{Lf, CrLf}
 
@@ -319,7 +319,7 @@ words_at_space word rest is =
 
 -- a line that ends in LF or CRLF
 line_at_end : (line more : List ℕ) (end : LineEnd) → HasNo 13 line → HasNo 10 line
-    → line_in_front (line ++ (end_of end ++ more)) ≡ line
+    → line_in_front (line ++ (end_bytes end ++ more)) ≡ line
 line_at_end line more Lf cr lf =
     (cut_at_first ends_line line 10 more (stays_line line cr lf) refl).before
 line_at_end line more CrLf cr lf =
@@ -350,7 +350,7 @@ parts_before name body comment rest parts is =
 pub key_line_is_read_back : (name body comment : List ℕ) → AreParts name body comment
     → IsRead name body comment
 key_line_is_read_back name body comment parts end more =
-    let rest : List ℕ = end_of end ++ more in
+    let rest : List ℕ = end_bytes end ++ more in
     let is = line_at_end comment more end parts.no_cr parts.no_lf in
     let whole = append_assoc (name ++ 32 ∷ body) (32 ∷ comment) rest in
     rw whole (parts_before name body comment (comment ++ rest) parts is)

@@ -7,13 +7,13 @@ use Rattle.picky_text.specs.declared.lines.LineEnd.TheVariants.{Lf, CrLf}
 pub use Rattle.std.specs.Str.Lines.{lines}
 
 -- the bytes that end a line
-abbrev pub end_of : LineEnd → List ℕ
-end_of Lf = 10 ∷ []
-end_of CrLf = 13 ∷ 10 ∷ []
+abbrev pub end_bytes : LineEnd → List ℕ
+end_bytes Lf = 10 ∷ []
+end_bytes CrLf = 13 ∷ 10 ∷ []
 
 -- the text of the lines, each with its end
 unfoldable pub text_of : LineEnd → List (List ℕ) → List ℕ
-text_of end ls = flat_map (λ line. line ++ end_of end) ls
+text_of end ls = flat_map (λ line. line ++ end_bytes end) ls
 
 -- the byte stands nowhere in the bytes
 abbrev pub HasNo : ℕ → List ℕ → Type 0

@@ -3,7 +3,7 @@ use Rattle.std.proofs.Common.{◌≡◌, ℕ, List, ◌∷◌, ◌++◌}
 use Rattle.std.specs.Str.{trim_end, is_utf8}
 use Rattle.std.specs.Prelude.{List, [], ℕ, Bool, ◌==◌, ◌||◌, slice_index, if◌then◌else◌, Option, Some, None}
 use Rattle.std.specs.List.{before_first, after_first, position_or_len}
-use Rattle.picky_text.specs.Lines.{HasNo, end_of}
+use Rattle.picky_text.specs.Lines.{HasNo, end_bytes}
 use Rattle.picky_text.specs.declared.lines.LineEnd.{LineEnd}
 
 -- a word ends at a space, CR or LF, and a line at CR or LF
@@ -69,4 +69,4 @@ pub record HasParts (line name body comment : List ℕ) : Type 0 where
 abbrev pub IsRead : List ℕ → List ℕ → List ℕ → Type 0
 IsRead name body comment =
     (end : LineEnd) (more : List ℕ)
-    → HasParts (name ++ 32 ∷ body ++ 32 ∷ comment ++ (end_of end ++ more)) name body comment
+    → HasParts (name ++ 32 ∷ body ++ 32 ∷ comment ++ (end_bytes end ++ more)) name body comment

@@ -2,7 +2,7 @@
 
 ghost use Rattle.std.specs.Prelude.{◌≡◌, ℕ, List, [], ◌∷◌, IfNone, IfSome};
 ghost use Rattle.std.specs.Str.Iter.{lines_rest};
-ghost use Rattle.picky_text.specs.Lines.{end_of, lines};
+ghost use Rattle.picky_text.specs.Lines.{end_bytes, lines};
 
 use std::marker::Model;
 use std::str::Lines;
@@ -17,7 +17,7 @@ pub enum LineEnd {
 impl LineEnd {
     /// The bytes that end a line.
     pub fn as_str(self) -> &'static str
-        ensures { result.now ≡ end_of self }
+        ensures { result.now ≡ end_bytes self }
     {
         match self {
             LineEnd::Lf => "\n",

@@ -9,7 +9,7 @@ use Rattle.picky_layout.specs.Outcome.{map_err, and_then}
 use Rattle.picky_layout.specs.Combine.{tag}
 use Rattle.picky_layout.specs.Narrowed.{meant}
 use Rattle.picky_layout.specs.Numbers.{uint64}
-use Rattle.picky_layout.specs.Wire.{cells, uint32, string, string_of, text}
+use Rattle.picky_layout.specs.Wire.{byte_array, uint32, string, string_of, text}
 use Rattle.picky_layout.proofs.Strings.{string_reads_back, text_stuck}
 use Rattle.picky_layout.specs.Zeros.{without_zeros, BeginsWithNoZero}
 use Rattle.picky_layout.specs.carried.Zeros.{all_is_kept}
@@ -23,20 +23,20 @@ use Rattle.picky_wire.specs.Moment.{timestamp}
 
 -- no bytes are short
 pub string_ends : Refuses (tag wire_error string).read errors.UnexpectedEnd
-unfolding string uint32 cells
+unfolding string uint32 byte_array
 string_ends = ([], refl)
 
 pub uint64_ends : Refuses (tag wire_error uint64).read errors.UnexpectedEnd
-unfolding uint64 cells
+unfolding uint64 byte_array
 uint64_ends = ([], refl)
 
 pub timestamp_ends : Refuses timestamp.read errors.UnexpectedEnd
-unfolding timestamp uint64 cells
+unfolding timestamp uint64 byte_array
 timestamp_ends = ([], refl)
 
 -- one byte of 255 is no text
 pub text_is_no_utf8 : Refuses (tag wire_error text).read errors.InvalidUtf8
-unfolding text string uint32 cells is_utf8 chars
+unfolding text string uint32 byte_array is_utf8 chars
 text_is_no_utf8 = (0 ∷ 0 ∷ 0 ∷ 1 ∷ 255 ∷ [], refl)
 
 -- 2^32 - 1 bytes of 1 are too many for a number

@@ -1,6 +1,6 @@
 pub mod MemoryLemmas
 pub mod ReadLemmas
-pub mod CellsLemmas
+pub mod ByteArrayLemmas
 pub mod CauseLemmas
 mod UnreadLemmas
 pub mod TextLemmas

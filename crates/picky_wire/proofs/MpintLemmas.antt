@@ -5,7 +5,7 @@ use Rattle.std.proofs.lemmas.List.{length-append}
 use Rattle.picky_layout.specs.Zeros.{without_zeros}
 use Rattle.picky_layout.specs.carried.Zeros.{zeros_in_front, no_zero_begins}
 use Rattle.picky_layout.proofs.Zeros.{length_with_zeros}
-use Rattle.picky_layout.specs.Magnitude.{IsMpint}
+use Rattle.picky_layout.specs.Magnitude.{IsMagnitude}
 
 -- no more bytes are kept than there are
 pub kept_within : (v w : List ℕ) → w ≡ without_zeros v → length w ≤ length v
@@ -29,7 +29,7 @@ zeros_behind v w rotated count is all turned =
     ∙ take-append_seam (without_zeros v) behind
 
 -- what is left after the zeros is a number where it is short enough
-pub rest_is_mpint : (v w : List ℕ) → w ≡ without_zeros v → length w < 2 ^ 32 - 1 → IsMpint w
+pub rest_is_mpint : (v w : List ℕ) → w ≡ without_zeros v → length w < 2 ^ 32 - 1 → IsMagnitude w
 rest_is_mpint v w is short =
-    subst (λ u. IsMpint u) (sym is)
+    subst (λ u. IsMagnitude u) (sym is)
     (record { begins = no_zero_begins v; short = omega (arith, ap length is) })

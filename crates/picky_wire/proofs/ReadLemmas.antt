@@ -3,35 +3,35 @@ use Rattle.std.proofs.Common.{◌≡◌, ℕ, ◌+◌, ◌-◌, ◌≤◌, ◌<�
 use Rattle.std.proofs.lemmas.List.{take_at, drop_at, length-append, length-drop, length-take-le, take-append-le, take_all, append_assoc}
 use Rattle.std.proofs.Math.Seq.{take-add}
 use Rattle.picky_layout.specs.Flaw.{Flaw, Short}
-use Rattle.picky_layout.specs.Wire.{cells}
-use Rattle.picky_layout.specs.Cells.{read_cells}
-use Rattle.picky_layout.proofs.Short.{cells_short, cells_refused}
+use Rattle.picky_layout.specs.Wire.{byte_array}
+use Rattle.picky_layout.specs.ByteArray.{read_byte_array}
+use Rattle.picky_layout.proofs.Short.{byte_array_short, byte_array_refused}
 
 -- a front of the right length is read
-pub cells-read : (n : ℕ) (v rest bytes : List ℕ) → length v ≡ n → bytes ≡ v ++ rest
-    → (cells n).read bytes ≡ Ok (v, rest)
-unfolding cells
-cells-read n v rest bytes len same =
-    ap (read_cells n) same ∙ (cells n).complete v v rest (len, refl)
+pub byte_array-read : (n : ℕ) (v rest bytes : List ℕ) → length v ≡ n → bytes ≡ v ++ rest
+    → (byte_array n).read bytes ≡ Ok (v, rest)
+unfolding byte_array
+byte_array-read n v rest bytes len same =
+    ap (read_byte_array n) same ∙ (byte_array n).complete v v rest (len, refl)
 
 -- too few bytes are no front
-pub cells-short : (n : ℕ) (bytes : List ℕ) → length bytes < n → (cells n).read bytes ≡ Err Short
-unfolding cells
-cells-short n bytes short = cells_short n bytes short
+pub byte_array-short : (n : ℕ) (bytes : List ℕ) → length bytes < n → (byte_array n).read bytes ≡ Err Short
+unfolding byte_array
+byte_array-short n bytes short = byte_array_short n bytes short
 
 -- what was read stands in front
-pub cells-front : (n : ℕ) (bytes v rest : List ℕ) → (cells n).read bytes ≡ Ok (v, rest)
+pub byte_array-front : (n : ℕ) (bytes v rest : List ℕ) → (byte_array n).read bytes ≡ Ok (v, rest)
     → bytes ≡ v ++ rest
-unfolding cells
-cells-front n bytes v rest read =
-    let fits = (cells n).sound bytes v rest read in
+unfolding byte_array
+byte_array-front n bytes v rest read =
+    let fits = (byte_array n).sound bytes v rest read in
     fits.2 ∙ ap (λ f. f ++ rest) fits.1.1
 
 -- a refusal says that there are too few bytes
-pub cells-refused : (n : ℕ) (bytes : List ℕ) (f : Flaw) → (cells n).read bytes ≡ Err f
+pub byte_array-refused : (n : ℕ) (bytes : List ℕ) (f : Flaw) → (byte_array n).read bytes ≡ Err f
     → (f ≡ Short) × (length bytes < n)
-unfolding cells
-cells-refused n bytes f refused = cells_refused n bytes f refused
+unfolding byte_array
+byte_array-refused n bytes f refused = byte_array_refused n bytes f refused
 
 -- a buffer whose front was filled, after one more read into its rest
 pub more_taken : (at n : ℕ) (xs ys tail : List ℕ) → at ≤ length xs → n ≤ length ys
@@ -46,9 +46,9 @@ more_taken at n xs ys tail in_buffer in_piece =
 
 -- the whole buffer was filled
 pub filled : (n at : ℕ) (xs before after : List ℕ) → length xs ≡ n → length xs ≤ at
-    → before ≡ take at xs ++ after → (cells n).read before ≡ Ok (xs, after)
+    → before ≡ take at xs ++ after → (byte_array n).read before ≡ Ok (xs, after)
 filled n at xs before after len whole same =
-    cells-read n xs after before len (same ∙ ap (λ f. f ++ after) (take_all at xs whole))
+    byte_array-read n xs after before len (same ∙ ap (λ f. f ++ after) (take_all at xs whole))
 
 -- what is left of the buffer
 pub tail_len : (at : ℕ) (xs : List ℕ) → length (take (length xs - at) (drop at xs)) ≡ length xs - at
@@ -70,6 +70,6 @@ more_filled at k xs ys tail before now after in_buffer in_piece same next =
 
 -- one more piece was taken
 pub piece_taken : (n : ℕ) (taken before now v after : List ℕ) → before ≡ taken ++ now
-    → (cells n).read now ≡ Ok (v, after) → before ≡ (taken ++ v) ++ after
+    → (byte_array n).read now ≡ Ok (v, after) → before ≡ (taken ++ v) ++ after
 piece_taken n taken before now v after same read =
-    same ∙ ap (λ r. taken ++ r) (cells-front n now v after read) ∙ sym (append_assoc taken v after)
+    same ∙ ap (λ r. taken ++ r) (byte_array-front n now v after read) ∙ sym (append_assoc taken v after)

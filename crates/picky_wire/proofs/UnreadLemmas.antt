@@ -8,26 +8,26 @@ use Rattle.picky_layout.specs.Outcome.{map_err, and_then}
 use Rattle.picky_layout.specs.carried.Outcome.{map_err_ok, and_then_ok, same_pair}
 use Rattle.picky_layout.specs.Combine.{each}
 use Rattle.picky_layout.specs.Narrowed.{meant}
-use Rattle.picky_layout.specs.Wire.{cells, uint32}
+use Rattle.picky_layout.specs.Wire.{byte_array, uint32}
 use Rattle.picky_layout.specs.Short.{EndsInString}
 use Rattle.picky_wire.specs.declared.error.WireError.{WireError}
 use Rattle.picky_wire.specs.declared.error.WireError.TheVariants as errors
 use Rattle.picky_wire.specs.Takes.{StopsShort}
 use Rattle.picky_wire.specs.Unread.{LeavesUnread}
 use Rattle.picky_wire.specs.Flaws.{wire_error, wire_causes}
-use Rattle.picky_wire.proofs.ReadLemmas.{cells-front, cells-refused}
+use Rattle.picky_wire.proofs.ReadLemmas.{byte_array-front, byte_array-refused}
 
 -- a number that was read took four bytes, and is what they say
 pub record FourBytes (bytes rest : List ℕ) (n : ℕ) : Type 0 where
   pub rest_is : rest ≡ drop 4 bytes
   pub number : n ≡ from_be_bytes w32 (take 4 bytes)
 
-cells_four : (bytes v rest : List ℕ) → (cells 4).read bytes ≡ Ok (v, rest)
+byte_array_four : (bytes v rest : List ℕ) → (byte_array 4).read bytes ≡ Ok (v, rest)
     → (v ≡ take 4 bytes) × (rest ≡ drop 4 bytes)
-unfolding cells
-cells_four bytes v rest read =
-    let fits = (cells 4).sound bytes v rest read in
-    let same = cells-front 4 bytes v rest read in (
+unfolding byte_array
+byte_array_four bytes v rest read =
+    let fits = (byte_array 4).sound bytes v rest read in
+    let same = byte_array-front 4 bytes v rest read in (
       sym (take_at v rest 4 fits.1.0) ∙ ap (take 4) (sym same),
       sym (drop_at v rest 4 fits.1.0) ∙ ap (drop 4) (sym same),
     )
@@ -37,9 +37,9 @@ pub four_bytes : (bytes rest : List ℕ) (n : ℕ) → map_err wire_error (uint3
 unfolding uint32
 four_bytes bytes rest n read =
     let number = map_err_ok wire_error (uint32.read bytes) (n, rest) read in
-    let steps = and_then_ok ((cells 4).read bytes) (meant (each (from_be_bytes w32))) (n, rest) number in
+    let steps = and_then_ok ((byte_array 4).read bytes) (meant (each (from_be_bytes w32))) (n, rest) number in
     let same = same_pair _ (from_be_bytes w32 steps.0.0) n steps.0.1 rest refl steps.2 in
-    let four = cells_four bytes steps.0.0 steps.0.1 steps.1 in
+    let four = byte_array_four bytes steps.0.0 steps.0.1 steps.1 in
     record {
       rest_is = sym same.1 ∙ four.1;
       number = sym same.0 ∙ ap (from_be_bytes w32) four.0;
@@ -55,13 +55,13 @@ rest_is_short bytes rest n four enough ends =
 length_cut : (bytes : List ℕ) → map_err wire_error (uint32.read bytes) ≡ Err errors.UnexpectedEnd
     → length bytes < 4
 unfolding uint32
-length_cut bytes refused = go ((cells 4).read bytes) refl refused
+length_cut bytes refused = go ((byte_array 4).read bytes) refl refused
   where
-    go : (r : Result (List ℕ × List ℕ) Flaw) → (cells 4).read bytes ≡ r
+    go : (r : Result (List ℕ × List ℕ) Flaw) → (byte_array 4).read bytes ≡ r
         → map_err wire_error (and_then r (meant (each (from_be_bytes w32)))) ≡ Err errors.UnexpectedEnd
         → length bytes < 4
     go (Ok x) is other = cc other
-    go (Err f) is why = (cells-refused 4 bytes f is).1
+    go (Err f) is why = (byte_array-refused 4 bytes f is).1
 
 -- reading the length is refused: the source failed inside it
 pub length_refused : {A : Type 0} (e : WireError) (fault : Type 0) (before after : List ℕ)

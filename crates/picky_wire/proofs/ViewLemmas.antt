@@ -9,14 +9,14 @@ use Rattle.picky_layout.specs.Flaw.{Flaw, Flawed}
 use Rattle.picky_layout.specs.Outcome.{and_then, map_err}
 use Rattle.picky_layout.specs.Combine.{narrow, each}
 use Rattle.picky_layout.specs.Narrowed.{meant}
-use Rattle.picky_layout.specs.Wire.{cells, uint32, string}
+use Rattle.picky_layout.specs.Wire.{byte_array, uint32, string}
 use Rattle.picky_layout.specs.Zeros.{without_zeros}
 use Rattle.picky_layout.specs.carried.Zeros.{zeros_in_front}
 use Rattle.picky_wire.specs.declared.view.Part.{Part}
 use Rattle.picky_wire.specs.declared.view.Stuck.TheVariants as stucks
 use Rattle.picky_wire.specs.View.{end_of, Seen, Lies, part_bytes}
 use Rattle.picky_wire.proofs.MpintLemmas.{kept_within}
-use Rattle.picky_wire.proofs.ReadLemmas.{cells-read, cells-short}
+use Rattle.picky_wire.proofs.ReadLemmas.{byte_array-read, byte_array-short}
 use Rattle.picky_layout.specs.Grammar.{Grammar}
 
 -- what a view of each value is, is read as the value is
@@ -29,26 +29,26 @@ each_refused : {A B : Type 0} (G : Grammar Flaw A) (view : A → B) (before : Li
 each_refused G view before f refused = ap (λ r. and_then r (meant (each view))) refused
 
 -- so many bytes stand at the place
-cells_are : (n from : ℕ) (blob bytes : List ℕ) → from + n ≤ length blob
+byte_array_are : (n from : ℕ) (blob bytes : List ℕ) → from + n ≤ length blob
     → bytes ≡ take n (drop from blob)
-    → (cells n).read (drop from blob) ≡ Ok (bytes, drop (from + n) blob)
-cells_are n from blob bytes fits is =
+    → (byte_array n).read (drop from blob) ≡ Ok (bytes, drop (from + n) blob)
+byte_array_are n from blob bytes fits is =
     let enough : n ≤ length (drop from blob) = omega (arith, length-drop from blob) in
     let len = ap length is ∙ length-take-le n (drop from blob) enough in
     let split = ap (λ b. b ++ drop n (drop from blob)) is ∙ take-append-drop n (drop from blob) in
-    cells-read n bytes (drop n (drop from blob)) (drop from blob) len (sym split)
+    byte_array-read n bytes (drop n (drop from blob)) (drop from blob) len (sym split)
     ∙ ap (λ r. Ok (bytes, r)) (drop-drop n from blob)
 
 -- they are a part of the buffer
-pub cells_seen : (n from : ℕ) (blob : List ℕ) (part : Part) → from + n ≤ length blob
+pub byte_array_seen : (n from : ℕ) (blob : List ℕ) (part : Part) → from + n ≤ length blob
     → part.at ≡ from → part.bytes.now ≡ take n (drop from blob)
-    → Seen part_bytes (Lies blob (end_of (cells n) blob from)) Flawed (cells n) blob from (Ok (part, from + n))
-unfolding cells
-cells_seen n from blob part fits place is =
+    → Seen part_bytes (Lies blob (end_of (byte_array n) blob from)) Flawed (byte_array n) blob from (Ok (part, from + n))
+unfolding byte_array
+byte_array_seen n from blob part fits place is =
     let enough : n ≤ length (drop from blob) = omega (arith, length-drop from blob) in
     let len : length part.bytes.now ≡ n = ap length is ∙ length-take-le n (drop from blob) enough in
     record {
-      sees = cells_are n from blob part.bytes.now fits is;
+      sees = byte_array_are n from blob part.bytes.now fits is;
       placed = (
         record {
           ends = omega (arith, len, place);
@@ -62,10 +62,10 @@ cells_seen n from blob part fits place is =
     }
 
 -- the buffer ends before
-pub cells_unseen : (n from : ℕ) (blob : List ℕ) → length (drop from blob) < n
-    → Seen part_bytes (Lies blob (end_of (cells n) blob from)) Flawed (cells n) blob from (Err stucks.Short)
-cells_unseen n from blob short =
-    record { sees = ap (map_err Flawed) (cells-short n (drop from blob) short); placed = tt }
+pub byte_array_unseen : (n from : ℕ) (blob : List ℕ) → length (drop from blob) < n
+    → Seen part_bytes (Lies blob (end_of (byte_array n) blob from)) Flawed (byte_array n) blob from (Err stucks.Short)
+byte_array_unseen n from blob short =
+    record { sees = ap (map_err Flawed) (byte_array-short n (drop from blob) short); placed = tt }
 
 -- ---- numbers
 
@@ -73,11 +73,11 @@ cells_unseen n from blob short =
 pub uint32_seen : (from n : ℕ) (blob bytes : List ℕ) → from + 4 ≤ length blob
     → bytes ≡ take 4 (drop from blob) → n ≡ from_be_bytes w32 bytes
     → Seen (λ m. m) (λ _. ⊤) Flawed uint32 blob from (Ok (n, from + 4))
-unfolding uint32 cells
+unfolding uint32 byte_array
 uint32_seen from n blob bytes fits is number =
     record {
-      sees = each_read (cells 4) (from_be_bytes w32) (drop from blob) (drop (from + 4) blob) bytes
-          (cells_are 4 from blob bytes fits is)
+      sees = each_read (byte_array 4) (from_be_bytes w32) (drop from blob) (drop (from + 4) blob) bytes
+          (byte_array_are 4 from blob bytes fits is)
           ∙ ap (λ m. Ok (m, drop (from + 4) blob)) (sym number);
       placed = (tt, refl, fits);
     }
@@ -88,8 +88,8 @@ pub uint32_unseen : (from : ℕ) (blob : List ℕ) → length blob < from + 4
 unfolding uint32
 uint32_unseen from blob short =
     let few : length (drop from blob) < 4 = omega (arith, length-drop from blob) in
-    let head = cells-short 4 (drop from blob) few in
-    let refused = each_refused (cells 4) (from_be_bytes w32) (drop from blob) _ head in
+    let head = byte_array-short 4 (drop from blob) few in
+    let refused = each_refused (byte_array 4) (from_be_bytes w32) (drop from blob) _ head in
     record { sees = ap (map_err Flawed) refused; placed = tt }
 
 pub ruleset uint32_at_place = (uint32_seen, uint32_unseen)
@@ -110,7 +110,7 @@ pub ruleset tests = (not_utf8, is_utf8-from_IsUtf8)
 -- four bytes of length stand before a string's bytes
 pub string_leaves : (bytes v rest : List ℕ) → string.read bytes ≡ Ok (v, rest)
     → 4 + length v ≤ length bytes
-unfolding string uint32 cells
+unfolding string uint32 byte_array
 string_leaves bytes v rest read =
     let fits = string.sound bytes v rest read in
     let piece = fits.1 in

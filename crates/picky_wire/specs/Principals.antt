@@ -11,6 +11,6 @@ unfoldable pub principal : Grammar WireError (List ℕ)
 principal = tag wire_error text
 
 -- what each text keeps: it is UTF-8, and short enough for a string
-pub record IsText (v : List ℕ) : Type 0 where
+pub record IsPrincipal (v : List ℕ) : Type 0 where
   pub short : length v < 2 ^ 32
   pub utf8 : IsUtf8 v

@@ -5,16 +5,16 @@ ghost use Rattle.std.specs.Int.{w8, w32, w64, from_be_bytes, to_be_bytes};
 ghost use Rattle.std.specs.List.{flat_map};
 ghost use Rattle.picky_layout.specs.Flaw.{Flaw, Short, NotUtf8, Big, Flawed, Length, Magic, Name, Number, Reason};
 ghost use Rattle.picky_layout.specs.Grammar.{Grammar, Fits};
-ghost use Rattle.picky_layout.specs.Narrowed.{Meaning};
+ghost use Rattle.picky_layout.specs.Narrowed.{Narrowing};
 ghost use Rattle.picky_layout.specs.Combine.{narrow};
-ghost use Rattle.picky_layout.specs.Wire.{cells, uint32, string, string_of, text};
+ghost use Rattle.picky_layout.specs.Wire.{byte_array, uint32, string, string_of, text};
 ghost use Rattle.picky_layout.specs.Numbers.{IsBytes, byte, uint64};
 ghost use Rattle.picky_layout.specs.Short.{EndsInString};
 ghost use Rattle.picky_layout.specs.Fixed.{raw, sized, fixed_uint32};
 ghost use Rattle.picky_layout.specs.Table.{Table};
-ghost use Rattle.picky_layout.specs.Names.{named};
+ghost use Rattle.picky_layout.specs.Named.{named};
 ghost use Rattle.picky_layout.specs.Zeros.{without_zeros};
-ghost use Rattle.picky_layout.specs.Magnitude.{IsMpint};
+ghost use Rattle.picky_layout.specs.Magnitude.{IsMagnitude};
 ghost use Rattle.picky_layout.specs.Mpint.{IsMpintPiece, mpint, mpint_of};
 ghost use Rattle.picky_layout.specs.When.{IsShortWhere, HoldsString, HasOneFront, followed_by};
 ghost use Rattle.picky_wire.specs.Equality.{IsEquality, IsEqualityOf};
@@ -63,7 +63,7 @@ pub fn fields_are_read_back()
         → string.read (string_of v ++ rest) ≡ Ok (v, rest) }
     ensures text { (v rest : List ℕ) → length v < 2 ^ 32 → IsUtf8 v
         → text.read (string_of v ++ rest) ≡ Ok (v, rest) }
-    ensures mpint { (v rest : List ℕ) → IsMpint v
+    ensures mpint { (v rest : List ℕ) → IsMagnitude v
         → mpint.read (mpint_of v ++ rest) ≡ Ok (v, rest) }
 {}
 
@@ -96,7 +96,7 @@ pub fn string_pieces_are_the_standards()
 pub fn mpint_pieces_are_the_standards()
     ensures pieces { (v bytes : List ℕ) → IsBytes bytes
         → mpint.piece v bytes ↔ IsMpintPiece v bytes }
-    ensures canonical { (v : List ℕ) → IsMpint v → mpint.piece v (mpint_of v) }
+    ensures canonical { (v : List ℕ) → IsMagnitude v → mpint.piece v (mpint_of v) }
     ensures high { (v : List ℕ) → 128 ≤ slice_index v 0 → mpint_of v ≡ string_of (0 ∷ v) }
     ensures low { (v : List ℕ) → slice_index v 0 < 128 → mpint_of v ≡ string_of v }
 {}
@@ -131,7 +131,7 @@ pub fn numbers_are_refused_exactly()
     ensures byte { IsShortWhere byte.read (λ bytes. length bytes < 1) }
     ensures uint32 { IsShortWhere uint32.read (λ bytes. length bytes < 4) }
     ensures uint64 { IsShortWhere uint64.read (λ bytes. length bytes < 8) }
-    ensures cells { (n : ℕ) → IsShortWhere (cells n).read (λ bytes. length bytes < n) }
+    ensures byte_array { (n : ℕ) → IsShortWhere (byte_array n).read (λ bytes. length bytes < n) }
 {}
 
 /// A string is refused exactly where the bytes end inside it; a text also where its whole string
@@ -165,8 +165,8 @@ pub fn whole_fields_are_read()
         → uint32.read bytes ≡ Ok (from_be_bytes w32 (take 4 bytes), drop 4 bytes) }
     ensures uint64 { (bytes : List ℕ) → 8 ≤ length bytes
         → uint64.read bytes ≡ Ok (from_be_bytes w64 (take 8 bytes), drop 8 bytes) }
-    ensures cells { (n : ℕ) (bytes : List ℕ) → n ≤ length bytes
-        → (cells n).read bytes ≡ Ok (take n bytes, drop n bytes) }
+    ensures byte_array { (n : ℕ) (bytes : List ℕ) → n ≤ length bytes
+        → (byte_array n).read bytes ≡ Ok (take n bytes, drop n bytes) }
     ensures string { (bytes : List ℕ) → (EndsInString bytes → ⊥)
         → string.read bytes ≡ Ok (
           take (from_be_bytes w32 (take 4 bytes)) (drop 4 bytes),
@@ -268,7 +268,7 @@ pub trait NarrowedLayout {
 
     ghost field: { Grammar Self.Error Self.Field };
 
-    ghost meaning: { Meaning Self.Error Self.Field Self.Value };
+    ghost meaning: { Narrowing Self.Error Self.Field Self.Value };
 }
 
 /// A layout that may say less is read exactly where its value stands for something. It is refused

@@ -4,7 +4,7 @@ ghost use Rattle.std.specs.Prelude.{◌≡◌, ◌^◌, ◌-◌, ◌<◌, ◌≤
 ghost use Rattle.std.specs.Cmp.{partial_equiv_from_equiv};
 ghost use Rattle.std.specs.Cmp.Lexicographic.{pointwise, nat_list_eq_equiv};
 ghost use Rattle.picky_layout.specs.Zeros.{without_zeros};
-ghost use Rattle.picky_layout.specs.Magnitude.{IsMpint};
+ghost use Rattle.picky_layout.specs.Magnitude.{IsMagnitude};
 
 use crate::copy::TryClone;
 use crate::error::{NoMemory, SizeError};
@@ -22,7 +22,7 @@ impl Model for Mpint {
 
     ghost view = { λ m. m.vec.items };
 
-    ghost invariant = { λ m. IsMpint m.vec.items };
+    ghost invariant = { λ m. IsMagnitude m.vec.items };
 }
 
 impl Mpint {
@@ -31,7 +31,7 @@ impl Mpint {
     #[tactic(auto, using(crate::proofs::MpintLemmas::rest_is_mpint))]
     pub fn from_be(alloc: Global, from: &[u8]) -> Result<Mpint, SizeError>
         ensures ok { IfOk result (λ number. number ≡ without_zeros from.now) }
-        ensures mpint { IfOk result IsMpint }
+        ensures mpint { IfOk result IsMagnitude }
         ensures too_long { IsErrOf result SizeError.TooLong
             ↔ (2 ^ 32 - 1 ≤ length (without_zeros from.now)) }
     {
@@ -48,7 +48,7 @@ impl Mpint {
     /// The number of these bytes, which takes no memory. Refuses as `from_be`, and nothing else.
     pub fn from_vec(vec: Vec<u8>) -> Result<Mpint, SizeError>
         ensures ok { IfOk result (λ number. number ≡ without_zeros vec.items) }
-        ensures mpint { IfOk result IsMpint }
+        ensures mpint { IfOk result IsMagnitude }
         ensures too_long { IsErrOf result SizeError.TooLong
             ↔ (2 ^ 32 - 1 ≤ length (without_zeros vec.items)) }
         ensures no_other { IfErr result (λ e. e ≡ SizeError.TooLong) }
@@ -66,7 +66,7 @@ impl Mpint {
     /// Its bytes. Zero has none.
     pub fn bytes(&self) -> &[u8]
         ensures bytes { result.now ≡ self.now }
-        ensures mpint { IsMpint self.now }
+        ensures mpint { IsMagnitude self.now }
     {
         self.vec.as_slice()
     }
@@ -74,7 +74,7 @@ impl Mpint {
     /// Its bytes, which are given back.
     pub fn into_vec(self) -> Vec<u8>
         ensures bytes { result.items ≡ self }
-        ensures mpint { IsMpint self }
+        ensures mpint { IsMagnitude self }
     {
         self.vec
     }

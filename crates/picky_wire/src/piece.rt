@@ -5,7 +5,7 @@ ghost use Rattle.std.specs.Int.{w8, w32, w64, to_be_bytes};
 ghost use Rattle.std.specs.List.{concat};
 ghost use Rattle.picky_layout.specs.Numbers.{IsBytes};
 ghost use Rattle.picky_layout.specs.Wire.{string_of};
-ghost use Rattle.picky_layout.specs.Magnitude.{IsMpint};
+ghost use Rattle.picky_layout.specs.Magnitude.{IsMagnitude};
 ghost use Rattle.picky_layout.specs.Mpint.{mpint_of};
 ghost use Rattle.picky_wire.specs.Puts.{Puts};
 
@@ -120,7 +120,7 @@ impl<'a> Piece<'a> {
     pub fn mpint(number: &'a Mpint) -> Piece<'a>
         ensures string { result ≡ mpint_of number.now }
         ensures bytes { IsBytes number.now }
-        ensures mpint { IsMpint number.now }
+        ensures mpint { IsMagnitude number.now }
     {
         let bytes = number.bytes();
         if is_high(bytes) {

@@ -8,7 +8,7 @@ ghost use Rattle.picky_wire.specs.Count.{Rose};
 ghost use Rattle.picky_wire.specs.Flaws.{wire_causes, wire_error};
 ghost use Rattle.picky_wire.specs.Unread.{Unread};
 ghost use Rattle.picky_wire.specs.Takes.{Takes, TakesString, HasCause, causes_of};
-ghost use Rattle.picky_wire.specs.Principals.{principal, IsText};
+ghost use Rattle.picky_wire.specs.Principals.{principal, IsPrincipal};
 ghost use Rattle.picky_wire.specs.carried.Principals.{principal_spells, principal_own, principal_solid};
 ghost use Rattle.picky_wire.specs.Puts.{Puts};
 
@@ -59,7 +59,7 @@ impl SshComplexTypeEncode for Text {
 
     ghost write_reason = { λ _. None };
 
-    ghost keeps = { IsText };
+    ghost keeps = { IsPrincipal };
 
     ghost reason_is_no_want = { λ v same. Prim.cc same };
 

@@ -4,7 +4,7 @@ ghost use Rattle.std.specs.Prelude.{◌≡◌, ◌⊎◌, ◌^◌, ◌<◌, ◌�
 ghost use Rattle.std.specs.Str.{is_utf8};
 ghost use Rattle.picky_layout.specs.Combine.{tag};
 ghost use Rattle.picky_layout.specs.Outcome.{map_ok};
-ghost use Rattle.picky_layout.specs.Wire.{cells, uint32, string, text};
+ghost use Rattle.picky_layout.specs.Wire.{byte_array, uint32, string, text};
 ghost use Rattle.picky_layout.specs.Numbers.{byte, uint64};
 ghost use Rattle.picky_layout.specs.Mpint.{mpint};
 ghost use Rattle.picky_wire.specs.Count.{Rose};
@@ -155,7 +155,7 @@ pub fn read_byte<S: Source>(source: &mut S) -> Result<u8, WireError>
 
 /// So many bytes. Where the source knows that fewer are left, none is taken.
 fn read_counted<S: Source>(alloc: Global, source: &mut S, len: usize) -> Result<Vec<u8>, WireError>
-    ensures takes { TakesField S.tells S.left S.known S.faults (cells len) (map_ok (λ v. v.items) result) source.old source.new }
+    ensures takes { TakesField S.tells S.left S.known S.faults (byte_array len) (map_ok (λ v. v.items) result) source.old source.new }
     ensures unread { IfSome (S.known source.old)
         (λ known. known < len → (result ≡ Err WireError.UnexpectedEnd) × (source.new ≡ source.old)) }
     ensures len { IfOk result (λ v. vec_len v ≡ len) }
@@ -171,7 +171,7 @@ fn read_counted<S: Source>(alloc: Global, source: &mut S, len: usize) -> Result<
 }
 
 fn read_chunks<S: Source>(alloc: Global, source: &mut S, len: usize) -> Result<Vec<u8>, WireError>
-    ensures takes { TakesField S.tells S.left S.known S.faults (cells len) (map_ok (λ v. v.items) result) source.old source.new }
+    ensures takes { TakesField S.tells S.left S.known S.faults (byte_array len) (map_ok (λ v. v.items) result) source.old source.new }
     ensures len { IfOk result (λ v. vec_len v ≡ len) }
     ensures cause { IfErr result (λ e. StopsShort wire_causes (Rose (S.faults source.old) (S.faults source.new)) e
         ⊎ (e ≡ WireError.NoMemory)) }
@@ -222,7 +222,7 @@ fn make_room(vec: &mut Vec<u8>, more: usize) -> Result<(), NoMemory>
 
 /// Fills the buffer from the source.
 fn fill<S: Source>(source: &mut S, buffer: &mut [u8]) -> Result<(), WireError>
-    ensures takes { TakesField S.tells S.left S.known S.faults (cells (length buffer.old)) (map_ok (λ _. buffer.new) result) source.old source.new }
+    ensures takes { TakesField S.tells S.left S.known S.faults (byte_array (length buffer.old)) (map_ok (λ _. buffer.new) result) source.old source.new }
     ensures cause { IfErr result (StopsShort wire_causes (Rose (S.faults source.old) (S.faults source.new))) }
     ensures cut { S.tells source.old → OnErr result (length (S.left source.old) < length buffer.old + length (S.left source.new)) }
 {

@@ -3,7 +3,7 @@
 ghost use Rattle.std.specs.Prelude.{◌≡◌, ◌^◌, ◌<◌, ◌≤◌, ⊤, ℕ, length, IsUtf8, MatchOption};
 ghost use Rattle.picky_layout.specs.Flaw.{Flawed};
 ghost use Rattle.picky_layout.specs.Fixed.{sized};
-ghost use Rattle.picky_layout.specs.Wire.{cells, uint32, string, text};
+ghost use Rattle.picky_layout.specs.Wire.{byte_array, uint32, string, text};
 ghost use Rattle.picky_layout.specs.Mpint.{mpint};
 ghost use Rattle.picky_wire.specs.View.{end_of, Seen, Lies, WordLies, part_bytes, word_bytes, why_in};
 
@@ -79,7 +79,7 @@ pub fn string_at<'a>(blob: &'a [u8], from: usize) -> Result<(Part<'a>, usize), S
         Ok(found) => found,
         Err(stuck) => return Err(stuck),
     };
-    cells_at(blob, start, len as usize)
+    byte_array_at(blob, start, len as usize)
 }
 
 /// The bytes of a string that is UTF-8.
@@ -147,10 +147,14 @@ pub fn mpint_at<'a>(blob: &'a [u8], from: usize) -> Result<(Part<'a>, usize), St
 }
 
 /// So many bytes.
-#[tactic(auto, using(crate::proofs::ViewLemmas::cells_unseen))]
-fn cells_at<'a>(blob: &'a [u8], from: usize, len: usize) -> Result<(Part<'a>, usize), Stuck<'a>>
+#[tactic(auto, using(crate::proofs::ViewLemmas::byte_array_unseen))]
+fn byte_array_at<'a>(
+    blob: &'a [u8],
+    from: usize,
+    len: usize,
+) -> Result<(Part<'a>, usize), Stuck<'a>>
     requires { from ≤ length blob.now }
-    ensures { Seen part_bytes (Lies blob.now (end_of (cells len) blob.now from)) Flawed (cells len) blob.now from result }
+    ensures { Seen part_bytes (Lies blob.now (end_of (byte_array len) blob.now from)) Flawed (byte_array len) blob.now from result }
 {
     let (_, rest) = blob.split_at(from);
     if rest.len() < len {

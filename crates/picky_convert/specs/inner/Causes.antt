@@ -6,7 +6,7 @@ use Rattle.picky_convert.specs.declared.error.ConvertError.{ConvertError}
 use Rattle.picky_convert.specs.declared.error.ConvertError.TheVariants as errors
 use Rattle.picky_convert.specs.declared.error.Status.{Status}
 use Rattle.picky_convert.specs.declared.error.Status.TheVariants as statuses
-use Rattle.picky_convert.specs.Memory.{WantsMemory}
+use Rattle.picky_convert.specs.Want.{WantsMemory}
 
 -- the refusal of a key that PuTTY's format lacks or whose blob is too long; the comment is judged between
 abbrev pub putty_refusal : PuttyError → Bool → ConvertError

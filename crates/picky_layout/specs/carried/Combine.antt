@@ -7,7 +7,7 @@ use Rattle.picky_layout.specs.Outcome.{and_then}
 use Rattle.picky_layout.specs.carried.Outcome.{and_then_ok, passed_ok, same_pair}
 use Rattle.picky_layout.specs.Grammar.{Grammar, Fits}
 use Rattle.picky_layout.specs.Joined.{Joined, read_both, used_then, used_both}
-use Rattle.picky_layout.specs.Narrowed.{Meaning, Narrowed, meant, read_narrowed}
+use Rattle.picky_layout.specs.Narrowed.{Narrowing, Narrowed, meant, read_narrowed}
 
 -- ---- nothing more
 
@@ -55,7 +55,7 @@ both_takes G H bytes v rest same =
     let used = ap (λ r. used_then r (G.used bytes) (λ f. (H f.0).used f.1)) step.1 in
     omega (arith, first, second, used)
 
-pub narrow_sound : {E A B : Type 0} (G : Grammar E A) (M : Meaning E A B) (bytes : List ℕ) (b : B)
+pub narrow_sound : {E A B : Type 0} (G : Grammar E A) (M : Narrowing E A B) (bytes : List ℕ) (b : B)
     (rest : List ℕ) → read_narrowed G M bytes ≡ Ok (b, rest) → Fits (Narrowed G M) b bytes rest
 narrow_sound G M bytes b rest same =
     let read = and_then_ok (G.read bytes) (meant M) (b, rest) same in
@@ -67,13 +67,13 @@ narrow_sound G M bytes b rest same =
       field.2 ∙ ap (λ r. field.0 ++ r) both.1,
     )
 
-pub narrow_complete : {E A B : Type 0} (G : Grammar E A) (M : Meaning E A B) (b : B)
+pub narrow_complete : {E A B : Type 0} (G : Grammar E A) (M : Narrowing E A B) (b : B)
     (front rest : List ℕ) → Narrowed G M b front → read_narrowed G M (front ++ rest) ≡ Ok (b, rest)
 narrow_complete G M b front rest (a, spells, stands) =
     ap (λ r. and_then r (meant M)) (G.complete a front rest spells)
     ∙ ap (λ r. and_then r (λ c. Ok (c, rest))) (M.complete a b stands)
 
-pub narrow_takes : {E A B : Type 0} (G : Grammar E A) (M : Meaning E A B) (bytes : List ℕ) (b : B)
+pub narrow_takes : {E A B : Type 0} (G : Grammar E A) (M : Narrowing E A B) (bytes : List ℕ) (b : B)
     (rest : List ℕ) → read_narrowed G M bytes ≡ Ok (b, rest) → length bytes ≡ G.used bytes + length rest
 narrow_takes G M bytes b rest same =
     let read = and_then_ok (G.read bytes) (meant M) (b, rest) same in

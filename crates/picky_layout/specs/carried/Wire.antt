@@ -10,11 +10,11 @@ use Rattle.std.proofs.lemmas.Str.{IsUtf8-from_is_utf8, is_utf8-from_IsUtf8}
 use Rattle.picky_layout.specs.carried.Outcome.{guard_ok, pass_ok}
 use Rattle.picky_layout.specs.Flaw.{Short}
 use Rattle.picky_layout.specs.Grammar.{Fits}
-use Rattle.picky_layout.specs.Cells.{IsCells, read_cells}
+use Rattle.picky_layout.specs.ByteArray.{IsByteArray, read_byte_array}
 
-pub cells_sound : (n : ℕ) (bytes v rest : List ℕ) → read_cells n bytes ≡ Ok (v, rest)
-    → Fits (IsCells n) v bytes rest
-cells_sound n bytes v rest same =
+pub byte_array_sound : (n : ℕ) (bytes v rest : List ℕ) → read_byte_array n bytes ≡ Ok (v, rest)
+    → Fits (IsByteArray n) v bytes rest
+byte_array_sound n bytes v rest same =
     let passed = guard_ok (nat_lt (length bytes) n) Short (take n bytes, drop n bytes) (v, rest) same in
     let enough : n ≤ length bytes = ltb-false (length bytes) n passed.0 in
     let front = ap (λ p. p.0) passed.1 in (
@@ -23,18 +23,18 @@ cells_sound n bytes v rest same =
       sym (take-append-drop n bytes) ∙ ap (λ p. p.0 ++ p.1) passed.1,
     )
 
-pub cells_complete : (n : ℕ) (v front rest : List ℕ) → IsCells n v front
-    → read_cells n (front ++ rest) ≡ Ok (v, rest)
-cells_complete n v front rest (len, is) =
+pub byte_array_complete : (n : ℕ) (v front rest : List ℕ) → IsByteArray n v front
+    → read_byte_array n (front ++ rest) ≡ Ok (v, rest)
+byte_array_complete n v front rest (len, is) =
     let long : length front ≡ n = ap length is ∙ len in
     let enough : n ≤ length (front ++ rest) = omega (arith, length-append front rest) in
     let whole = take_at front rest n long ∙ is in
     pass_ok (nat_lt (length (front ++ rest)) n) Short _ (v, rest) (le-ltb _ n enough)
     (ap (λ t. (t, drop n (front ++ rest))) whole ∙ ap (λ d. (v, d)) (drop_at front rest n long))
 
-pub cells_takes : (n : ℕ) (bytes v rest : List ℕ) → read_cells n bytes ≡ Ok (v, rest)
+pub byte_array_takes : (n : ℕ) (bytes v rest : List ℕ) → read_byte_array n bytes ≡ Ok (v, rest)
     → length bytes ≡ n + length rest
-cells_takes n bytes v rest same =
+byte_array_takes n bytes v rest same =
     let passed = guard_ok (nat_lt (length bytes) n) Short (take n bytes, drop n bytes) (v, rest) same in
     let enough : n ≤ length bytes = ltb-false (length bytes) n passed.0 in
     omega (arith, length-drop n bytes, ap (λ p. length p.1) passed.1)

@@ -5,7 +5,7 @@ use Rattle.picky_layout.specs.Flaw.{Reason, Short, NotUtf8, Big, Flawed, Length,
 use Rattle.picky_layout.specs.Outcome.{map_err}
 use Rattle.picky_layout.specs.Row.{Solid}
 use Rattle.picky_layout.proofs.Solid.{refuses_empty}
-use Rattle.picky_layout.specs.Wire.{cells, uint32, string, text}
+use Rattle.picky_layout.specs.Wire.{byte_array, uint32, string, text}
 use Rattle.picky_wire.specs.declared.error.WireError.TheVariants as wire
 use Rattle.picky_sshpub.specs.declared.error.SshPublicKeyError.{SshPublicKeyError}
 use Rattle.picky_sshpub.specs.FromWire.{public_key_error}
@@ -15,7 +15,7 @@ use Rattle.picky_sshpub.specs.BlobLayout.{blob_layout}
 
 -- A blob has at least one byte.
 pub blob_solid : Solid blob.piece
-unfolding blob key_type text string uint32 cells
+unfolding blob key_type text string uint32 byte_array
 blob_solid = refuses_empty blob (0, Flawed Short) refl
 
 pub blob_reads_layout : (bytes : List ℕ) → read_blob bytes ≡ blob_layout.read bytes

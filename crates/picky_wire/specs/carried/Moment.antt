@@ -9,7 +9,7 @@ use Rattle.picky_layout.specs.Numbers.{uint64}
 use Rattle.picky_layout.proofs.Numbers.{uint64_spells}
 use Rattle.picky_layout.specs.Row.{Solid}
 use Rattle.picky_layout.proofs.Solid.{refuses_empty}
-use Rattle.picky_layout.specs.Wire.{cells}
+use Rattle.picky_layout.specs.Wire.{byte_array}
 use Rattle.picky_wire.specs.declared.error.WireError.{WireError}
 use Rattle.picky_wire.specs.declared.error.WireError.TheVariants as errors
 use Rattle.picky_wire.specs.declared.timestamp.Timestamp.{Timestamp}
@@ -30,7 +30,7 @@ each_refused (Err g) f e refused = ap Err (cc refused)
 
 -- Each piece has at least one byte.
 pub timestamp_solid : Solid timestamp.piece
-unfolding timestamp uint64 cells
+unfolding timestamp uint64 byte_array
 timestamp_solid = refuses_empty timestamp errors.UnexpectedEnd refl
 
 -- No bytes are refused for a fault or for want of memory.

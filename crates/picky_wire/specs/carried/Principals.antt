@@ -7,10 +7,10 @@ use Rattle.picky_layout.proofs.Solid.{text_solid}
 use Rattle.picky_wire.specs.declared.error.WireError.{WireError}
 use Rattle.picky_wire.specs.declared.error.WireError.TheVariants as errors
 use Rattle.picky_wire.specs.carried.Flaws.{wire_own}
-use Rattle.picky_wire.specs.Principals.{principal, IsText}
+use Rattle.picky_wire.specs.Principals.{principal, IsPrincipal}
 
 -- A text is spelled by its string.
-pub principal_spells : (v : List ℕ) → IsText v → principal.piece v (string_of v)
+pub principal_spells : (v : List ℕ) → IsPrincipal v → principal.piece v (string_of v)
 unfolding principal
 principal_spells v keeps = text_spells v keeps.short keeps.utf8
 

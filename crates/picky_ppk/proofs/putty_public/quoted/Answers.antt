@@ -2,17 +2,17 @@
 use Rattle.std.proofs.Common.{Some, arith}
 use Rattle.std.proofs.lemmas.Str.Pattern.{split_parts}
 use Rattle.picky_text.proofs.UnquoteLemmas.{none_from_places}
-use Rattle.picky_ppk.specs.PuttyPublic.{comment_key}
+use Rattle.picky_ppk.specs.PuttyPublic.{comment_start}
 use Rattle.picky_ppk.proofs.QuotedLemmas.{no_key, key_front, nowhere, last_parts, without_quotes, with_one_quote, with_quotes}
 use Rattle.picky_ppk.proofs.putty_public.quoted.Goals as goal
 
 pub returns-in_err-quotes-clause-none : goal.returns-in_err-quotes-clause-none
-unfolding comment_key
+unfolding comment_start
 returns-in_err-quotes-clause-none c =
     rw c.from_residual.ensures (no_key c.args.line.now c.in_err-quotes.ensures.cases)
 
 pub returns-in_err-after-clause-none : goal.returns-in_err-after-clause-none
-unfolding comment_key
+unfolding comment_start
 returns-in_err-after-clause-none c =
     let quotes = c.in_ok-quotes.quotes.now in
     let key = key_front c.args.line.now quotes c.in_ok-quotes.ensures.cases in
@@ -20,7 +20,7 @@ returns-in_err-after-clause-none c =
     rw c.from_residual-in_err-after.ensures (without_quotes c.args.line.now quotes key none)
 
 pub returns-in_err-between-clause-none : goal.returns-in_err-between-clause-none
-unfolding comment_key
+unfolding comment_start
 returns-in_err-between-clause-none c =
     let quotes = c.in_ok-quotes.quotes.now in
     let before = c.in_ok-after.field-0-0 in
@@ -33,7 +33,7 @@ returns-in_err-between-clause-none c =
     (with_one_quote c.args.line.now quotes before.now after.now key parts.0 first last)
 
 pub returns-clause-some : goal.returns-clause-some
-unfolding comment_key
+unfolding comment_start
 returns-clause-some c =
     let quotes = c.in_ok-quotes.quotes.now in
     let before = c.in_ok-after.field-0-0 in

@@ -3,7 +3,7 @@ use Rattle.std.proofs.Common.{List, ℕ, ◌++◌, ◌∙◌, refl, ap, subst, s
 use Rattle.std.proofs.Common.{string_bytes}
 use Rattle.std.specs.Str.{IsAscii, IsUtf8}
 use Rattle.std.proofs.lemmas.Str.{IsAscii-drop, IsUtf8-drop, IsCharBoundary-from_ascii}
-use Rattle.picky_text.specs.Lines.{text_of, end_of}
+use Rattle.picky_text.specs.Lines.{text_of, end_bytes}
 use Rattle.picky_text.specs.Rows.{rows_of}
 use Rattle.picky_text.proofs.FrontLemmas.{writing_more, writing_stays, writing_failed, writing_ends}
 use Rattle.picky_text.proofs.RowLemmas.{text_of_first_row, text_of_no_row, some_left, none_left}
@@ -20,7 +20,7 @@ returns-in_err-push_str-2-clause-err c =
     let left = text_of_first_row c.args.end c.rows.rest.now row c.split_at.result.1.now _
     (some_left _ c.rows-test.ensures) c.min.ensures c.split_at.ensures.front
     c.split_at.ensures.back in
-    let after_row = writing_more row (end_of c.args.end ++ rest) _ c.rows.invariant.2 left
+    let after_row = writing_more row (end_bytes c.args.end ++ rest) _ c.rows.invariant.2 left
     c.in_ok-push_str.ensures.bytes in
     writing_failed _ (writing_stays _ after_row c.in_err-push_str-2.ensures.bytes)
 
@@ -31,7 +31,7 @@ rows-preserved c =
     let left = text_of_first_row c.args.end c.rows.rest.now row c.split_at.result.1.now _
     (some_left _ c.rows-test.ensures) c.min.ensures c.split_at.ensures.front
     c.split_at.ensures.back in
-    let after_row = writing_more row (end_of c.args.end ++ rest) _ c.rows.invariant.2 left
+    let after_row = writing_more row (end_bytes c.args.end ++ rest) _ c.rows.invariant.2 left
     c.in_ok-push_str.ensures.bytes in
     let Ascii : List ℕ → Type 0 = IsAscii in
     let Text : List ℕ → Type 0 = IsUtf8 in
@@ -43,7 +43,7 @@ rows-preserved c =
       subst Text (sym c.split_at.ensures.back) (IsUtf8-drop c.rows.rest.now c.min.result
           c.rows.invariant.0 boundary),
       subst Ascii (sym c.split_at.ensures.back) (IsAscii-drop c.rows.rest.now _ c.rows.invariant.1),
-      writing_more (end_of c.args.end) rest _ after_row refl end,
+      writing_more (end_bytes c.args.end) rest _ after_row refl end,
     )
 
 pub returns-clause-ok : goal.returns-clause-ok

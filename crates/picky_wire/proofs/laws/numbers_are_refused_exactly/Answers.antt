@@ -1,4 +1,4 @@
-use Rattle.picky_layout.proofs.When.{byte_is_short, uint32_is_short, uint64_is_short, cells_are_short}
+use Rattle.picky_layout.proofs.When.{byte_is_short, uint32_is_short, uint64_is_short, byte_array_are_short}
 use Rattle.picky_wire.proofs.laws.numbers_are_refused_exactly.Goals as goal
 
 pub returns : goal.returns
@@ -6,5 +6,5 @@ returns c = record {
   byte = byte_is_short;
   uint32 = uint32_is_short;
   uint64 = uint64_is_short;
-  cells = cells_are_short;
+  byte_array = byte_array_are_short;
 }

@@ -1,5 +1,5 @@
 use Rattle.picky_layout.proofs.Strings.{text_reads}
-use Rattle.picky_layout.proofs.When.{byte_is_read, uint32_is_read, uint64_is_read, cells_are_read, string_is_read, mpint_reads}
+use Rattle.picky_layout.proofs.When.{byte_is_read, uint32_is_read, uint64_is_read, byte_array_are_read, string_is_read, mpint_reads}
 use Rattle.picky_wire.proofs.laws.whole_fields_are_read.Goals as goal
 
 pub returns : goal.returns
@@ -7,7 +7,7 @@ returns c = record {
   byte = byte_is_read;
   uint32 = uint32_is_read;
   uint64 = uint64_is_read;
-  cells = cells_are_read;
+  byte_array = byte_array_are_read;
   string = string_is_read;
   text = text_reads;
   mpint = mpint_reads;

@@ -1,20 +1,20 @@
 -- What was taken stands in the buffer's front.
 use Rattle.std.proofs.Common.{◌≡◌, ◌≤◌, ◌<◌, ◌∙◌, ◌++◌, ap, sym, arith, length, take, drop, ◌-◌, Ok}
 use Rattle.std.proofs.lemmas.List.{take_all, length-append, length-take-le}
-use Rattle.picky_wire.proofs.CellsLemmas.{cells_read, cells_ended, cells_stopped}
+use Rattle.picky_wire.proofs.ByteArrayLemmas.{byte_array_read, byte_array_ended, byte_array_stopped}
 use Rattle.picky_wire.proofs.ReadLemmas.{more_filled, put_len, tail_len}
 use Rattle.picky_wire.proofs.read.fill.Goals as goal
 
 pub returns-clause-takes : goal.returns-clause-takes
 returns-clause-takes g c =
-    cells_read g.S.Source.tells g.S.Source.left g.S.Source.known g.S.Source.faults (length c.args.buffer.now) c.bytes.buffer
+    byte_array_read g.S.Source.tells g.S.Source.left g.S.Source.known g.S.Source.faults (length c.args.buffer.now) c.bytes.buffer
     c.args.source.now c.bytes.source c.bytes.auto.buffer
     (λ told. c.bytes.invariant.taken told ∙ ap (λ f. f ++ g.S.Source.left c.bytes.source) (take_all c.bytes.at c.bytes.buffer c.bytes-test.false))
     (record { told = c.bytes.invariant.told; knows = c.bytes.invariant.knows }) c.bytes.invariant.calm
 
 pub returns-in-Ok-eq0-clause-takes : goal.returns-in-Ok-eq0-clause-takes
 returns-in-Ok-eq0-clause-takes g c =
-    cells_ended g.S.Source.tells g.S.Source.left g.S.Source.known g.S.Source.faults (length c.args.buffer.now)
+    byte_array_ended g.S.Source.tells g.S.Source.left g.S.Source.known g.S.Source.faults (length c.args.buffer.now)
     c.args.source.now c.read.new.self
     (λ told.
     let told_now = c.bytes.invariant.told told in
@@ -32,7 +32,7 @@ returns-in-Ok-eq0-clause-takes g c =
 
 pub returns-in-Err-clause-takes : goal.returns-in-Err-clause-takes
 returns-in-Err-clause-takes g c =
-    cells_stopped g.S.Source.tells g.S.Source.left g.S.Source.known g.S.Source.faults (length c.args.buffer.now)
+    byte_array_stopped g.S.Source.tells g.S.Source.left g.S.Source.known g.S.Source.faults (length c.args.buffer.now)
     c.args.source.now c.read.new.self
     (λ told.
     let kept = c.in-Err.ensures.kept (c.bytes.invariant.told told) in

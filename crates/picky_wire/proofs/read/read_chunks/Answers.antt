@@ -1,7 +1,7 @@
 -- What was taken so far, and the next piece.
 use Rattle.std.proofs.Common.{◌++◌, ◌∙◌, sym, ap, arith}
 use Rattle.std.proofs.lemmas.List.{length-take-le, length-append}
-use Rattle.picky_wire.proofs.CellsLemmas.{cells_read, cells_unmade, more_takes, piece_taken_by}
+use Rattle.picky_wire.proofs.ByteArrayLemmas.{byte_array_read, byte_array_unmade, more_takes, piece_taken_by}
 use Rattle.picky_wire.proofs.read.read_chunks.Goals as goal
 
 pub returns-in-Err-clause-takes : goal.returns-in-Err-clause-takes
@@ -29,7 +29,7 @@ pub returns-in-Err-append_exactly-clause-takes :
     goal.returns-in-Err-append_exactly-clause-takes
 returns-in-Err-append_exactly-clause-takes g c =
     let piece = length-take-le c.min-more.result c.chunks.chunk (omega arith) in
-    cells_unmade g.S.Source.tells g.S.Source.left g.S.Source.known g.S.Source.faults c.args.len
+    byte_array_unmade g.S.Source.tells g.S.Source.left g.S.Source.known g.S.Source.faults c.args.len
     c.args.source.now c.fill.new.source
     (λ told. (
       c.chunks.taken.items ++ c.fill.new.buffer,
@@ -41,6 +41,6 @@ returns-in-Err-append_exactly-clause-takes g c =
 
 pub returns-clause-takes : goal.returns-clause-takes
 returns-clause-takes g c =
-    cells_read g.S.Source.tells g.S.Source.left g.S.Source.known g.S.Source.faults c.args.len c.chunks.taken.items
+    byte_array_read g.S.Source.tells g.S.Source.left g.S.Source.known g.S.Source.faults c.args.len c.chunks.taken.items
     c.args.source.now c.chunks.source (omega arith) c.chunks.invariant.taken
     (record { told = c.chunks.invariant.told; knows = c.chunks.invariant.knows }) c.chunks.invariant.calm

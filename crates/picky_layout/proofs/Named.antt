@@ -9,7 +9,7 @@ use Rattle.picky_layout.specs.Wire.{string_of}
 use Rattle.picky_layout.specs.Numbers.{IsBytes}
 use Rattle.picky_layout.proofs.Strings.{text_spells, text_exact}
 use Rattle.picky_layout.specs.Table.{Table}
-use Rattle.picky_layout.specs.Names.{named, is_name}
+use Rattle.picky_layout.specs.Named.{named, is_name}
 
 name_is_short : (name : List ℕ) → is_name name ≡ true → length name < 2 ^ 32
 name_is_short name good =
