@@ -27,7 +27,7 @@ pub record LineCarries (comment : List ℕ) : Type 0 where
   pub no_lf : HasNo 10 comment
   pub trimmed : trim_end comment ≡ comment
 
--- PuTTY's format carries no key whose secret a device keeps, and no comment with LF
+-- PuTTY has no key whose secret a device keeps, and its comment line ends at LF
 pub record PuttyCarries (meaning : Meaning) : Type 0 where
   pub kind : is_hardware (public_part meaning.key) ≡ false
   pub no_lf : HasNo 10 meaning.comment

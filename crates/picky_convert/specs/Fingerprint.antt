@@ -1,4 +1,5 @@
--- The three fingerprints of a public key: digests of its blob, those in base64 as OpenSSH shows them.
+-- The three fingerprints of a public key: digests of the blob that is written for it. SHA-1 and SHA-256 as OpenSSH
+-- shows them, in base64 without padding; MD5 in hex without its colons.
 use Rattle.std.specs.Prelude.{List, [], ◌∷◌, ◌++◌, ℕ, codes}
 use Rattle.base64.specs.Engines.{standard_no_pad}
 use Rattle.base64.specs.GeneralPurpose.{encode_of}

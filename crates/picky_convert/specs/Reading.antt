@@ -29,7 +29,7 @@ public_meaning key = record { key = keys.Public key.inner_key; comment = key.com
 abbrev pub form_of : List ℕ → Form
 form_of text = forms.PublicLine
 
--- in its form the text means a key and a comment
+-- in its form the text means a key and a comment: a line means a public key, and nothing that its line doesn't say
 abbrev pub Means : Form → List ℕ → Meaning → Type 0
 Means forms.PublicLine text meaning =
     IsPublicLine text (public_key meaning) × (meaning ≡ public_meaning (public_key meaning))

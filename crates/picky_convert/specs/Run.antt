@@ -69,7 +69,7 @@ abbrev pub Says : {S : Type 0} → (S → Type 0) → (S → List ℕ) → (S �
 Says tells written faults line old new =
     (r : Result (Unit {0}) WireError) × Puts tells written faults wire.WriteFault line r old new
 
--- the status says why no text is taken from a source: for these bytes, where they are told, by their outcome
+-- a status for which no text is taken from a source: where it speaks of the bytes, it is their outcome
 abbrev pub Explains : Status → Result (List ℕ) Status → Type 0
 Explains statuses.Done for_input = ⊥
 Explains statuses.Usage for_input = ⊥

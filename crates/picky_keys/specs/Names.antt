@@ -1,4 +1,4 @@
--- The names of key types and curves (RFC 4253, section 6.6; RFC 5656, section 6; RFC 8709, section 4; PROTOCOL.u2f).
+-- The names of key types and curves (RFC 4253, section 6.6; RFC 5656, sections 3.1 and 10.1; RFC 8709, section 4; PROTOCOL.u2f).
 use Rattle.std.specs.Prelude.{List, [], ◌∷◌, ℕ, codes}
 use Rattle.picky_keys.specs.declared.curve.EcCurve.{EcCurve}
 use Rattle.picky_keys.specs.declared.curve.EcCurve.TheVariants.{NistP256, NistP384, NistP521}

@@ -1,4 +1,5 @@
--- A public key as PuTTYgen saves it: RFC 4716's file with one comment line, which is quoted.
+-- A public key as PuTTYgen saves it: RFC 4716's file with one comment line, which is quoted, and which isn't folded
+-- however long it is.
 use Rattle.std.specs.Prelude.{◌≡◌, ◌≢◌, ◌<◌, ◌^◌, length, List, [], ◌∷◌, ◌++◌, ℕ, codes}
 use Rattle.std.specs.List.{concat, AllByRecursion}
 use Rattle.picky_layout.specs.Numbers.{IsBytes}

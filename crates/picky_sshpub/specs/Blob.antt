@@ -44,7 +44,7 @@ ed_fields = do
   key ← ed_key 1
   done (keys.Ed key)
 
--- string identifier
+-- string identifier, which is text and says nothing more
 -- string point
 -- string application, which is text
 unfoldable pub sk_ecdsa_fields : Grammar Reason SshBasePublicKey
@@ -55,7 +55,7 @@ sk_ecdsa_fields = do
   done (keys.SkEcdsaSha2NistP256 point application)
 
 -- string key
--- string application
+-- string application, which is text
 unfoldable pub sk_ed_fields : Grammar Reason SshBasePublicKey
 sk_ed_fields = do
   key ← ed_key 1

@@ -12,8 +12,9 @@ use Rattle.picky_sshpub.specs.declared.key.SshPublicKey.{SshPublicKey}
 use Rattle.picky_sshpub.specs.Key.{kind_of, IsKey}
 use Rattle.picky_sshpub.specs.Blob.{blob, blob_of}
 
--- line = name SP base64 [SP comment], where the name is one of the seven and says nothing more,
--- and bytes after the blob's last field say nothing; of the text the comment alone need be UTF-8
+-- line = name SP base64 [SP comment], which ends at the first CR or LF, or with the text; what follows it says nothing.
+-- The name is one of the seven and says nothing more: the blob's own decides. Bytes after the blob's last field say
+-- nothing. The comment goes without the white space at its end, and alone need be UTF-8.
 pub record IsPublicLine (text : List ℕ) (key : SshPublicKey) : Type 0 where
   pub kind : KeyKind
   pub name : first_word text ≡ kind_name kind
@@ -34,7 +35,7 @@ line_name key = kind_name (kind_of key.inner_key)
 abbrev pub line_body : SshPublicKey → List ℕ
 line_body key = base64_of (blob_of key.inner_key)
 
--- line = name SP base64 SP comment CR LF
+-- line = name SP base64 SP comment CR LF; to sshd(8) the CR would be the comment's
 unfoldable pub line_of : SshPublicKey → List ℕ
 line_of key = line_name key ++ 32 ∷ line_body key ++ 32 ∷ key.comment ++ 13 ∷ 10 ∷ []
 

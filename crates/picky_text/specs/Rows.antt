@@ -1,4 +1,4 @@
--- A text in lines of 64 characters, as PuTTY (manual, Appendix C) breaks base64.
+-- A text in lines of 64 characters, as PuTTY breaks base64, in the files of its manual's Appendix C and in RFC 4716's.
 use Rattle.std.specs.Prelude.{◌≡◌, ◌<◌, ◌≤◌, List, [], ◌∷◌, ℕ, zero, suc, length, take, drop}
 use Rattle.std.specs.List.{concat}
 
