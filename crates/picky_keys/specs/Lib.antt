@@ -1,4 +1,5 @@
 pub mod Names
 pub mod PublicKey
+pub mod PrivateKey
 pub mod NameTables
 pub mod carried

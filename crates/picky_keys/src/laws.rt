@@ -9,8 +9,10 @@ ghost use Rattle.picky_keys.specs.NameTables.{key_types, curves};
 ghost use Rattle.picky_keys.specs.declared.kind.KeyKind.{KeyKind as Kind};
 ghost use Rattle.picky_keys.specs.declared.curve.EcCurve.{EcCurve as Curve};
 
+use crate::algorithm::{HashAlgorithm, SignatureAlgorithm};
 use crate::curve::{EcCurve, EdAlgorithm};
 use crate::kind::KeyKind;
+use crate::private_key::{Issuer, PrivateKey};
 use crate::public_key::{PublicKey, PublicKeyRef};
 
 /// A name of a key type stands for its kind, and no other name does.
@@ -27,10 +29,14 @@ pub fn each_curve_has_one_name()
     ensures only { (name : List ℕ) (curve : Curve) → find_entry curves name ≡ Some curve → curve_identifier curve ≡ name }
 {}
 
-/// Two keys are equal exactly where their contents are, and so are curves, algorithms and kinds.
+/// Two keys are equal exactly where their contents are, and so are issuers, curves, algorithms and kinds.
 pub fn equality_is_of_contents()
     ensures key { IsEquality ⟦<PublicKey as PartialEq>⟧.eq }
     ensures borrowed { IsEqualityOf key_shown ⟦<PublicKeyRef<'static> as PartialEq>⟧.eq }
+    ensures private_key { IsEquality ⟦<PrivateKey as PartialEq>⟧.eq }
+    ensures issuer { IsEquality ⟦<Issuer as PartialEq>⟧.eq }
+    ensures digest { IsEquality ⟦<HashAlgorithm as PartialEq>⟧.eq }
+    ensures signature { IsEquality ⟦<SignatureAlgorithm as PartialEq>⟧.eq }
     ensures curve { IsEquality ⟦<EcCurve as PartialEq>⟧.eq }
     ensures algorithm { IsEquality ⟦<EdAlgorithm as PartialEq>⟧.eq }
     ensures kind { IsEquality ⟦<KeyKind as PartialEq>⟧.eq }

@@ -23,6 +23,8 @@ mod fields;
 #[cfg(test)]
 mod fingerprints;
 #[cfg(test)]
+mod issuers;
+#[cfg(test)]
 mod key_lines;
 #[cfg(test)]
 mod keys;
