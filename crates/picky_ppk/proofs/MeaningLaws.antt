@@ -12,6 +12,7 @@ use Rattle.picky_text.proofs.Base64Laws.{base64_is_read_back, base64_is_of_what_
 use Rattle.picky_text.specs.Lines.{lines, HasNo}
 use Rattle.picky_text.proofs.ListLaws.{all_front}
 use Rattle.picky_text.specs.Quote.{unquote}
+use Rattle.picky_sshpub.proofs.LineLaws.{some_of, chosen}
 use Rattle.picky_sshpub.specs.LineRefusal.{is_short}
 use Rattle.picky_ppk.specs.declared.error.PuttyError.TheVariants as errors
 use Rattle.picky_ppk.specs.declared.putty_public.PuttyPublicKey.{PuttyPublicKey}
@@ -72,17 +73,6 @@ one_putty_meaning text k l first second =
     cc both
 
 -- ---- it says what it means
-
--- a value that is there
-some_of : {A E : Type 0} (o : Option A) (e : E) (x : A) → ok_or o e ≡ Ok x → o ≡ Some x
-some_of (Some y) e x same = cc same
-some_of None e x same = cc same
-
--- a test that lets a value pass
-chosen : {A E : Type 0} (b : Bool) (x : Result A E) (e : E) (y : A)
-    → (if b then x else Err e) ≡ Ok y → (b ≡ true) × (x ≡ Ok y)
-chosen true x e y same = (refl, same)
-chosen false x e y same = cc same
 
 -- two lines and what follows them
 three_parts : (a b c d : List ℕ) (ls rest : List (List ℕ)) → a ≡ c → b ≡ d → ls ≡ rest → a ∷ b ∷ ls ≡ c ∷ d ∷ rest

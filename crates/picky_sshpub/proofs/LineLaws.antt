@@ -70,7 +70,7 @@ blob_is_bytes key is =
 
 -- ---- a line's meaning
 
-some_of : {A E : Type 0} (o : Option A) (e : E) (x : A) → ok_or o e ≡ Ok x → o ≡ Some x
+pub some_of : {A E : Type 0} (o : Option A) (e : E) (x : A) → ok_or o e ≡ Ok x → o ≡ Some x
 some_of (Some y) e x same = cc same
 some_of None e x same = cc same
 
