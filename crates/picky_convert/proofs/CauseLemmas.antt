@@ -3,7 +3,7 @@ use Rattle.std.proofs.Common.{◌≡◌, ℕ, ◌<◌, ◌≤◌, arith, List, l
 use Rattle.std.proofs.lemmas.Bool.{lt-ltb, ltb-true}
 use Rattle.std.proofs.lemmas.Str.{is_utf8-from_IsUtf8}
 use Rattle.std.specs.Str.{IsUtf8, is_utf8}
-use Rattle.std.specs.Prelude.{IfErr}
+use Rattle.std.specs.Prelude.{IfOk, IfErr}
 use Rattle.picky_wire.specs.Gives.{Gives}
 use Rattle.picky_layout.specs.Outcome.{and_then, map_err}
 use Rattle.picky_sshpub.specs.declared.error.SshPublicKeyError.{SshPublicKeyError}
@@ -170,6 +170,13 @@ pub refused_so : {X : Type 0} (view : X → List ℕ) (r : Result X Status) (com
 refused_so view (Ok x) command input gives = tt
 refused_so view (Err status) command input (inl want) = λ e is. cc (want, is)
 refused_so view (Err status) command input (inr refused) = λ e is. (input, refused ∙ ap Err is)
+
+-- and a text that is answered is the answer to some bytes
+pub answered_so : {X : Type 0} (view : X → List ℕ) (r : Result X Status) (command : Command) (input : List ℕ)
+    → Gives statuses.NoMemory view r (outcome command input)
+    → IfOk r (λ x. (some : List ℕ) × (outcome command some ≡ Ok (view x)))
+answered_so view (Ok x) command input gives = (input, gives)
+answered_so view (Err status) command input gives = tt
 
 -- bytes that are few enough are not called too long
 pub short_enough : {X : Type 0} (view : X → List ℕ) (r : Result X Status) (command : Command) (input : List ℕ) (Left : Type 0)

@@ -37,6 +37,13 @@ pub fn run<S: Suite, I: Source, O: Sink, E: Sink>(
         → I.tells source.old → O.tells out.old
         → WritesAnswer c (I.left source.old) (O.written out.old) (O.written out.new) }
 
+    // Whether or not the source tells its bytes, what is written is the answer to some.
+    ensures answers { (c : Command) → Names words.now c → result ≡ Status.Done → O.tells out.old
+        → (input : List ℕ) × WritesAnswer c input (O.written out.old) (O.written out.new) }
+    ensures answers_in_front { (c : Command) → Names words.now c → result ≡ Status.WriteFault
+        → O.tells out.old
+        → (input : List ℕ) × WritesPrefix c input (O.written out.old) (O.written out.new) }
+
     // When each other status comes.
     ensures usage { result ≡ Status.Usage → (c : Command) → Names words.now c → ⊥ }
     ensures command { result ≢ Status.Usage → (c : Command) × Names words.now c }
@@ -113,6 +120,11 @@ fn attempt<S: Suite, I: Source, O: Sink>(
     ensures write_fault { (c : Command) → Names words.now c → result ≡ Status.WriteFault → I.tells source.old → (text : List ℕ)
         × (outcome c (I.left source.old) ≡ Ok text)
         × (O.tells out.old → (n : ℕ) × (O.written out.new ≡ O.written out.old ++ take n text) × (n < length text)) }
+    ensures answers { (c : Command) → Names words.now c → result ≡ Status.Done → (input : List ℕ) × (text : List ℕ)
+        × (outcome c input ≡ Ok text) × (O.tells out.old → O.written out.new ≡ O.written out.old ++ text) }
+    ensures answers_in_front { (c : Command) → Names words.now c → result ≡ Status.WriteFault → (input : List ℕ) × (text : List ℕ)
+        × (outcome c input ≡ Ok text)
+        × (O.tells out.old → (n : ℕ) × (O.written out.new ≡ O.written out.old ++ take n text) × (n < length text)) }
     ensures write_fault_only_if_counted { result ≡ Status.WriteFault → Rose (O.faults out.old) (O.faults out.new) }
     ensures unused { suite.new ≡ suite.old }
     ensures source_tells { I.tells source.old → I.tells source.new }
@@ -153,6 +165,7 @@ fn take_text<S: Suite, I: Source>(
     source: &mut I,
 ) -> Result<String, Status>
     ensures tells { I.tells source.old → I.tells source.new }
+    ensures answers { IfOk result (λ text. (input : List ℕ) × (outcome command.now input ≡ Ok (string_bytes text))) }
     ensures text { I.tells source.old → IfOk result (λ text. outcome command.now (I.left source.old) ≡ Ok (string_bytes text)) }
     ensures end { I.tells source.old → OnOk result (I.left source.new ≡ []) }
     ensures refused_at_end { I.tells source.old → IfErr result (λ status. ReadsToEnd status → I.left source.new ≡ []) }

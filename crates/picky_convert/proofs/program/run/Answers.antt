@@ -26,6 +26,31 @@ returns-clause-prefix g c = λ command named is told_in told_out.
       written = front.1;
     }
 
+pub returns-clause-answers : goal.returns-clause-answers
+returns-clause-answers g c = λ command named is told.
+    let done = c.attempt-status.ensures.answers command named is in (
+      done.0,
+      record {
+        text = done.1;
+        is_answer = outcome_answers command done.0 done.1 done.2;
+        written = done.3 told;
+      },
+    )
+
+pub returns-clause-answers_in_front : goal.returns-clause-answers_in_front
+returns-clause-answers_in_front g c = λ command named is told.
+    let wrote = c.attempt-status.ensures.answers_in_front command named is in
+    let front = wrote.3 told in (
+      wrote.0,
+      record {
+        text = wrote.1;
+        is_answer = outcome_answers command wrote.0 wrote.1 wrote.2;
+        len = front.0;
+        less = front.2;
+        written = front.1;
+      },
+    )
+
 pub returns-clause-input_too_long : goal.returns-clause-input_too_long
 returns-clause-input_too_long g c = λ is told.
     let ran = c.attempt-status.ensures in

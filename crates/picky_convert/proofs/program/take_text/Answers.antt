@@ -2,7 +2,7 @@
 use Rattle.std.proofs.Common.{◌∙◌, ap, subst, length, arith, Err}
 use Rattle.std.specs.Prelude.{IfErr}
 use Rattle.picky_convert.specs.Run.{outcome, Explains}
-use Rattle.picky_convert.proofs.CauseLemmas.{refused_so, short_enough, can_come, explained, outcome_long}
+use Rattle.picky_convert.proofs.CauseLemmas.{answered_so, refused_so, short_enough, can_come, explained, outcome_long}
 use Rattle.picky_convert.proofs.program.take_text.Goals as goal
 
 pub returns-in-Ok-clause-known : goal.returns-in-Ok-clause-known
@@ -24,3 +24,6 @@ returns-in-Ok-clause-past_limit g c = λ told.
 
 pub returns-in-Ok-clause-refusal : goal.returns-in-Ok-clause-refusal
 returns-in-Ok-clause-refusal g c = refused_so _ c.perform.result c.args.command.now c.as_slice.result.now c.perform.ensures.gives
+
+pub returns-in-Ok-clause-answers : goal.returns-in-Ok-clause-answers
+returns-in-Ok-clause-answers g c = answered_so _ c.perform.result c.args.command.now c.as_slice.result.now c.perform.ensures.gives
