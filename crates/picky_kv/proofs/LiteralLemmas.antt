@@ -4,9 +4,9 @@ use Rattle.std.proofs.lemmas.Bool.{cases_Bool}
 use Rattle.std.proofs.lemmas.Slice.Eq.{bytes_eq-Decides}
 use Rattle.std.specs.Prelude.{nat_eq}
 use Rattle.std.specs.Cmp.Lexicographic.{pointwise}
-use Rattle.picky_kv.specs.Field.{IsOfRow}
-use Rattle.picky_kv.specs.Literal.{LiteralRow, IsOfLiterals, AreNamed, value_named}
-use Rattle.picky_kv.specs.Literal.{literal_field, literals_of}
+use Rattle.picky_kv_words.specs.Field.{IsOfRow}
+use Rattle.picky_kv_words.specs.Literal.{LiteralRow, IsOfLiterals, AreNamed, value_named}
+use Rattle.picky_kv_words.specs.Literal.{literal_field, literals_of}
 
 -- a text is the literal of the value that it names
 named_is : {A : Type 0} (literal : A → List ℕ) (values : List A) (text : List ℕ) (v : A)

@@ -13,7 +13,7 @@ use Rattle.std.proofs.lemmas.Bool.{and_parts, cases_Bool, cases_lt, eqb-true}
 use Rattle.std.proofs.lemmas.Bool.Decides.{nat_tests}
 use Rattle.std.proofs.lemmas.Fmt.{decimal_is_IsNumeral, decimal_digit, decimal_step}
 use Rattle.std.proofs.lemmas.List.{append_assoc, append-nil}
-use Rattle.picky_kv.specs.Field.{IsOfRow}
+use Rattle.picky_kv_words.specs.Field.{IsOfRow}
 use Rattle.picky_kv.specs.Numbers.{IsNumberText, is_numeral, number_below}
 use Rattle.picky_kv.specs.carried.Numbers.{number_below_numeral}
 use Rattle.picky_kv.specs.carried.Numbers.{no_plus_first}

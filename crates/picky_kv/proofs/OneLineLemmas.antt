@@ -11,20 +11,22 @@ use Rattle.picky_text.proofs.Base64Laws.{base64_has_no}
 use Rattle.picky_text.specs.Lines.{HasNo}
 use Rattle.picky_text.specs.Rows.{rows_of}
 use Rattle.picky_text.proofs.RowLaws.{rows_have_no}
-use Rattle.picky_kv.specs.ChoiceFields.{algorithm_field, encryption_field, flavour_field}
-use Rattle.picky_kv.specs.Choices.{algorithm_literal, encryption_literal, flavour_literal}
-use Rattle.picky_kv.specs.Literal.{is_plain}
+use Rattle.picky_kv.specs.Algorithm.{algorithm_literal}
+use Rattle.picky_kv.specs.AlgorithmField.{algorithm_field}
+use Rattle.picky_kv_words.specs.ChoiceFields.{encryption_field, flavour_field}
+use Rattle.picky_kv_words.specs.Choices.{encryption_literal, flavour_literal}
+use Rattle.picky_kv_words.specs.Literal.{is_plain}
 use Rattle.picky_kv.specs.NumberFields.{u32_field, count_field}
 use Rattle.picky_kv.specs.Parts.{HasNoLineEnd, AreOneLine}
 use Rattle.picky_kv.specs.ValueFields.{base64_field, hex_field}
 use Rattle.picky_kv.specs.Values.{padded_base64, AreHexPairs}
 use Rattle.picky_kv.specs.Values.{IsLowerDigit}
-use Rattle.picky_kv.specs.declared.choices.PpkKeyAlgorithmValue.{PpkKeyAlgorithmValue}
-use Rattle.picky_kv.specs.declared.choices.PpkKeyAlgorithmValue.TheVariants as algorithm
-use Rattle.picky_kv.specs.declared.choices.PpkEncryptionValue.{PpkEncryptionValue}
-use Rattle.picky_kv.specs.declared.choices.PpkEncryptionValue.TheVariants as encryption
-use Rattle.picky_kv.specs.declared.choices.Argon2FlavourValue.{Argon2FlavourValue}
-use Rattle.picky_kv.specs.declared.choices.Argon2FlavourValue.TheVariants as flavour
+use Rattle.picky_kv.specs.declared.algorithm.PpkKeyAlgorithmValue.{PpkKeyAlgorithmValue}
+use Rattle.picky_kv.specs.declared.algorithm.PpkKeyAlgorithmValue.TheVariants as algorithm
+use Rattle.picky_kv_words.specs.declared.choices.PpkEncryptionValue.{PpkEncryptionValue}
+use Rattle.picky_kv_words.specs.declared.choices.PpkEncryptionValue.TheVariants as encryption
+use Rattle.picky_kv_words.specs.declared.choices.Argon2FlavourValue.{Argon2FlavourValue}
+use Rattle.picky_kv_words.specs.declared.choices.Argon2FlavourValue.TheVariants as flavour
 use Rattle.picky_kv.proofs.ReadBackLemmas.{plain, digits_have_no}
 use Rattle.picky_kv.proofs.ValueLemmas.{hex_is_lower, base64_is_padded}
 

@@ -8,7 +8,7 @@ use Rattle.std.proofs.lemmas.List.{append_assoc}
 use Rattle.std.specs.Prelude.{unwrap_or}
 use Rattle.picky_layout.specs.Outcome.{and_then}
 use Rattle.picky_layout.specs.carried.Outcome.{same_pair}
-use Rattle.picky_kv.specs.Field.{Field, field_value}
+use Rattle.picky_kv_words.specs.Field.{Field, field_value}
 use Rattle.picky_kv.specs.Lines.{key_and_value, prefixed, first_joined, next_pair, next_block}
 use Rattle.picky_kv.specs.NumberFields.{count_field}
 use Rattle.picky_kv.specs.Parts.{HasNoSeparator, AreKeyAndValue, AreJoined, IsPair, IsBlock}
@@ -16,8 +16,8 @@ use Rattle.picky_kv.specs.Parts.{PairsAreRead, BlocksAreRead}
 use Rattle.picky_kv.specs.Context.{need, in_context, refusal_in}
 use Rattle.picky_kv.specs.declared.error.KvError.{KvError}
 use Rattle.picky_kv.specs.declared.error.KvError.TheVariants.{EndOfInput, InvalidKeyValueFormat}
-use Rattle.picky_kv.specs.declared.error.PpkValueError.{PpkValueError}
-use Rattle.picky_kv.specs.declared.error.PpkValueError.TheVariants as value
+use Rattle.picky_kv_words.specs.declared.error.PpkValueError.{PpkValueError}
+use Rattle.picky_kv_words.specs.declared.error.PpkValueError.TheVariants as value
 use Rattle.picky_kv.proofs.ReadBackLemmas.{first_joined_lines}
 
 option_cases : {A : Type 0} (o : Option A) → ((x : A) × (o ≡ Some x)) ⊎ (o ≡ None)

@@ -18,8 +18,8 @@ use Rattle.picky_text.specs.Rows.{rows_of}
 use Rattle.picky_text.proofs.RowLaws.{rows_of_are_rows, rows_have_no}
 use Rattle.picky_text.specs.declared.lines.LineEnd.{LineEnd}
 use Rattle.picky_text.specs.declared.lines.LineEnd.TheVariants.{Lf, CrLf}
-use Rattle.picky_kv.specs.Field.{Field, field_value}
-use Rattle.picky_kv.specs.Literal.{is_plain}
+use Rattle.picky_kv_words.specs.Field.{Field, field_value}
+use Rattle.picky_kv_words.specs.Literal.{is_plain}
 use Rattle.picky_kv.specs.Lines.{key_and_value, first_joined, next_pair}
 use Rattle.picky_kv.specs.NumberFields.{count_field}
 use Rattle.picky_kv.specs.Output.{pair_line}

@@ -2,8 +2,8 @@
 use Rattle.std.specs.Prelude.{ℕ, List, Option, Some, None, Result, Ok, Err}
 use Rattle.picky_kv.specs.declared.error.KvError.{KvError}
 use Rattle.picky_kv.specs.declared.error.KvError.TheVariants as kv
-use Rattle.picky_kv.specs.declared.error.PpkValueError.{PpkValueError}
-use Rattle.picky_kv.specs.declared.error.PpkValueError.TheVariants as value
+use Rattle.picky_kv_words.specs.declared.error.PpkValueError.{PpkValueError}
+use Rattle.picky_kv_words.specs.declared.error.PpkValueError.TheVariants as value
 
 -- a step that gives a value or this refusal, and the steps after it
 abbrev pub need : {A B : Type 0} → KvError → Option A → (A → Result B KvError) → Result B KvError

@@ -1,8 +1,10 @@
-pub mod Field
-pub mod Literal
-pub mod Choices
-pub mod Keys
-pub mod Argon2Keys
+pub use Rattle.picky_kv_words.specs.Field
+pub use Rattle.picky_kv_words.specs.Literal
+pub use Rattle.picky_kv_words.specs.Choices
+pub use Rattle.picky_kv_words.specs.Keys
+pub use Rattle.picky_kv_words.specs.Argon2Keys
+pub use Rattle.picky_kv_words.specs.ChoiceFields
+pub mod Algorithm
 pub mod Numbers
 pub mod Values
 pub mod Context
@@ -10,7 +12,7 @@ pub mod Lines
 pub mod Parts
 pub mod Output
 pub mod ReadBack
-pub mod ChoiceFields
+pub mod AlgorithmField
 pub mod NumberFields
 pub mod ValueFields
 pub mod carried

@@ -1,7 +1,7 @@
 -- The types of numbers, as fields.
 use Rattle.std.proofs.Common.{ℕ, ◌^◌, ◌<◌, ◌≤◌, false, List, refl}
 use Rattle.std.specs.Fmt.{decimal}
-use Rattle.picky_kv.specs.Field.{Field}
+use Rattle.picky_kv_words.specs.Field.{Field}
 use Rattle.picky_kv.specs.Numbers.{u32_row, count_row, number_below}
 use Rattle.picky_kv.specs.carried.Numbers.{number_is_read_back, u32_is_narrow, u16_is_narrow}
 

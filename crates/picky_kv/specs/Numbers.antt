@@ -6,7 +6,7 @@ use Rattle.std.specs.Char.{is_digit}
 use Rattle.std.specs.Fmt.{decimal}
 use Rattle.std.specs.List.{list_all}
 use Rattle.std.specs.Str.Parse.{digits_value, without_leading_plus}
-use Rattle.picky_kv.specs.Field.{FieldRow}
+use Rattle.picky_kv_words.specs.Field.{FieldRow}
 
 -- a number below the limit in decimal: a plus may stand first, and then zeros, which are 48
 pub record IsNumberText (limit : ℕ) (text : List ℕ) (n : ℕ) : Type 0 where

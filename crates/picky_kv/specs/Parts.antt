@@ -2,7 +2,7 @@
 use Rattle.std.specs.Prelude.{◌≡◌, ◌≢◌, ◌↔◌, ℕ, List, ◌∷◌, ◌++◌, length, codes, Ok}
 use Rattle.std.specs.List.{concat}
 use Rattle.picky_text.specs.Lines.{HasNo}
-use Rattle.picky_kv.specs.Field.{Field, field_value}
+use Rattle.picky_kv_words.specs.Field.{Field, field_value}
 use Rattle.picky_kv.specs.Lines.{next_pair, next_block}
 use Rattle.picky_kv.specs.NumberFields.{count_field}
 

@@ -3,7 +3,7 @@ use Rattle.std.specs.Prelude.{◌≡◌, ◌≤◌, ℕ, List, [], ◌∷◌, �
 use Rattle.picky_text.specs.Lines.{HasNo, lines, text_of, IsLine}
 use Rattle.picky_text.specs.Rows.{rows_of}
 use Rattle.picky_text.specs.declared.lines.LineEnd.{LineEnd}
-use Rattle.picky_kv.specs.Field.{Field}
+use Rattle.picky_kv_words.specs.Field.{Field}
 use Rattle.picky_kv.specs.Lines.{next_pair, next_block}
 use Rattle.picky_kv.specs.Output.{pair_line, block_lines}
 

@@ -1,4 +1,4 @@
 pub mod Pairs
-pub mod Choices
+pub mod Algorithm
 pub mod Numbers
 pub mod Values

@@ -4,16 +4,17 @@ ghost use Rattle.std.specs.Prelude.{◌≡◌, ◌↔◌, ◌<◌, ℕ, List, []
 ghost use Rattle.std.specs.List.{AllByRecursion};
 ghost use Rattle.picky_layout.specs.Numbers.{IsBytes};
 ghost use Rattle.picky_text.specs.Rows.{rows_of};
-ghost use Rattle.picky_kv.specs.Argon2Keys.{argon2_memory_key_row, argon2_parallelism_key_row};
-ghost use Rattle.picky_kv.specs.Argon2Keys.{argon2_passes_key_row, argon2_salt_key_row};
-ghost use Rattle.picky_kv.specs.Argon2Keys.{key_derivation_key_row};
-ghost use Rattle.picky_kv.specs.Choices.{algorithm_row, encryption_row, flavour_row, version_row};
+ghost use Rattle.picky_kv_words.specs.Argon2Keys.{argon2_memory_key_row, argon2_parallelism_key_row};
+ghost use Rattle.picky_kv_words.specs.Argon2Keys.{argon2_passes_key_row, argon2_salt_key_row};
+ghost use Rattle.picky_kv_words.specs.Argon2Keys.{key_derivation_key_row};
+ghost use Rattle.picky_kv.specs.Algorithm.{algorithm_row};
+ghost use Rattle.picky_kv_words.specs.Choices.{encryption_row, flavour_row, version_row};
 ghost use Rattle.picky_wire.specs.Equality.{IsEquality};
-ghost use Rattle.picky_kv.specs.Field.{IsOfRow};
-ghost use Rattle.picky_kv.specs.Keys.{comment_key_row, encryption_key_row, private_lines_key_row};
-ghost use Rattle.picky_kv.specs.Keys.{private_mac_key_row, public_lines_key_row};
+ghost use Rattle.picky_kv_words.specs.Field.{IsOfRow};
+ghost use Rattle.picky_kv_words.specs.Keys.{comment_key_row, encryption_key_row, private_lines_key_row};
+ghost use Rattle.picky_kv_words.specs.Keys.{private_mac_key_row, public_lines_key_row};
 ghost use Rattle.picky_kv.specs.Lines.{key_and_value, first_joined, next_pair, next_block};
-ghost use Rattle.picky_kv.specs.Literal.{IsOfLiterals};
+ghost use Rattle.picky_kv_words.specs.Literal.{IsOfLiterals};
 ghost use Rattle.picky_kv.specs.NumberFields.{count_field};
 ghost use Rattle.picky_kv.specs.Numbers.{count_row, u32_row};
 ghost use Rattle.picky_kv.specs.Parts.{HasNoSeparator, AreKeyAndValue, AreJoined, PairsAreRead};
@@ -22,22 +23,21 @@ ghost use Rattle.picky_kv.specs.ReadBack.{PairIsReadBack, BlockIsReadBack};
 ghost use Rattle.picky_kv.specs.Values.{base64_row, comment_row, hex_row, padded_base64};
 ghost use Rattle.picky_kv.specs.Values.{AreHexPairs, IsLowerDigit};
 
-use crate::argon2_keys::{
-    PpkArgon2MemoryKey, PpkArgon2ParallelismKey, PpkArgon2PassesKey, PpkArgon2SaltKey,
-    PpkKeyDerivationKey,
-};
-use crate::choices::{Argon2FlavourValue, PpkEncryptionValue, PpkKeyAlgorithmValue, PpkVersionKey};
-use crate::error::{KvError, PpkValueError, PpkValueParsingError};
-use crate::field::{PpkField, PpkKeyValue, PpkLiteral, PpkMultilineKeyValue};
-use crate::keys::{
-    PpkCommentKey, PpkEncryptionKey, PpkPrivateLinesKey, PpkPrivateMacKey, PpkPublicLinesKey,
-};
+use crate::algorithm::PpkKeyAlgorithmValue;
+use crate::error::KvError;
 use crate::numbers::{PpkArgon2MemoryValue, PpkArgon2ParallelismValue, PpkArgon2PassesValue};
 use crate::pairs::{
     PpkArgon2Memory, PpkArgon2Parallelism, PpkArgon2Passes, PpkArgon2Salt, PpkComment,
-    PpkEncryption, PpkHeader, PpkKeyDerivation, PpkPrivateLines, PpkPrivateMac, PpkPublicLines,
+    PpkEncryption, PpkHeader, PpkKeyDerivation, PpkKeyValue, PpkMultilineKeyValue, PpkPrivateLines,
+    PpkPrivateMac, PpkPublicLines,
 };
 use crate::values::{Base64PpkValue, HexPpkValue, PpkCommentValue};
+use picky_kv_words::{
+    Argon2FlavourValue, PpkArgon2MemoryKey, PpkArgon2ParallelismKey, PpkArgon2PassesKey,
+    PpkArgon2SaltKey, PpkCommentKey, PpkEncryptionKey, PpkEncryptionValue, PpkField,
+    PpkKeyDerivationKey, PpkLiteral, PpkPrivateLinesKey, PpkPrivateMacKey, PpkPublicLinesKey,
+    PpkValueError, PpkValueParsingError, PpkVersionKey,
+};
 
 /// Each line's key: its literal alone stands for it, is written and is expected. Refusals give its
 /// type's name.

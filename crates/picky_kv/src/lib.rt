@@ -1,33 +1,30 @@
 //! The lines of PuTTY's private key files, typed (PuTTY's manual, Appendix C, "PPK file format").
 #![tactic(auto)]
 
-mod argon2_keys;
-mod choices;
+mod algorithm;
 mod error;
-mod field;
-mod keys;
 pub mod laws;
 pub mod literals;
 mod numbers;
 mod pairs;
 mod reader;
+mod spelling;
 mod values;
 mod writer;
 
-pub use argon2_keys::{
-    PpkArgon2MemoryKey, PpkArgon2ParallelismKey, PpkArgon2PassesKey, PpkArgon2SaltKey,
-    PpkKeyDerivationKey,
-};
-pub use choices::{Argon2FlavourValue, PpkEncryptionValue, PpkKeyAlgorithmValue, PpkVersionKey};
-pub use error::{KvError, PpkValueError, PpkValueParsingError};
-pub use field::{PpkField, PpkKeyValue, PpkLiteral, PpkMultilineKeyValue, PpkSingle};
-pub use keys::{
-    PpkCommentKey, PpkEncryptionKey, PpkPrivateLinesKey, PpkPrivateMacKey, PpkPublicLinesKey,
-};
+pub use algorithm::PpkKeyAlgorithmValue;
+pub use error::KvError;
 pub use numbers::{PpkArgon2MemoryValue, PpkArgon2ParallelismValue, PpkArgon2PassesValue};
 pub use pairs::{
     PpkArgon2Memory, PpkArgon2Parallelism, PpkArgon2Passes, PpkArgon2Salt, PpkComment,
-    PpkEncryption, PpkHeader, PpkKeyDerivation, PpkPrivateLines, PpkPrivateMac, PpkPublicLines,
+    PpkEncryption, PpkHeader, PpkKeyDerivation, PpkKeyValue, PpkMultilineKeyValue, PpkPrivateLines,
+    PpkPrivateMac, PpkPublicLines,
+};
+pub use picky_kv_words::{
+    Argon2FlavourValue, PpkArgon2MemoryKey, PpkArgon2ParallelismKey, PpkArgon2PassesKey,
+    PpkArgon2SaltKey, PpkCommentKey, PpkEncryptionKey, PpkEncryptionValue, PpkField,
+    PpkKeyDerivationKey, PpkLiteral, PpkPrivateLinesKey, PpkPrivateMacKey, PpkPublicLinesKey,
+    PpkSingle, PpkValueError, PpkValueParsingError, PpkVersionKey,
 };
 pub use reader::PuttyKvReader;
 pub use values::{Base64PpkValue, HexPpkValue, PpkCommentValue};

@@ -1,28 +1,14 @@
 //! The literals of a PuTTY private key file, and the names and words of its refusals.
 
-pub const PUTTY_USER_KEY_FILE_2: &str = "PuTTY-User-Key-File-2";
-
-pub const PUTTY_USER_KEY_FILE_3: &str = "PuTTY-User-Key-File-3";
-
-pub const ENCRYPTION: &str = "Encryption";
-
-pub const COMMENT: &str = "Comment";
-
-pub const PUBLIC_LINES: &str = "Public-Lines";
-
-pub const KEY_DERIVATION: &str = "Key-Derivation";
-
-pub const ARGON2_MEMORY: &str = "Argon2-Memory";
-
-pub const ARGON2_PASSES: &str = "Argon2-Passes";
-
-pub const ARGON2_PARALLELISM: &str = "Argon2-Parallelism";
-
-pub const ARGON2_SALT: &str = "Argon2-Salt";
-
-pub const PRIVATE_LINES: &str = "Private-Lines";
-
-pub const PRIVATE_MAC: &str = "Private-MAC";
+pub use picky_kv_words::literals::{
+    AES256_CBC, ANY_ENCRYPTION, ANY_FLAVOUR, ANY_VERSION, ARGON2_FLAVOUR_VALUE, ARGON2_MEMORY,
+    ARGON2_PARALLELISM, ARGON2_PASSES, ARGON2_SALT, ARGON2D, ARGON2I, ARGON2ID, COMMENT,
+    ENCRYPTION, KEY_DERIVATION, NONE, PPK_ARGON2_MEMORY_KEY, PPK_ARGON2_PARALLELISM_KEY,
+    PPK_ARGON2_PASSES_KEY, PPK_ARGON2_SALT_KEY, PPK_COMMENT_KEY, PPK_ENCRYPTION_KEY,
+    PPK_ENCRYPTION_VALUE, PPK_KEY_DERIVATION_KEY, PPK_PRIVATE_LINES_KEY, PPK_PRIVATE_MAC_KEY,
+    PPK_PUBLIC_LINES_KEY, PPK_VERSION_KEY, PRIVATE_LINES, PRIVATE_MAC, PUBLIC_LINES,
+    PUTTY_USER_KEY_FILE_2, PUTTY_USER_KEY_FILE_3,
+};
 
 pub const SSH_RSA: &str = "ssh-rsa";
 
@@ -38,28 +24,12 @@ pub const SSH_ED25519: &str = "ssh-ed25519";
 
 pub const SSH_ED448: &str = "ssh-ed448";
 
-pub const NONE: &str = "none";
-
-pub const AES256_CBC: &str = "aes256-cbc";
-
-pub const ARGON2D: &str = "Argon2d";
-
-pub const ARGON2I: &str = "Argon2i";
-
-pub const ARGON2ID: &str = "Argon2id";
-
 /// What stands between a key and its value.
 pub const SEPARATOR: &str = ": ";
 
-// What a refusal says was expected: the literals of the type, in brackets where there are several.
-pub const ANY_VERSION: &str = "[PuTTY-User-Key-File-2, PuTTY-User-Key-File-3]";
-
+// What a refusal says was expected: the literals of the type in brackets, or which text.
 pub const ANY_ALGORITHM: &str = "[ssh-rsa, ssh-dss, ecdsa-sha2-nistp256, ecdsa-sha2-nistp384, \
     ecdsa-sha2-nistp521, ssh-ed25519, ssh-ed448]";
-
-pub const ANY_ENCRYPTION: &str = "[none, aes256-cbc]";
-
-pub const ANY_FLAVOUR: &str = "[Argon2d, Argon2i, Argon2id]";
 
 pub const VALID_U32: &str = "<valid u32 value>";
 
@@ -69,31 +39,5 @@ pub const VALID_HEX: &str = "<valid hex data>";
 
 pub const VALID_COUNT: &str = "<valid lines count>";
 
-// The names of the types, which refusals give.
-pub const PPK_VERSION_KEY: &str = "PpkVersionKey";
-
+// The name of the type, which refusals give.
 pub const PPK_KEY_ALGORITHM_VALUE: &str = "PpkKeyAlgorithmValue";
-
-pub const PPK_ENCRYPTION_VALUE: &str = "PpkEncryptionValue";
-
-pub const ARGON2_FLAVOUR_VALUE: &str = "Argon2FlavourValue";
-
-pub const PPK_ENCRYPTION_KEY: &str = "PpkEncryptionKey";
-
-pub const PPK_COMMENT_KEY: &str = "PpkCommentKey";
-
-pub const PPK_PUBLIC_LINES_KEY: &str = "PpkPublicLinesKey";
-
-pub const PPK_PRIVATE_LINES_KEY: &str = "PpkPrivateLinesKey";
-
-pub const PPK_PRIVATE_MAC_KEY: &str = "PpkPrivateMacKey";
-
-pub const PPK_KEY_DERIVATION_KEY: &str = "PpkKeyDerivationKey";
-
-pub const PPK_ARGON2_MEMORY_KEY: &str = "PpkArgon2MemoryKey";
-
-pub const PPK_ARGON2_PASSES_KEY: &str = "PpkArgon2PassesKey";
-
-pub const PPK_ARGON2_PARALLELISM_KEY: &str = "PpkArgon2ParallelismKey";
-
-pub const PPK_ARGON2_SALT_KEY: &str = "PpkArgon2SaltKey";

@@ -2,12 +2,12 @@
 
 ghost use Rattle.std.specs.Prelude.{◌≡◌, ◌^◌, ◌<◌, ℕ, IfOk, IsOk};
 ghost use Rattle.picky_wire.specs.Gives.{Gives};
-ghost use Rattle.picky_kv.specs.Field.{field_value, IsSpelling};
+ghost use Rattle.picky_kv_words.specs.Field.{field_value, IsSpelling};
 ghost use Rattle.picky_kv.specs.NumberFields.{u32_field, count_field};
 
-use crate::error::PpkValueError;
-use crate::field::{PpkField, refused, text_within};
 use crate::literals::{VALID_COUNT, VALID_U32};
+use crate::spelling::text_within;
+use picky_kv_words::{PpkField, PpkValueError, refused};
 use picky_wire::{NoMemory, SizeError, Text, TryClone};
 use std::alloc::Global;
 use std::marker::Model;

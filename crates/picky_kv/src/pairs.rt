@@ -1,6 +1,8 @@
-//! The lines and blocks of a PuTTY private key file: which key stands before which value.
+//! What the lines and blocks of a PuTTY private key file promise, and which key stands before which value.
 
-ghost use Rattle.std.specs.Prelude.{refl};
+ghost use Rattle.std.specs.Prelude.{◌≡◌, true, refl};
+ghost use Rattle.std.specs.Str.{IsAscii};
+ghost use Rattle.picky_kv_words.specs.Literal.{is_plain};
 ghost use Rattle.picky_kv.specs.carried.Pairs.{version_field_is_plain};
 ghost use Rattle.picky_kv.specs.carried.Pairs.{encryption_key_is_plain, comment_key_is_plain};
 ghost use Rattle.picky_kv.specs.carried.Pairs.{public_lines_key_is_plain, private_lines_key_is_plain};
@@ -11,17 +13,42 @@ ghost use Rattle.picky_kv.specs.carried.Pairs.{argon2_parallelism_key_is_plain};
 ghost use Rattle.picky_kv.specs.carried.Pairs.{argon2_salt_key_is_plain};
 ghost use Rattle.picky_kv.specs.carried.Pairs.{base64_field_is_ascii};
 
-use crate::argon2_keys::{
-    PpkArgon2MemoryKey, PpkArgon2ParallelismKey, PpkArgon2PassesKey, PpkArgon2SaltKey,
-    PpkKeyDerivationKey,
-};
-use crate::choices::{Argon2FlavourValue, PpkEncryptionValue, PpkKeyAlgorithmValue, PpkVersionKey};
-use crate::field::{PpkKeyValue, PpkMultilineKeyValue};
-use crate::keys::{
-    PpkCommentKey, PpkEncryptionKey, PpkPrivateLinesKey, PpkPrivateMacKey, PpkPublicLinesKey,
-};
+use crate::algorithm::PpkKeyAlgorithmValue;
 use crate::numbers::{PpkArgon2MemoryValue, PpkArgon2ParallelismValue, PpkArgon2PassesValue};
 use crate::values::{Base64PpkValue, HexPpkValue, PpkCommentValue};
+use picky_kv_words::{
+    Argon2FlavourValue, PpkArgon2MemoryKey, PpkArgon2ParallelismKey, PpkArgon2PassesKey,
+    PpkArgon2SaltKey, PpkCommentKey, PpkEncryptionKey, PpkEncryptionValue, PpkField,
+    PpkKeyDerivationKey, PpkLiteral, PpkPrivateLinesKey, PpkPrivateMacKey, PpkPublicLinesKey,
+    PpkVersionKey,
+};
+
+/// A line of a key and a value.
+pub trait PpkKeyValue {
+    type Key: PpkField + PpkLiteral;
+
+    type Value: PpkField;
+
+    // a key is written as its literal, in which no colon, CR and LF stand
+    ghost key_written: { (k : Self.Key) → Self.Key.field.spelling k ≡ Self.Key.literal k };
+
+    ghost key_plain: { (k : Self.Key) → is_plain (Self.Key.literal k) ≡ true };
+}
+
+/// A line of a key and a count, and then that many lines of a value's text.
+pub trait PpkMultilineKeyValue {
+    type Key: PpkField + PpkLiteral;
+
+    type Value: PpkField;
+
+    // a key is written as its literal, in which no colon, CR and LF stand
+    ghost key_written: { (k : Self.Key) → Self.Key.field.spelling k ≡ Self.Key.literal k };
+
+    ghost key_plain: { (k : Self.Key) → is_plain (Self.Key.literal k) ≡ true };
+
+    // the text of a value can be cut anywhere
+    ghost ascii: { (v : Self.Value) → IsAscii (Self.Value.field.spelling v) };
+}
 
 /// The first line: the version and the key's algorithm.
 #[derive(Debug, Drop, PartialEq, Eq)]

@@ -3,15 +3,16 @@
 ghost use Rattle.std.specs.Prelude.{◌≡◌, ◌⊎◌, ℕ, List, [], IfNone, IfSome, IfOk, IfErr, OnErr, string_bytes};
 ghost use Rattle.picky_text.specs.Lines.{lines};
 ghost use Rattle.picky_wire.specs.Gives.{Gives};
-ghost use Rattle.picky_kv.specs.Field.{field_value};
+ghost use Rattle.picky_kv_words.specs.Field.{field_value};
 ghost use Rattle.picky_kv.specs.Lines.{next_pair, next_block, value_alone, first_joined};
 ghost use Rattle.picky_kv.specs.Lines.{key_and_value as cut};
 ghost use Rattle.picky_kv.specs.Context.{in_context};
 
-use crate::error::{KvError, PpkValueError};
-use crate::field::{PpkField, PpkKeyValue, PpkLiteral, PpkMultilineKeyValue};
+use crate::error::KvError;
 use crate::literals::SEPARATOR;
 use crate::numbers::LineCount;
+use crate::pairs::{PpkKeyValue, PpkMultilineKeyValue};
+use picky_kv_words::{PpkField, PpkLiteral, PpkValueError};
 use picky_text::LineReader;
 use picky_wire::Text;
 use std::alloc::Global;

@@ -4,13 +4,13 @@ ghost use Rattle.std.specs.Prelude.{◌≡◌, ℕ, List};
 ghost use Rattle.picky_layout.specs.Numbers.{IsBytes};
 ghost use Rattle.hex.specs.Hex.{encode_lower};
 ghost use Rattle.picky_text.specs.Base64.{base64_of};
-ghost use Rattle.picky_kv.specs.Field.{IsSpelling};
+ghost use Rattle.picky_kv_words.specs.Field.{IsSpelling};
 ghost use Rattle.picky_kv.specs.ValueFields.{comment_field, base64_field, hex_field};
 
-use crate::error::PpkValueError;
-use crate::field::{PpkField, refused, text_within};
 use crate::literals::{VALID_BASE64, VALID_HEX};
+use crate::spelling::text_within;
 use hex::FromHexError;
+use picky_kv_words::{PpkField, PpkValueError, refused};
 use picky_text::Base64Error;
 use picky_wire::{Bytes, NoMemory, SizeError, Text, TryClone};
 use std::alloc::Global;

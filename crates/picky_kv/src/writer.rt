@@ -10,8 +10,9 @@ ghost use Rattle.picky_kv.specs.Output.{line_end, pair_line as line_of, block_li
 ghost use Rattle.picky_kv.specs.Output.{with_lines, with_block};
 
 use crate::error::KvError;
-use crate::field::{PpkField, PpkKeyValue, PpkLiteral, PpkMultilineKeyValue, PpkSingle};
 use crate::literals::SEPARATOR;
+use crate::pairs::{PpkKeyValue, PpkMultilineKeyValue};
+use picky_kv_words::{PpkField, PpkLiteral, PpkSingle};
 use picky_text::{LineEnd, push_rows};
 use picky_wire::{SizeError, Text};
 use std::alloc::{AllocError, Global};

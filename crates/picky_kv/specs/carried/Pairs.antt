@@ -2,13 +2,13 @@
 use Rattle.std.specs.Prelude.{refl, ℕ, List}
 use Rattle.std.specs.Str.{IsAscii}
 use Rattle.picky_text.proofs.Base64Laws.{base64_is_ascii}
-use Rattle.picky_kv.specs.Literal.{IsPlain}
-use Rattle.picky_kv.specs.Argon2Keys.{key_derivation_key, argon2_memory_key, argon2_passes_key}
-use Rattle.picky_kv.specs.Argon2Keys.{argon2_parallelism_key, argon2_salt_key}
-use Rattle.picky_kv.specs.declared.choices.PpkVersionKey.TheVariants.{V2, V3}
-use Rattle.picky_kv.specs.ChoiceFields.{version_field}
-use Rattle.picky_kv.specs.Keys.{encryption_key, comment_key, public_lines_key, private_lines_key}
-use Rattle.picky_kv.specs.Keys.{private_mac_key}
+use Rattle.picky_kv_words.specs.Literal.{IsPlain}
+use Rattle.picky_kv_words.specs.Argon2Keys.{key_derivation_key, argon2_memory_key, argon2_passes_key}
+use Rattle.picky_kv_words.specs.Argon2Keys.{argon2_parallelism_key, argon2_salt_key}
+use Rattle.picky_kv_words.specs.declared.choices.PpkVersionKey.TheVariants.{V2, V3}
+use Rattle.picky_kv_words.specs.ChoiceFields.{version_field}
+use Rattle.picky_kv_words.specs.Keys.{encryption_key, comment_key, public_lines_key, private_lines_key}
+use Rattle.picky_kv_words.specs.Keys.{private_mac_key}
 use Rattle.picky_kv.specs.ValueFields.{base64_field}
 
 -- it is plain

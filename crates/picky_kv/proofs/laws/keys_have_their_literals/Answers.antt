@@ -1,16 +1,16 @@
 -- Each key's type is its row's.
 use Rattle.std.proofs.Common.{[], ◌∷◌, refl}
-use Rattle.picky_kv.specs.Argon2Keys.{argon2_memory_key, argon2_memory_key_row}
-use Rattle.picky_kv.specs.Argon2Keys.{argon2_parallelism_key, argon2_parallelism_key_row}
-use Rattle.picky_kv.specs.Argon2Keys.{argon2_passes_key, argon2_passes_key_row}
-use Rattle.picky_kv.specs.Argon2Keys.{argon2_salt_key, argon2_salt_key_row}
-use Rattle.picky_kv.specs.Argon2Keys.{key_derivation_key, key_derivation_key_row}
-use Rattle.picky_kv.specs.ChoiceFields.{version_field}
-use Rattle.picky_kv.specs.Choices.{version_row, versions}
-use Rattle.picky_kv.specs.carried.Choices.{versions_are_named}
-use Rattle.picky_kv.specs.Keys.{comment_key, comment_key_row, encryption_key, encryption_key_row}
-use Rattle.picky_kv.specs.Keys.{private_lines_key, private_lines_key_row, private_mac_key}
-use Rattle.picky_kv.specs.Keys.{private_mac_key_row, public_lines_key, public_lines_key_row}
+use Rattle.picky_kv_words.specs.Argon2Keys.{argon2_memory_key, argon2_memory_key_row}
+use Rattle.picky_kv_words.specs.Argon2Keys.{argon2_parallelism_key, argon2_parallelism_key_row}
+use Rattle.picky_kv_words.specs.Argon2Keys.{argon2_passes_key, argon2_passes_key_row}
+use Rattle.picky_kv_words.specs.Argon2Keys.{argon2_salt_key, argon2_salt_key_row}
+use Rattle.picky_kv_words.specs.Argon2Keys.{key_derivation_key, key_derivation_key_row}
+use Rattle.picky_kv_words.specs.ChoiceFields.{version_field}
+use Rattle.picky_kv_words.specs.Choices.{version_row, versions}
+use Rattle.picky_kv_words.specs.carried.Choices.{versions_are_named}
+use Rattle.picky_kv_words.specs.Keys.{comment_key, comment_key_row, encryption_key, encryption_key_row}
+use Rattle.picky_kv_words.specs.Keys.{private_lines_key, private_lines_key_row, private_mac_key}
+use Rattle.picky_kv_words.specs.Keys.{private_mac_key_row, public_lines_key, public_lines_key_row}
 use Rattle.picky_kv.proofs.LiteralLemmas.{literal_type_is}
 use Rattle.picky_kv.proofs.laws.keys_have_their_literals.Goals as goal
 

@@ -1,14 +1,14 @@
 -- Each value's type is its row's.
 use Rattle.std.proofs.Common.{◌^◌}
-use Rattle.picky_kv.specs.ChoiceFields.{algorithm_field}
-use Rattle.picky_kv.specs.Choices.{algorithm_row, algorithms}
-use Rattle.picky_kv.specs.carried.Choices.{algorithms_are_named}
-use Rattle.picky_kv.specs.ChoiceFields.{encryption_field}
-use Rattle.picky_kv.specs.Choices.{encryption_row, encryptions}
-use Rattle.picky_kv.specs.carried.Choices.{encryptions_are_named}
-use Rattle.picky_kv.specs.ChoiceFields.{flavour_field}
-use Rattle.picky_kv.specs.Choices.{flavour_row, flavours}
-use Rattle.picky_kv.specs.carried.Choices.{flavours_are_named}
+use Rattle.picky_kv.specs.AlgorithmField.{algorithm_field}
+use Rattle.picky_kv.specs.Algorithm.{algorithm_row, algorithms}
+use Rattle.picky_kv.specs.carried.Algorithm.{algorithms_are_named}
+use Rattle.picky_kv_words.specs.ChoiceFields.{encryption_field}
+use Rattle.picky_kv_words.specs.Choices.{encryption_row, encryptions}
+use Rattle.picky_kv_words.specs.carried.Choices.{encryptions_are_named}
+use Rattle.picky_kv_words.specs.ChoiceFields.{flavour_field}
+use Rattle.picky_kv_words.specs.Choices.{flavour_row, flavours}
+use Rattle.picky_kv_words.specs.carried.Choices.{flavours_are_named}
 use Rattle.picky_kv.specs.NumberFields.{u32_field, count_field}
 use Rattle.picky_kv.specs.Numbers.{u32_row, count_row}
 use Rattle.picky_kv.specs.carried.Numbers.{u32_is_narrow}

@@ -1,10 +1,8 @@
-//! What a type of keys or values promises, and what the pairs of a key and a value do.
+//! What a type of keys or values promises.
 
-ghost use Rattle.std.specs.Prelude.{◌≡◌, ◌⊎◌, ◌^◌, ◌<◌, ℕ, true, List, length, string_bytes};
-ghost use Rattle.std.specs.Str.{IsAscii};
+ghost use Rattle.std.specs.Prelude.{◌≡◌, ◌⊎◌, ◌^◌, ◌<◌, ℕ, List, length};
 ghost use Rattle.picky_wire.specs.Gives.{Gives};
-ghost use Rattle.picky_kv.specs.Literal.{is_plain};
-ghost use Rattle.picky_kv.specs.Field.{Field, field_value, refusal, IsSpelling};
+ghost use Rattle.picky_kv_words.specs.Field.{Field, field_value, refusal, IsSpelling};
 
 use crate::error::{PpkValueError, PpkValueParsingError};
 use picky_wire::{SizeError, Text};
@@ -53,35 +51,8 @@ pub trait PpkSingle: PpkLiteral + Sized {
     ghost only: { (k : Self) → k ≡ one };
 }
 
-/// A line of a key and a value.
-pub trait PpkKeyValue {
-    type Key: PpkField + PpkLiteral;
-
-    type Value: PpkField;
-
-    // a key is written as its literal, in which no colon, CR and LF stand
-    ghost key_written: { (k : Self.Key) → Self.Key.field.spelling k ≡ Self.Key.literal k };
-
-    ghost key_plain: { (k : Self.Key) → is_plain (Self.Key.literal k) ≡ true };
-}
-
-/// A line of a key and a count, and then that many lines of a value's text.
-pub trait PpkMultilineKeyValue {
-    type Key: PpkField + PpkLiteral;
-
-    type Value: PpkField;
-
-    // a key is written as its literal, in which no colon, CR and LF stand
-    ghost key_written: { (k : Self.Key) → Self.Key.field.spelling k ≡ Self.Key.literal k };
-
-    ghost key_plain: { (k : Self.Key) → is_plain (Self.Key.literal k) ≡ true };
-
-    // the text of a value can be cut anywhere
-    ghost ascii: { (v : Self.Value) → IsAscii (Self.Value.field.spelling v) };
-}
-
 /// The refusal of a text that stands for no value.
-pub(crate) fn refused(alloc: Global, expected: &str, text: &str) -> PpkValueError
+pub fn refused(alloc: Global, expected: &str, text: &str) -> PpkValueError
     requires { length expected.now < 2 ^ 32 }
     ensures { (result ≡ PpkValueError.NoMemory) ⊎ (result ≡ refusal expected.now text.now) }
 {
@@ -92,16 +63,5 @@ pub(crate) fn refused(alloc: Global, expected: &str, text: &str) -> PpkValueErro
         },
         Err(SizeError::TooLong) => PpkValueError::TooLong,
         Err(SizeError::NoMemory) => PpkValueError::NoMemory,
-    }
-}
-
-/// The string as a text.
-pub(crate) fn text_within(string: String) -> Result<Text, SizeError>
-    ensures { IsSpelling result (string_bytes string) }
-{
-    if string.len() < 1 << 32 {
-        Ok(Text::from_string(string))
-    } else {
-        Err(SizeError::TooLong)
     }
 }

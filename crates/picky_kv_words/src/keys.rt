@@ -1,10 +1,10 @@
 //! The keys that each file has, one literal each.
 
 ghost use Rattle.std.specs.Prelude.{◌≡◌, IfOk, IsOk, refl};
-ghost use Rattle.picky_kv.specs.Keys.{encryption_key, comment_key, public_lines_key};
-ghost use Rattle.picky_kv.specs.Keys.{private_lines_key, private_mac_key};
-ghost use Rattle.picky_kv.specs.Keys.{encryption_key_row, comment_key_row, public_lines_key_row};
-ghost use Rattle.picky_kv.specs.Keys.{private_lines_key_row, private_mac_key_row};
+ghost use Rattle.picky_kv_words.specs.Keys.{encryption_key, comment_key, public_lines_key};
+ghost use Rattle.picky_kv_words.specs.Keys.{private_lines_key, private_mac_key};
+ghost use Rattle.picky_kv_words.specs.Keys.{encryption_key_row, comment_key_row, public_lines_key_row};
+ghost use Rattle.picky_kv_words.specs.Keys.{private_lines_key_row, private_mac_key_row};
 
 use crate::error::PpkValueError;
 use crate::field::{PpkField, PpkLiteral, PpkSingle, refused};

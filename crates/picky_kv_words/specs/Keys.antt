@@ -1,12 +1,12 @@
 -- The keys that each file has, one literal each, after PuTTY's manual, Appendix C.
 use Rattle.std.specs.Prelude.{[], ◌∷◌, codes, refl}
-use Rattle.picky_kv.specs.Field.{Field}
-use Rattle.picky_kv.specs.Literal.{LiteralRow, single_row, literal_field}
-use Rattle.picky_kv.specs.declared.keys.PpkEncryptionKey.{PpkEncryptionKey}
-use Rattle.picky_kv.specs.declared.keys.PpkCommentKey.{PpkCommentKey}
-use Rattle.picky_kv.specs.declared.keys.PpkPublicLinesKey.{PpkPublicLinesKey}
-use Rattle.picky_kv.specs.declared.keys.PpkPrivateLinesKey.{PpkPrivateLinesKey}
-use Rattle.picky_kv.specs.declared.keys.PpkPrivateMacKey.{PpkPrivateMacKey}
+use Rattle.picky_kv_words.specs.Field.{Field}
+use Rattle.picky_kv_words.specs.Literal.{LiteralRow, single_row, literal_field}
+use Rattle.picky_kv_words.specs.declared.keys.PpkEncryptionKey.{PpkEncryptionKey}
+use Rattle.picky_kv_words.specs.declared.keys.PpkCommentKey.{PpkCommentKey}
+use Rattle.picky_kv_words.specs.declared.keys.PpkPublicLinesKey.{PpkPublicLinesKey}
+use Rattle.picky_kv_words.specs.declared.keys.PpkPrivateLinesKey.{PpkPrivateLinesKey}
+use Rattle.picky_kv_words.specs.declared.keys.PpkPrivateMacKey.{PpkPrivateMacKey}
 
 -- the key of the line that names the encryption
 abbrev pub encryption_key_row : LiteralRow PpkEncryptionKey

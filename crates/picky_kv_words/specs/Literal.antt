@@ -3,7 +3,7 @@ use Rattle.std.specs.Prelude.{◌≡◌, ◌==◌, ◌||◌, ℕ, Bool, true, fa
 use Rattle.std.specs.Prelude.{Option, Some, None, nat_eq, refl}
 use Rattle.std.specs.List.{list_all}
 use Rattle.std.specs.Cmp.Lexicographic.{pointwise}
-use Rattle.picky_kv.specs.Field.{Field, FieldRow, IsOfRow}
+use Rattle.picky_kv_words.specs.Field.{Field, FieldRow, IsOfRow}
 
 -- a type of literals: its name, which refusals give, each value's literal, and what is expected
 pub record LiteralRow (A : Type 0) : Type 0 where

@@ -1,12 +1,12 @@
 -- The keys of Argon2, one literal each, after PuTTY's manual, Appendix C.
 use Rattle.std.specs.Prelude.{[], ◌∷◌, codes, refl}
-use Rattle.picky_kv.specs.Field.{Field}
-use Rattle.picky_kv.specs.Literal.{LiteralRow, single_row, literal_field}
-use Rattle.picky_kv.specs.declared.argon2_keys.PpkKeyDerivationKey.{PpkKeyDerivationKey}
-use Rattle.picky_kv.specs.declared.argon2_keys.PpkArgon2MemoryKey.{PpkArgon2MemoryKey}
-use Rattle.picky_kv.specs.declared.argon2_keys.PpkArgon2PassesKey.{PpkArgon2PassesKey}
-use Rattle.picky_kv.specs.declared.argon2_keys.PpkArgon2ParallelismKey.{PpkArgon2ParallelismKey}
-use Rattle.picky_kv.specs.declared.argon2_keys.PpkArgon2SaltKey.{PpkArgon2SaltKey}
+use Rattle.picky_kv_words.specs.Field.{Field}
+use Rattle.picky_kv_words.specs.Literal.{LiteralRow, single_row, literal_field}
+use Rattle.picky_kv_words.specs.declared.argon2_keys.PpkKeyDerivationKey.{PpkKeyDerivationKey}
+use Rattle.picky_kv_words.specs.declared.argon2_keys.PpkArgon2MemoryKey.{PpkArgon2MemoryKey}
+use Rattle.picky_kv_words.specs.declared.argon2_keys.PpkArgon2PassesKey.{PpkArgon2PassesKey}
+use Rattle.picky_kv_words.specs.declared.argon2_keys.PpkArgon2ParallelismKey.{PpkArgon2ParallelismKey}
+use Rattle.picky_kv_words.specs.declared.argon2_keys.PpkArgon2SaltKey.{PpkArgon2SaltKey}
 
 -- the key of the line that names the flavour of Argon2
 abbrev pub key_derivation_key_row : LiteralRow PpkKeyDerivationKey

@@ -1,12 +1,12 @@
 //! The keys of Argon2, which an encrypted file of version 3 has, one literal each.
 
 ghost use Rattle.std.specs.Prelude.{◌≡◌, IfOk, IsOk, refl};
-ghost use Rattle.picky_kv.specs.Argon2Keys.{key_derivation_key, argon2_memory_key};
-ghost use Rattle.picky_kv.specs.Argon2Keys.{argon2_passes_key, argon2_parallelism_key};
-ghost use Rattle.picky_kv.specs.Argon2Keys.{argon2_salt_key};
-ghost use Rattle.picky_kv.specs.Argon2Keys.{key_derivation_key_row, argon2_memory_key_row};
-ghost use Rattle.picky_kv.specs.Argon2Keys.{argon2_passes_key_row, argon2_parallelism_key_row};
-ghost use Rattle.picky_kv.specs.Argon2Keys.{argon2_salt_key_row};
+ghost use Rattle.picky_kv_words.specs.Argon2Keys.{key_derivation_key, argon2_memory_key};
+ghost use Rattle.picky_kv_words.specs.Argon2Keys.{argon2_passes_key, argon2_parallelism_key};
+ghost use Rattle.picky_kv_words.specs.Argon2Keys.{argon2_salt_key};
+ghost use Rattle.picky_kv_words.specs.Argon2Keys.{key_derivation_key_row, argon2_memory_key_row};
+ghost use Rattle.picky_kv_words.specs.Argon2Keys.{argon2_passes_key_row, argon2_parallelism_key_row};
+ghost use Rattle.picky_kv_words.specs.Argon2Keys.{argon2_salt_key_row};
 
 use crate::error::PpkValueError;
 use crate::field::{PpkField, PpkLiteral, PpkSingle, refused};

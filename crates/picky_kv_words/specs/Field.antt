@@ -4,8 +4,8 @@ use Rattle.std.specs.Prelude.{Option, Some, None, Result, Ok, Err}
 use Rattle.picky_layout.specs.Numbers.{IsBytes}
 use Rattle.picky_wire.specs.declared.error.SizeError.{SizeError}
 use Rattle.picky_wire.specs.declared.error.SizeError.TheVariants as size
-use Rattle.picky_kv.specs.declared.error.PpkValueError.{PpkValueError}
-use Rattle.picky_kv.specs.declared.error.PpkValueError.TheVariants.{Parsing, TooLong}
+use Rattle.picky_kv_words.specs.declared.error.PpkValueError.{PpkValueError}
+use Rattle.picky_kv_words.specs.declared.error.PpkValueError.TheVariants.{Parsing, TooLong}
 
 -- a type of keys or values: what its texts mean, which values are too big to be given, what a
 -- refusal says was expected, how values are written, and what is known of each value

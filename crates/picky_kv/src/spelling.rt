@@ -1,0 +1,17 @@
+//! What is written, where it is short enough.
+
+ghost use Rattle.std.specs.Prelude.{string_bytes};
+ghost use Rattle.picky_kv_words.specs.Field.{IsSpelling};
+
+use picky_wire::{SizeError, Text};
+
+/// The string as a text.
+pub(crate) fn text_within(string: String) -> Result<Text, SizeError>
+    ensures { IsSpelling result (string_bytes string) }
+{
+    if string.len() < 1 << 32 {
+        Ok(Text::from_string(string))
+    } else {
+        Err(SizeError::TooLong)
+    }
+}

@@ -1,0 +1,21 @@
+//! The fixed words of PuTTY's private key files, typed: the keys of the lines, the version, the
+//! encryption and Argon2's flavour (PuTTY's manual, Appendix C, "PPK file format").
+#![tactic(auto)]
+
+mod argon2_keys;
+mod choices;
+mod error;
+mod field;
+mod keys;
+pub mod literals;
+
+pub use argon2_keys::{
+    PpkArgon2MemoryKey, PpkArgon2ParallelismKey, PpkArgon2PassesKey, PpkArgon2SaltKey,
+    PpkKeyDerivationKey,
+};
+pub use choices::{Argon2FlavourValue, PpkEncryptionValue, PpkVersionKey};
+pub use error::{PpkValueError, PpkValueParsingError};
+pub use field::{PpkField, PpkLiteral, PpkSingle, refused};
+pub use keys::{
+    PpkCommentKey, PpkEncryptionKey, PpkPrivateLinesKey, PpkPrivateMacKey, PpkPublicLinesKey,
+};
