@@ -5,5 +5,7 @@ pub mod ReadBackLemmas
 pub mod LiteralLemmas
 pub mod NumberLemmas
 pub mod ValueLemmas
+pub mod SeparatorLemmas
+pub mod JoinLemmas
 pub mod PartLemmas
 pub mod OneLineLemmas

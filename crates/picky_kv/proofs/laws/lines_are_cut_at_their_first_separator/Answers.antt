@@ -1,5 +1,5 @@
 -- Both ways, and once.
-use Rattle.picky_kv.proofs.PartLemmas.{key_and_value_iff, key_and_value_none_iff, parts_are_unique}
+use Rattle.picky_kv.proofs.SeparatorLemmas.{key_and_value_iff, key_and_value_none_iff, parts_are_unique}
 use Rattle.picky_kv.proofs.laws.lines_are_cut_at_their_first_separator.Goals as goal
 
 pub returns : goal.returns
