@@ -1,6 +1,13 @@
 pub use Rattle.sha1.specs.Sha1
 pub use Rattle.sha2.specs.Sha256
+pub use Rattle.sha2.specs.Sha512
 pub mod Hmac
-pub mod Meanings
 pub mod Mac
+pub mod Ranges
+pub mod Zeros
+pub mod Meanings
+pub mod Fills
+pub mod Failures
+pub mod Toy
+pub mod Memory
 pub mod carried

@@ -1,1 +1,5 @@
 pub mod Meanings
+pub mod Zeros
+pub mod Bytes
+pub mod ToyCipher
+pub mod ToyDerivation

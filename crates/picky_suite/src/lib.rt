@@ -1,9 +1,21 @@
-//! The MACs that PuTTY's key files carry, HMAC over SHA-1 and SHA-256 (RFC 2104), and the trait by
-//! which a caller hands in its cryptography.
+//! The cryptography that callers hand in, as two traits: MACs, key derivations and ciphers, and signatures.
+//!
+//! The MACs that PuTTY's key files carry, HMAC over SHA-1 and SHA-256 (RFC 2104), are this crate's own. Ciphers,
+//! derivations and signatures come from outside, and may fail; `MemorySuite` and `MemorySigner` stand in for them
+//! in tests.
 #![tactic(auto)]
 
-pub use hmac::{hmac_sha1, hmac_sha256};
-pub use suite::{PlainSuite, Suite};
-
+mod flavour;
 mod hmac;
+mod memory;
+mod plain;
+mod ranges;
 mod suite;
+mod toy;
+
+pub use flavour::Flavour;
+pub use hmac::{hmac_sha1, hmac_sha256};
+pub use memory::MemorySuite;
+pub use plain::PlainSuite;
+pub use ranges::{argon2_ok, bcrypt_ok};
+pub use suite::Suite;
