@@ -1,1 +1,2 @@
 pub mod ToyLemmas
+pub mod RangeLemmas

@@ -8,6 +8,8 @@ pub mod Zeros
 pub mod Meanings
 pub mod Fills
 pub mod Failures
+pub mod Signs
 pub mod Toy
 pub mod Memory
 pub mod carried
+pub mod inner

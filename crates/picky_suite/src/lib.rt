@@ -6,16 +6,23 @@
 #![tactic(auto)]
 
 mod flavour;
+mod handed;
 mod hmac;
+pub mod laws;
 mod memory;
+mod memory_signer;
 mod plain;
 mod ranges;
+mod signer;
 mod suite;
 mod toy;
 
 pub use flavour::Flavour;
+pub use handed::HandedSigner;
 pub use hmac::{hmac_sha1, hmac_sha256};
 pub use memory::MemorySuite;
+pub use memory_signer::MemorySigner;
 pub use plain::PlainSuite;
 pub use ranges::{argon2_ok, bcrypt_ok};
+pub use signer::{SignError, Signer};
 pub use suite::Suite;
