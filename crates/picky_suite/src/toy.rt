@@ -20,7 +20,8 @@ pub(crate) fn seal_text(key: &[u8], iv: &[u8; 16], text: &mut [u8])
 {
     let mask = block_at(key, 0);
     let mut before = *iv;
-    for i in 0..text.len() / BLOCK_LEN {
+    let count = text.len() / BLOCK_LEN;
+    for i in 0..count {
         before = seal_at(&mask, &before, text, i * BLOCK_LEN);
     }
 }
@@ -32,7 +33,8 @@ pub(crate) fn open_text(key: &[u8], iv: &[u8; 16], text: &mut [u8])
 {
     let mask = block_at(key, 0);
     let mut before = *iv;
-    for i in 0..text.len() / BLOCK_LEN {
+    let count = text.len() / BLOCK_LEN;
+    for i in 0..count {
         before = open_at(&mask, &before, text, i * BLOCK_LEN);
     }
 }
