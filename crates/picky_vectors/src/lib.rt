@@ -55,6 +55,8 @@ mod runs;
 #[cfg(test)]
 mod statuses;
 #[cfg(test)]
+mod suites;
+#[cfg(test)]
 mod views;
 #[cfg(test)]
 mod wire_rows;

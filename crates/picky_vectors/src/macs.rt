@@ -2,7 +2,7 @@
 //! standard's.
 
 use crate::fakes::hex_of;
-use picky_suite::{PlainSuite, Suite, hmac_sha1, hmac_sha256};
+use picky_suite::{MemorySuite, PlainSuite, Suite, hmac_sha1, hmac_sha256};
 use std::test::Fail;
 
 // A key and a message, and their two MACs in hex.
@@ -133,7 +133,8 @@ fn macs_of<S: Suite>(suite: &S, key: &[u8], message: &[u8]) -> ([u8; 20], [u8; 3
 
 #[test]
 fn gives_the_published_values(rt: HostRuntime) -> Result<(), Fail> {
-    let suite = PlainSuite::new();
+    let plain = PlainSuite::new();
+    let tested = MemorySuite::new(rt.alloc(), &[])?;
     for row in &ROWS {
         let name = row.name;
         let macs = (
@@ -144,7 +145,8 @@ fn gives_the_published_values(rt: HostRuntime) -> Result<(), Fail> {
         assert_eq!(rt; sha1.as_str(), row.sha1, "HMAC-SHA-1, {name}");
         let sha256 = hex_of(rt.alloc(), &macs.1)?;
         assert!(rt; sha256.starts_with(row.sha256), "HMAC-SHA-256, {name}");
-        assert_eq!(rt; macs_of(&suite, row.key, row.message), macs, "{name}");
+        assert_eq!(rt; macs_of(&plain, row.key, row.message), macs, "{name}");
+        assert_eq!(rt; macs_of(&tested, row.key, row.message), macs, "{name}");
     }
     Ok(())
 }

@@ -1,0 +1,249 @@
+//! What the suite and the signers for tests answer, against values of Python's hashlib, and calls that fail by their
+//! number.
+
+use crate::fakes::hex_of;
+use picky_keys::{Issuer, PublicKey, SignatureAlgorithm};
+use picky_suite::laws::{
+    the_counter_cipher_undoes_itself, two_signatures_are_good, what_is_sealed_is_opened,
+    what_is_sealed_under_a_passphrase_is_opened,
+};
+use picky_suite::{
+    Flavour, HandedSigner, MemorySigner, MemorySuite, PlainSuite, SignError, Signer, Suite,
+    argon2_ok, bcrypt_ok,
+};
+use picky_wire::{Bytes, Failed};
+use std::alloc::Global;
+use std::test::Fail;
+
+const PASS: &[u8] = b"password";
+
+const SALT: &[u8] = b"saltsalt";
+
+// bytes(range(32))
+static KEY: [u8; 32] = [
+    0, 1, 2, 3, 4, 5, 6, 7, 8, 9, 10, 11, 12, 13, 14, 15, 16, 17, 18, 19, 20, 21, 22, 23, 24, 25,
+    26, 27, 28, 29, 30, 31,
+];
+
+// bytes(range(100, 116))
+static IV: [u8; 16] = [
+    100, 101, 102, 103, 104, 105, 106, 107, 108, 109, 110, 111, 112, 113, 114, 115,
+];
+
+// bytes(range(150, 183))
+static TEXT: [u8; 33] = [
+    150, 151, 152, 153, 154, 155, 156, 157, 158, 159, 160, 161, 162, 163, 164, 165, 166, 167, 168,
+    169, 170, 171, 172, 173, 174, 175, 176, 177, 178, 179, 180, 181, 182,
+];
+
+// from hashlib import sha512
+// n32 = lambda n: n.to_bytes(4, "big")
+// s = lambda b: n32(len(b)) + b
+// d = lambda ns: b"".join(sha512(s(b"password") + s(b"saltsalt") + b"".join(map(n32, ns)) + bytes([i])).digest()
+//                         for i in (0, 1))
+// print(d([16])[:32].hex(), d([16])[:48].hex())
+#[test]
+fn bcrypt_gives_the_digests_of_python(rt: HostRuntime) -> Result<(), Fail> {
+    let mut suite = MemorySuite::new(rt.alloc(), &[])?;
+    let mut short = [0; 32];
+    suite.bcrypt(PASS, SALT, 16, &mut short)?;
+    let short = hex_of(rt.alloc(), &short)?;
+    assert_eq!(rt;
+        short.as_str(),
+        "537431a36b9dc5b8428688a838cb14c687b81a6cfec04be28524f258a632567c"
+    );
+    let mut long = [0; 48];
+    suite.bcrypt(PASS, SALT, 16, &mut long)?;
+    let long = hex_of(rt.alloc(), &long)?;
+    assert_eq!(rt;
+        long.as_str(),
+        "537431a36b9dc5b8428688a838cb14c687b81a6cfec04be28524f258a632567c86f7dd556e333b02cbfa1dd8bc2b17d3"
+    );
+    Ok(())
+}
+
+// A flavour, and what is derived.
+struct Derived {
+    flavour: Flavour,
+    wanted: &'static str,
+}
+
+// print(*[d([y, 8192, 21, 1])[:80].hex() for y in (0, 1, 2)]), with d as for bcrypt
+static DERIVED: [Derived; 3] = [
+    Derived {
+        flavour: Flavour::Argon2d,
+        wanted: "2b772b88dd0767ac92a30f119206f5fa523be2e2fc8ecac58f7264cdf3ad8baf58ce52ca9db477cd\
+                9b0b04803a3f5b93de0ec5a9492894d2541108c837ea3b26c71063c86958dd0c15705816b113db56",
+    },
+    Derived {
+        flavour: Flavour::Argon2i,
+        wanted: "537ba0ee31f3c4e46ef7d09320815a8da88a259acb3ea9705d0d946e562d127db23dee1756780517\
+                242b939d499377dd2cf52344a7c08b7a790ea22fd3664e30dada557e6937a2303fa1d954f92a4384",
+    },
+    Derived {
+        flavour: Flavour::Argon2id,
+        wanted: "362604bed7e8ab4a5ce03512c80e275b278c634269b37467ef78a39097055feb9c4276bc270f3311\
+                a0cbb4d1137218513e1152f6974211c735e9c28163dd2ee150ae2625fc219910cc923a76eb251535",
+    },
+];
+
+#[test]
+fn argon2_gives_the_digests_of_python(rt: HostRuntime) -> Result<(), Fail> {
+    let mut suite = MemorySuite::new(rt.alloc(), &[])?;
+    for row in &DERIVED {
+        let mut out = [0; 80];
+        suite.argon2(row.flavour, 8192, 21, 1, PASS, SALT, &mut out)?;
+        let out = hex_of(rt.alloc(), &out)?;
+        assert_eq!(rt; out.as_str(), row.wanted, "{:?}", row.flavour);
+    }
+    Ok(())
+}
+
+// xor = lambda a, b: bytes(x ^ y for x, y in zip(a, b))
+// key, iv, text = bytes(range(32)), bytes(range(100, 116)), bytes(range(150, 183))
+// one = xor(xor(text[:16], iv), key)
+// print((one + xor(xor(text[16:32], one), key)).hex())
+#[test]
+fn two_blocks_are_sealed_in_a_chain(rt: HostRuntime) -> Result<(), Fail> {
+    let mut suite = MemorySuite::new(rt.alloc(), &[])?;
+    let mut block = [0; 32];
+    block.copy_from_slice(&TEXT[..32]);
+    suite.cbc_seal(&KEY, &IV, &mut block)?;
+    let sealed = hex_of(rt.alloc(), &block)?;
+    assert_eq!(rt;
+        sealed.as_str(),
+        "f2f3fcfdf6f7f0f1fafbc4c5dedfd8d95455565758595a5b5c5d7e7f60616263"
+    );
+    suite.cbc_open(&KEY, &IV, &mut block)?;
+    assert_eq!(rt; block.as_slice(), &TEXT[..32]);
+    Ok(())
+}
+
+// print(b"".join(xor(xor(text[i:i + 16], key), iv) for i in (0, 16, 32)).hex()), with the words as for sealing
+#[test]
+fn a_cut_block_is_xored_too(rt: HostRuntime) -> Result<(), Fail> {
+    let mut suite = MemorySuite::new(rt.alloc(), &[])?;
+    let mut block = TEXT;
+    suite.ctr(&KEY, &IV, &mut block)?;
+    let sealed = hex_of(rt.alloc(), &block)?;
+    assert_eq!(rt;
+        sealed.as_str(),
+        "f2f3fcfdf6f7f0f1fafbc4c5dedfd8d9c2c3cccdc6c7c0c1cacbd4d5cecfc8c9d2"
+    );
+    Ok(())
+}
+
+#[test]
+fn what_is_sealed_comes_back(rt: HostRuntime) -> Result<(), Fail> {
+    let mut suite = MemorySuite::new(rt.alloc(), &[])?;
+    let mut block = KEY;
+    what_is_sealed_is_opened(&mut suite, &KEY, &IV, &mut block)?;
+    assert_eq!(rt; block, KEY);
+    what_is_sealed_under_a_passphrase_is_opened(&mut suite, PASS, SALT, 16, &mut block)?;
+    assert_eq!(rt; block, KEY);
+    let mut text = TEXT;
+    the_counter_cipher_undoes_itself(&mut suite, &KEY, &IV, &mut text)?;
+    assert_eq!(rt; text, TEXT);
+    Ok(())
+}
+
+// One call of each kind that can fail, by a number.
+fn nth_call<S: Suite>(suite: &mut S, n: u64) -> Result<(), Failed> {
+    let mut block = [0; 32];
+    match n {
+        0 => suite.bcrypt(PASS, SALT, 16, &mut block),
+        1 => suite.argon2(Flavour::Argon2id, 8, 1, 1, PASS, SALT, &mut [0; 80]),
+        2 => suite.cbc_seal(&KEY, &IV, &mut block),
+        3 => suite.cbc_open(&KEY, &IV, &mut block),
+        _ => suite.ctr(&KEY, &IV, &mut block),
+    }
+}
+
+#[test]
+fn a_suite_fails_the_listed_call(rt: HostRuntime) -> Result<(), Fail> {
+    for listed in 0..5 {
+        let mut suite = MemorySuite::new(rt.alloc(), &[listed])?;
+        for call in 0..7 {
+            assert_eq!(rt;
+                nth_call(&mut suite, call).is_err(),
+                call == listed,
+                "call {call}, where {listed} fails"
+            );
+        }
+    }
+    Ok(())
+}
+
+#[test]
+fn the_plain_suite_fails_each_call_and_counts_it(rt: HostRuntime) -> Result<(), Fail> {
+    for call in 0..5 {
+        let mut suite = PlainSuite::new();
+        assert_eq!(rt; nth_call(&mut suite, call), Err(Failed), "call {call}");
+        assert_ne!(rt; suite, PlainSuite::new(), "call {call}");
+    }
+    Ok(())
+}
+
+// Whose key is on another device.
+fn issuer() -> Issuer {
+    Issuer::Public(PublicKey::Ed { key: [7; 32] })
+}
+
+fn sign<G: Signer>(alloc: Global, signer: &mut G, message: &[u8]) -> Result<Bytes, SignError> {
+    signer.sign(alloc, &issuer(), SignatureAlgorithm::Ed25519, message)
+}
+
+// python3 -c 'import hashlib; print(hashlib.sha256(b"message").hexdigest())'
+#[test]
+fn a_signer_signs_by_the_digest_and_fails_the_listed_call(rt: HostRuntime) -> Result<(), Fail> {
+    for listed in 0..3 {
+        let mut signer = MemorySigner::new(rt.alloc(), &[listed])?;
+        for call in 0..5 {
+            match sign(rt.alloc(), &mut signer, b"message") {
+                Ok(signature) => {
+                    let hex = hex_of(rt.alloc(), signature.as_slice())?;
+                    assert_eq!(rt;
+                        hex.as_str(),
+                        "ab530a13e45914982b79f9b7e3fba994cfd1f3fb22f71cea1afbf02b460c6d1d"
+                    );
+                    assert_ne!(rt; call, listed);
+                }
+                Err(error) => {
+                    assert_eq!(rt; error, SignError::Failed);
+                    assert_eq!(rt; call, listed);
+                }
+            }
+        }
+    }
+    let mut signer = MemorySigner::new(rt.alloc(), &[])?;
+    let algorithm = SignatureAlgorithm::Ed25519;
+    let both = two_signatures_are_good(&mut signer, rt.alloc(), &issuer(), algorithm, b"message")?;
+    assert_eq!(rt; both.0, both.1);
+    Ok(())
+}
+
+#[test]
+fn a_handed_signature_is_answered_each_time(rt: HostRuntime) -> Result<(), Fail> {
+    let mut signer = HandedSigner::new(Some(Bytes::new(rt.alloc(), b"signature")?));
+    for _ in 0..2 {
+        let signature = sign(rt.alloc(), &mut signer, b"message")?;
+        assert_eq!(rt; signature.as_slice(), b"signature".as_slice());
+    }
+    let mut without = HandedSigner::new(None);
+    for _ in 0..2 {
+        assert_eq!(rt;
+            sign(rt.alloc(), &mut without, b"message"),
+            Err(SignError::Failed)
+        );
+    }
+    Ok(())
+}
+
+#[test]
+fn the_ranges_hold_their_ends(rt: HostRuntime) -> Result<(), Fail> {
+    assert!(rt; bcrypt_ok(1, 1, 1));
+    assert!(rt; !bcrypt_ok(1, 1, 0));
+    assert!(rt; argon2_ok(8 * 16_777_215, 1, 16_777_215, 0, 8));
+    assert!(rt; !argon2_ok(7 * 2, 1, 2, 0, 8));
+    Ok(())
+}
