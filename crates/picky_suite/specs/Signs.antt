@@ -1,5 +1,6 @@
 -- What a call promises that asks a device to sign.
-use Rattle.std.specs.Prelude.{◌≡◌, ◌↔◌, ℕ, true, List, Option, None, Result, Err, OnOk, IfOk}
+use Rattle.std.specs.Prelude.{◌≡◌, ◌↔◌, ℕ, true, List, Option, Some, None, Result, Err, OnOk, IfOk}
+use Rattle.sha2.specs.Sha256.{sha256}
 use Rattle.picky_keys.specs.declared.public_key.PublicKey.{PublicKey}
 use Rattle.picky_keys.specs.declared.algorithm.SignatureAlgorithm.{SignatureAlgorithm}
 use Rattle.picky_wire.specs.Count.{Rose, Calls, count_one, next_fails, passed, failed}
@@ -15,6 +16,10 @@ pub record Signs {S : Type 0} (signs : S → PublicKey → SignatureAlgorithm �
   pub calm : OnOk result (faults new ≡ faults old)
   pub unchanged : result ≡ Err errors.NoMemory → new ≡ old
 
+-- the signer in memory calls one signature of a message good, under each key: its digest
+abbrev pub SignsByDigest : PublicKey → SignatureAlgorithm → List ℕ → List ℕ → Type 0
+SignsByDigest key algorithm message signature = signature ≡ sha256 message
+
 -- a call of the signer in memory fails exactly where its number is listed, and is counted; one that wants memory isn't
 pub record SignsAsListed (result : Result (List ℕ) SignError) (old new : Calls) : Type 0 where
   pub fails : (result ≡ Err errors.Failed) ↔ (next_fails old ≡ true)
@@ -25,6 +30,10 @@ pub record SignsAsListed (result : Result (List ℕ) SignError) (old new : Calls
 pub record Handed : Type 0 where
   pub signature : Option (List ℕ)
   pub faults : ℕ
+
+-- that signature alone is good, of each message
+abbrev pub SignsAsHanded : Handed → PublicKey → SignatureAlgorithm → List ℕ → List ℕ → Type 0
+SignsAsHanded signer key algorithm message signature = signer.signature ≡ Some signature
 
 -- a call of the signer that hands it out fails exactly where there is none, and is counted
 pub record HandsOut (result : Result (List ℕ) SignError) (old new : Handed) : Type 0 where

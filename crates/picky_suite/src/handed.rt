@@ -1,9 +1,11 @@
 //! The signer that hands out a signature which another device made.
 
-ghost use Rattle.std.specs.Prelude.{◌≡◌, ◌-◌, ◌^◌, Some, min};
+ghost use Rattle.std.specs.Prelude.{◌≡◌, ◌↔◌, ◌-◌, ◌^◌, ℕ, List, Some, min};
 ghost use Rattle.std.proofs.Common.{arith};
 ghost use Rattle.picky_keys.specs.PrivateKey.{issuer_key};
-ghost use Rattle.picky_suite.specs.Signs.{Signs, Handed, HandsOut};
+ghost use Rattle.picky_keys.specs.declared.public_key.PublicKey.{PublicKey};
+ghost use Rattle.picky_keys.specs.declared.algorithm.SignatureAlgorithm.{SignatureAlgorithm as Algorithm};
+ghost use Rattle.picky_suite.specs.Signs.{Signs, SignsAsHanded, Handed, HandsOut};
 
 use crate::signer::{SignError, Signer};
 use picky_keys::{Issuer, SignatureAlgorithm};
@@ -27,7 +29,9 @@ impl Model for HandedSigner {
 impl HandedSigner {
     /// Answers this signature; with `None` each call fails.
     pub fn new(signature: Option<Bytes>) -> HandedSigner
-        ensures { result ≡ record { signature = signature; faults = 0 } }
+        ensures signs { (key : PublicKey) (algorithm : Algorithm) (message answered : List ℕ)
+            → ⟦<HandedSigner as Signer>⟧.signs result key algorithm message answered ↔ (signature ≡ Some answered) }
+        ensures handed { result ≡ record { signature = signature; faults = 0 } }
     {
         HandedSigner {
             signature,
@@ -37,7 +41,7 @@ impl HandedSigner {
 }
 
 impl Signer for HandedSigner {
-    ghost signs = { λ s key algorithm message signature. s.signature ≡ Some signature };
+    ghost signs = { SignsAsHanded };
 
     ghost faults = { λ s. min s.faults (2 ^ 64 - 1) };
 
@@ -53,8 +57,8 @@ impl Signer for HandedSigner {
         ensures hands { HandsOut result self.old self.new }
 
         // What every signer promises.
-        ensures signs { Signs (λ s key algorithm message signature. s.signature ≡ Some signature)
-            (λ s. min s.faults (2 ^ 64 - 1)) (issuer_key issuer.now) algorithm message.now result self.old self.new }
+        ensures signs { Signs SignsAsHanded (λ s. min s.faults (2 ^ 64 - 1))
+            (issuer_key issuer.now) algorithm message.now result self.old self.new }
     {
         match &self.signature {
             Some(signature) => match signature.try_clone(alloc) {

@@ -1,11 +1,13 @@
 //! The signer for tests.
 
-ghost use Rattle.std.specs.Prelude.{◌≡◌, ◌-◌, ◌^◌, min, IfOk};
+ghost use Rattle.std.specs.Prelude.{◌≡◌, ◌↔◌, ◌-◌, ◌^◌, ℕ, List, min, IfOk};
 ghost use Rattle.std.proofs.Common.{arith};
 ghost use Rattle.sha2.specs.Sha256.{sha256};
 ghost use Rattle.picky_keys.specs.PrivateKey.{issuer_key};
+ghost use Rattle.picky_keys.specs.declared.public_key.PublicKey.{PublicKey};
+ghost use Rattle.picky_keys.specs.declared.algorithm.SignatureAlgorithm.{SignatureAlgorithm as Algorithm};
 ghost use Rattle.picky_wire.specs.Count.{Calls};
-ghost use Rattle.picky_suite.specs.Signs.{Signs, SignsAsListed};
+ghost use Rattle.picky_suite.specs.Signs.{Signs, SignsByDigest, SignsAsListed};
 
 use crate::signer::{SignError, Signer};
 use picky_keys::{Issuer, SignatureAlgorithm};
@@ -30,7 +32,9 @@ impl Model for MemorySigner {
 impl MemorySigner {
     /// Fails the calls whose numbers are listed, counted from 0. A call that runs out of memory isn't counted.
     pub fn new(alloc: Global, failing: &[u64]) -> Result<MemorySigner, NoMemory>
-        ensures { IfOk result
+        ensures signs { IfOk result (λ signer. (key : PublicKey) (algorithm : Algorithm) (message signature : List ℕ)
+            → ⟦<MemorySigner as Signer>⟧.signs signer key algorithm message signature ↔ (signature ≡ sha256 message)) }
+        ensures calls { IfOk result
             (λ signer. signer ≡ record { failing = failing.now; made = 0; faults = 0 }) }
     {
         let calls = FailingCalls::new(alloc, failing)?;
@@ -39,7 +43,7 @@ impl MemorySigner {
 }
 
 impl Signer for MemorySigner {
-    ghost signs = { λ _ key algorithm message signature. signature ≡ sha256 message };
+    ghost signs = { λ _. SignsByDigest };
 
     ghost faults = { λ s. min s.faults (2 ^ 64 - 1) };
 
@@ -55,8 +59,8 @@ impl Signer for MemorySigner {
         ensures listed { SignsAsListed result self.old self.new }
 
         // What every signer promises.
-        ensures signs { Signs (λ _ key algorithm message signature. signature ≡ sha256 message)
-            (λ s. min s.faults (2 ^ 64 - 1)) (issuer_key issuer.now) algorithm message.now result self.old self.new }
+        ensures signs { Signs (λ _. SignsByDigest) (λ s. min s.faults (2 ^ 64 - 1))
+            (issuer_key issuer.now) algorithm message.now result self.old self.new }
     {
         if self.calls.next_fails() {
             self.calls.count_failed();
