@@ -9,7 +9,9 @@ use Rattle.picky_suite.specs.declared.signer.SignError.TheVariants as errors
 
 -- which signatures are good stays; an Ok is a good one under the key, and leaves the count of faults; Failed counts
 -- one fault; want of memory leaves the device as it was
-pub record Signs {S : Type 0} (signs : S → PublicKey → SignatureAlgorithm → List ℕ → List ℕ → Type 0) (faults : S → ℕ) (key : PublicKey) (algorithm : SignatureAlgorithm) (message : List ℕ) (result : Result (List ℕ) SignError) (old new : S) : Type 0 where
+pub record Signs {S : Type 0} (signs : S → PublicKey → SignatureAlgorithm → List ℕ → List ℕ → Type 0)
+    (faults : S → ℕ) (key : PublicKey) (algorithm : SignatureAlgorithm) (message : List ℕ)
+    (result : Result (List ℕ) SignError) (old new : S) : Type 0 where
   pub kept : (k : PublicKey) (a : SignatureAlgorithm) (m s : List ℕ) → signs new k a m s ↔ signs old k a m s
   pub signed : IfOk result (λ signature. signs old key algorithm message signature)
   pub counted : result ≡ Err errors.Failed → Rose (faults old) (faults new)

@@ -5,6 +5,7 @@ use picky_convert::{ConvertError, ReadError};
 use picky_kv::{KvError, PpkValueError};
 use picky_ppk::PuttyError;
 use picky_sshpub::SshPublicKeyError;
+use picky_suite::SignError;
 use picky_wire::{Failed, IoKind, NoMemory, SizeError, Text, WireError};
 use std::alloc::{AllocError, AllocGlobal, Global};
 use std::fmt::Display;
@@ -56,6 +57,18 @@ fn prints_the_errors_of_the_wire(rt: HostRuntime) -> Result<(), Fail> {
             (WireError::InvalidUtf8, "InvalidUtf8"),
             (WireError::TooLong, "TooLong"),
             (WireError::NoMemory, "NoMemory"),
+        ],
+    )?;
+    Ok(())
+}
+
+#[test]
+fn prints_the_errors_of_signers(rt: HostRuntime) -> Result<(), Fail> {
+    prints(
+        &rt,
+        &[
+            (SignError::Failed, "Failed"),
+            (SignError::NoMemory, "NoMemory"),
         ],
     )?;
     Ok(())
