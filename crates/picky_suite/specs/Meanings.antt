@@ -1,4 +1,5 @@
--- What the calls of a suite mean, as functions of their arguments; the MACs are RFC 2104's.
+-- What the calls of a suite mean, as functions of their arguments. A suite's MACs are its own, of the right size; those of
+-- this crate's suites are RFC 2104's.
 use Rattle.std.specs.Prelude.{◌≡◌, ℕ, List, length, refl}
 use Rattle.sha1.specs.Sha1.{sha1}
 use Rattle.sha2.specs.Sha256.{sha256}

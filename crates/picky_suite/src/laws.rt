@@ -1,11 +1,19 @@
 //! The laws of this crate: what holds over any suite and any signer, as the contracts of calls that use one.
 
-ghost use Rattle.std.specs.Prelude.{◌≡◌, ◌↔◌, ℕ, true, length, IfOk};
+ghost use Rattle.std.specs.Prelude.{◌≡◌, ◌↔◌, ℕ, List, true, false, length, Err, IfOk, OnOk, OnErr};
+ghost use Rattle.picky_wire.specs.Count.{Rose};
+ghost use Rattle.picky_wire.specs.Equality.{IsEquality};
+ghost use Rattle.picky_keys.specs.declared.public_key.PublicKey.{PublicKey};
+ghost use Rattle.picky_keys.specs.declared.algorithm.SignatureAlgorithm.{SignatureAlgorithm as Algorithm};
+ghost use Rattle.picky_suite.specs.Failures.{IsAskedFault};
 ghost use Rattle.picky_keys.specs.PrivateKey.{issuer_key};
 ghost use Rattle.picky_suite.specs.Ranges.{BcryptOk, Argon2Ok, bcrypt_fits, argon2_fits, IsCipherKey, IsWhole};
 ghost use Rattle.picky_suite.specs.Fills.{Fills};
 ghost use Rattle.picky_suite.specs.inner.Parts.{key_of, iv_of};
 
+use crate::flavour::Flavour;
+use crate::plain::PlainSuite;
+use crate::ranges::bcrypt_ok;
 use crate::signer::{SignError, Signer};
 use crate::suite::Suite;
 use picky_keys::{Issuer, SignatureAlgorithm};
@@ -57,6 +65,27 @@ pub fn what_is_sealed_under_a_passphrase_is_opened<S: Suite>(
     open_under(suite, pass, salt, rounds, block)
 }
 
+/// Where the range is tested first, the suite is asked only inside it, and its fault comes only there.
+pub fn a_tested_range_is_asked<S: Suite>(
+    suite: &mut S,
+    pass: &[u8],
+    salt: &[u8],
+    rounds: u32,
+    out: &mut [u8; 48],
+) -> Result<bool, Failed>
+    ensures asked { IfOk result (λ asked. asked ≡ bcrypt_fits (length pass.now) (length salt.now) rounds) }
+    ensures fault { OnErr result (IsAskedFault (bcrypt_fits (length pass.now) (length salt.now) rounds)
+        (Rose (S.faults suite.old) (S.faults suite.new))) }
+    ensures unasked { bcrypt_fits (length pass.now) (length salt.now) rounds ≡ false
+        → (suite.new ≡ suite.old) × (out.new ≡ out.old) }
+{
+    if !bcrypt_ok(pass.len(), salt.len(), rounds) {
+        return Ok(false);
+    }
+    suite.bcrypt(pass, salt, rounds, out)?;
+    Ok(true)
+}
+
 /// Two signatures of one message are good by one relation.
 pub fn two_signatures_are_good<G: Signer>(
     signer: &mut G,
@@ -67,11 +96,21 @@ pub fn two_signatures_are_good<G: Signer>(
 ) -> Result<(Bytes, Bytes), SignError>
     ensures first { IfOk result (λ both. G.signs signer.old (issuer_key issuer.now) algorithm message.now both.0) }
     ensures second { IfOk result (λ both. G.signs signer.old (issuer_key issuer.now) algorithm message.now both.1) }
+    ensures calm { OnOk result (G.faults signer.new ≡ G.faults signer.old) }
+    ensures counted { result ≡ Err SignError.Failed → Rose (G.faults signer.old) (G.faults signer.new) }
+    ensures kept { (k : PublicKey) (a : Algorithm) (m s : List ℕ) → G.signs signer.new k a m s ↔ G.signs signer.old k a m s }
 {
     let first = signer.sign(alloc, issuer, algorithm, message)?;
     let second = signer.sign(alloc, issuer, algorithm, message)?;
     Ok((first, second))
 }
+
+/// Flavours, refusals to sign and plain suites are equal exactly where their contents are.
+pub fn equality_is_of_contents()
+    ensures flavour { IsEquality ⟦<Flavour as PartialEq>⟧.eq }
+    ensures refusal { IsEquality ⟦<SignError as PartialEq>⟧.eq }
+    ensures suite { IsEquality ⟦<PlainSuite as PartialEq>⟧.eq }
+{}
 
 /// The tests of the ranges hold exactly in the ranges.
 #[tactic(auto, using(crate::proofs::RangeLemmas::bcrypt_decides, crate::proofs::RangeLemmas::argon2_decides))]

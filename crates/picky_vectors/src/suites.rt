@@ -4,8 +4,8 @@
 use crate::fakes::hex_of;
 use picky_keys::{Issuer, PublicKey, SignatureAlgorithm};
 use picky_suite::laws::{
-    the_counter_cipher_undoes_itself, two_signatures_are_good, what_is_sealed_is_opened,
-    what_is_sealed_under_a_passphrase_is_opened,
+    a_tested_range_is_asked, the_counter_cipher_undoes_itself, two_signatures_are_good,
+    what_is_sealed_is_opened, what_is_sealed_under_a_passphrase_is_opened,
 };
 use picky_suite::{
     Flavour, HandedSigner, MemorySigner, MemorySuite, PlainSuite, SignError, Signer, Suite,
@@ -241,9 +241,49 @@ fn a_handed_signature_is_answered_each_time(rt: HostRuntime) -> Result<(), Fail>
 
 #[test]
 fn the_ranges_hold_their_ends(rt: HostRuntime) -> Result<(), Fail> {
-    assert!(rt; bcrypt_ok(1, 1, 1));
-    assert!(rt; !bcrypt_ok(1, 1, 0));
+    // RFC 9106, section 3.1: 1 to 2^24 - 1 lanes, 8 KiB a lane, a pass, lengths below 2^32; a salt of 8 bytes is ours.
+    let limit = 1usize << 32;
+    assert!(rt; bcrypt_ok(1, 1, 1) && bcrypt_ok(limit - 1, limit - 1, u32::MAX));
+    let refused = [
+        (0, 1, 1),
+        (limit, 1, 1),
+        (1, 0, 1),
+        (1, limit, 1),
+        (1, 1, 0),
+    ];
+    for (pass, salt, rounds) in refused {
+        assert!(rt; !bcrypt_ok(pass, salt, rounds));
+    }
     assert!(rt; argon2_ok(8 * 16_777_215, 1, 16_777_215, 0, 8));
-    assert!(rt; !argon2_ok(7 * 2, 1, 2, 0, 8));
+    assert!(rt; argon2_ok(u32::MAX, u32::MAX, 1, limit - 1, limit - 1));
+    let refused = [
+        (8, 1, 0, 0, 8),
+        (u32::MAX, 1, 16_777_216, 0, 8),
+        (7 * 2, 1, 2, 0, 8),
+        (8, 0, 1, 0, 8),
+        (8, 1, 1, limit, 8),
+        (8, 1, 1, 0, 7),
+        (8, 1, 1, 0, limit),
+    ];
+    for (memory, passes, lanes, pass, salt) in refused {
+        assert!(rt; !argon2_ok(memory, passes, lanes, pass, salt));
+    }
+    Ok(())
+}
+
+#[test]
+fn a_suite_is_asked_inside_the_range_alone(rt: HostRuntime) -> Result<(), Fail> {
+    let mut suite = MemorySuite::new(rt.alloc(), &[1])?;
+    let mut out = [0; 48];
+    assert_eq!(rt;
+        a_tested_range_is_asked(&mut suite, b"p", b"salt", 0, &mut out),
+        Ok(false)
+    );
+    assert_eq!(rt; out, [0; 48]);
+    assert_eq!(rt;
+        a_tested_range_is_asked(&mut suite, b"p", b"salt", 16, &mut out),
+        Ok(true)
+    );
+    assert!(rt; a_tested_range_is_asked(&mut suite, b"p", b"salt", 16, &mut out).is_err());
     Ok(())
 }
