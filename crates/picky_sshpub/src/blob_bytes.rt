@@ -6,11 +6,11 @@ ghost use Rattle.picky_wire.specs.declared.error.IoKind.TheVariants as io_kinds;
 ghost use Rattle.picky_sshpub.specs.Blob.{blob_of};
 ghost use Rattle.picky_sshpub.specs.LineRefusal.{blob_key, blob_bytes};
 
+use crate::blob::pieces;
 use crate::error::SshPublicKeyError;
-use crate::growing::Growing;
 use crate::key::SshBasePublicKey;
 use crate::view::PublicView;
-use picky_wire::{Bytes, NoMemory, SliceSource, SshComplexTypeDecode, SshComplexTypeEncode};
+use picky_wire::{Bytes, NoMemory, SliceSource, SshComplexTypeDecode, push_pieces};
 use std::alloc::Global;
 
 /// How many bytes a length of the wire can't say.
@@ -72,12 +72,9 @@ fn key_of_long(alloc: Global, blob: &[u8]) -> Result<SshBasePublicKey, SshPublic
 pub fn bytes_of(alloc: Global, key: &SshBasePublicKey) -> Result<Vec<u8>, NoMemory>
     ensures { IfOk result (λ blob. blob.items ≡ blob_of key.now) }
 {
-    let mut sink = Growing::new(alloc);
-    match key.encode(&mut sink) {
-        Ok(()) => {
-            let Growing { bytes, .. } = sink;
-            Ok(bytes)
-        }
+    let mut blob = Vec::new(alloc);
+    match push_pieces(&mut blob, &pieces(key)) {
+        Ok(()) => Ok(blob),
         Err(_) => Err(NoMemory),
     }
 }

@@ -5,7 +5,6 @@ mod blob;
 mod blob_bytes;
 mod error;
 mod fingerprint;
-mod growing;
 mod key;
 pub mod laws;
 mod line;
@@ -15,4 +14,4 @@ mod view;
 
 pub use error::SshPublicKeyError;
 pub use key::{SshBasePublicKey, SshPublicKey};
-pub use view::PublicView;
+pub use view::{PublicView, ed_key_at, ed_key_of, kind_at};

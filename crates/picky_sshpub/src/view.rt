@@ -3,14 +3,12 @@
 ghost use Rattle.std.specs.Prelude.{◌≡◌, ◌^◌, ◌<◌, ⊤, length, IfOk};
 ghost use Rattle.picky_wire.specs.View.{Seen, Lies, end_of, part_bytes, why_in};
 ghost use Rattle.picky_sshpub.specs.Blob.{key_type, ed_key, rsa_fields, ec_fields, ed_fields, sk_ecdsa_fields, sk_ed_fields, fields_of, blob as blob_layout};
-ghost use Rattle.picky_sshpub.specs.Key.{IsNumber, IsString, IsText, IsEdKey, IsKey};
+ghost use Rattle.picky_sshpub.specs.Key.{IsEdKey, IsKey};
 ghost use Rattle.picky_sshpub.specs.View.{key_seen, PartsLie};
 
 use crate::key::SshBasePublicKey;
 use picky_keys::{EcCurve, KeyKind};
-use picky_wire::{
-    Bytes, Mpint, NoMemory, Part, Stuck, Text, mpint_at, sized_at, string_at, text_at, word_at,
-};
+use picky_wire::{NoMemory, Part, Stuck, mpint_at, sized_at, string_at, text_at, word_at};
 use std::alloc::Global;
 
 /// A public key whose parts are slices of its blob.
@@ -57,12 +55,12 @@ impl<'a> PublicView<'a> {
     {
         match self {
             PublicView::Rsa { e, n } => {
-                let e = mpint_of(alloc, e)?;
-                let n = mpint_of(alloc, n)?;
+                let e = e.to_mpint(alloc)?;
+                let n = n.to_mpint(alloc)?;
                 Ok(SshBasePublicKey::Rsa { e, n })
             }
             PublicView::Ec { curve, point } => {
-                let point = bytes_of(alloc, point)?;
+                let point = point.to_bytes(alloc)?;
                 Ok(SshBasePublicKey::Ec {
                     curve: *curve,
                     point,
@@ -73,13 +71,13 @@ impl<'a> PublicView<'a> {
                 Ok(SshBasePublicKey::Ed { key })
             }
             PublicView::SkEcdsaSha2NistP256 { point, application } => {
-                let point = bytes_of(alloc, point)?;
-                let application = text_of(alloc, application)?;
+                let point = point.to_bytes(alloc)?;
+                let application = application.to_text(alloc)?;
                 Ok(SshBasePublicKey::SkEcdsaSha2NistP256 { point, application })
             }
             PublicView::SkEd25519 { key, application } => {
                 let key = ed_key_of(key);
-                let application = text_of(alloc, application)?;
+                let application = application.to_text(alloc)?;
                 Ok(SshBasePublicKey::SkEd25519 { key, application })
             }
         }
@@ -99,8 +97,10 @@ fn key_at<'a>(blob: &'a [u8], from: usize) -> Result<(PublicView<'a>, usize), St
 }
 
 /// The name of a key type, as the kind that it stands for.
+///
+/// A `string` of RFC 4251, section 5. Refuses, in order: `Short`, `NotUtf8`, `Name`.
 #[tactic(auto, unfolding(crate::specs::Blob::key_type))]
-fn kind_at<'a>(blob: &'a [u8], from: usize) -> Result<(KeyKind, usize), Stuck<'a>>
+pub fn kind_at<'a>(blob: &'a [u8], from: usize) -> Result<(KeyKind, usize), Stuck<'a>>
     ensures { Seen (λ kind. kind) (λ _. ⊤) why_in key_type blob.now from result }
 {
     let (name, next) = match word_at(blob, from) {
@@ -210,9 +210,11 @@ fn sk_ed_at<'a>(blob: &'a [u8], from: usize) -> Result<(PublicView<'a>, usize), 
     Ok((PublicView::SkEd25519 { key, application }, next))
 }
 
-/// A string of 32 bytes, which both layouts with an Ed25519 key have as their field 1.
+/// An Ed25519 public key, which is field 1 of each layout that has one.
+///
+/// A `string` of 32 bytes (RFC 8709, section 4). Refuses, in order: `Short`, `Length`.
 #[tactic(auto, unfolding(crate::specs::Blob::ed_key))]
-fn ed_key_at<'a>(blob: &'a [u8], from: usize) -> Result<(Part<'a>, usize), Stuck<'a>>
+pub fn ed_key_at<'a>(blob: &'a [u8], from: usize) -> Result<(Part<'a>, usize), Stuck<'a>>
     ensures { Seen part_bytes (Lies blob.now (end_of (ed_key 1) blob.now from)) why_in (ed_key 1) blob.now from result }
 {
     match sized_at(blob, from, 32) {
@@ -221,41 +223,8 @@ fn ed_key_at<'a>(blob: &'a [u8], from: usize) -> Result<(Part<'a>, usize), Stuck
     }
 }
 
-#[tactic(auto, using(picky_layout::specs::carried::Zeros::all_is_kept))]
-fn mpint_of(alloc: Global, part: &Part<'_>) -> Result<Mpint, NoMemory>
-    requires { IsNumber part.now.bytes.now }
-    ensures { IfOk result (λ number. number ≡ part.now.bytes.now) }
-{
-    match Mpint::from_be(alloc, part.bytes) {
-        Ok(number) => Ok(number),
-        Err(_) => Err(NoMemory),
-    }
-}
-
-fn bytes_of(alloc: Global, part: &Part<'_>) -> Result<Bytes, NoMemory>
-    requires { IsString part.now.bytes.now }
-    ensures { IfOk result (λ bytes. bytes ≡ part.now.bytes.now) }
-{
-    match Bytes::new(alloc, part.bytes) {
-        Ok(bytes) => Ok(bytes),
-        Err(_) => Err(NoMemory),
-    }
-}
-
-fn text_of(alloc: Global, part: &Part<'_>) -> Result<Text, NoMemory>
-    requires { IsText part.now.bytes.now }
-    ensures { IfOk result (λ text. text ≡ part.now.bytes.now) }
-{
-    match part.as_str() {
-        Some(text) => match Text::new(alloc, text) {
-            Ok(text) => Ok(text),
-            Err(_) => Err(NoMemory),
-        },
-        None => Err(NoMemory),
-    }
-}
-
-fn ed_key_of(part: &Part<'_>) -> [u8; 32]
+/// The bytes of a part that is an Ed25519 key.
+pub fn ed_key_of(part: &Part<'_>) -> [u8; 32]
     requires { IsEdKey part.now.bytes.now }
     ensures { result ≡ part.now.bytes.now }
 {

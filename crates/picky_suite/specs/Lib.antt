@@ -8,6 +8,7 @@ pub mod Zeros
 pub mod Meanings
 pub mod Fills
 pub mod Failures
+pub mod Asked
 pub mod Signs
 pub mod Toy
 pub mod Memory

@@ -1,7 +1,7 @@
 -- Lemmas on fields that are seen at their places.
 use Rattle.std.proofs.Common.{◌≡◌, ℕ, ◌+◌, ◌-◌, ◌≤◌, ◌<◌, List, ◌++◌, length, take, drop, replicate, sym, ap, ◌∙◌, arith, refl, Ok, Err}
 use Rattle.std.specs.Prelude.{⊤, Bool, true, false}
-use Rattle.std.specs.Int.{w32, from_be_bytes}
+use Rattle.std.specs.Int.{Width, w8, w32, byte_len, from_be_bytes}
 use Rattle.std.specs.Str.{IsUtf8, is_utf8}
 use Rattle.std.proofs.lemmas.Str.{is_utf8-from_IsUtf8, IsUtf8-from_is_utf8}
 use Rattle.std.proofs.lemmas.List.{length-append, length-drop, length-take-le, take-append-drop, drop-drop, drop-take, drop_at}
@@ -9,7 +9,8 @@ use Rattle.picky_layout.specs.Flaw.{Flaw, Flawed}
 use Rattle.picky_layout.specs.Outcome.{and_then, map_err}
 use Rattle.picky_layout.specs.Combine.{narrow, each}
 use Rattle.picky_layout.specs.Narrowed.{meant}
-use Rattle.picky_layout.specs.Wire.{byte_array, uint32, string}
+use Rattle.picky_layout.specs.Wire.{byte_array, number, uint32, string}
+use Rattle.picky_layout.specs.Numbers.{byte}
 use Rattle.picky_layout.specs.Zeros.{without_zeros}
 use Rattle.picky_layout.specs.carried.Zeros.{zeros_in_front}
 use Rattle.picky_wire.specs.declared.view.Part.{Part}
@@ -69,28 +70,52 @@ byte_array_unseen n from blob short =
 
 -- ---- numbers
 
--- four bytes at the place, read as one number
-pub uint32_seen : (from n : ℕ) (blob bytes : List ℕ) → from + 4 ≤ length blob
-    → bytes ≡ take 4 (drop from blob) → n ≡ from_be_bytes w32 bytes
-    → Seen (λ m. m) (λ _. ⊤) Flawed uint32 blob from (Ok (n, from + 4))
-unfolding uint32 byte_array
-uint32_seen from n blob bytes fits is number =
+-- bytes at the place, read as one number
+number_seen : (w : Width) (from n : ℕ) (blob bytes : List ℕ) → from + byte_len w ≤ length blob
+    → bytes ≡ take (byte_len w) (drop from blob) → n ≡ from_be_bytes w bytes
+    → Seen (λ m. m) (λ _. ⊤) Flawed (number w) blob from (Ok (n, from + byte_len w))
+unfolding byte_array
+number_seen w from n blob bytes fits is value =
     record {
-      sees = each_read (byte_array 4) (from_be_bytes w32) (drop from blob) (drop (from + 4) blob) bytes
-          (byte_array_are 4 from blob bytes fits is)
-          ∙ ap (λ m. Ok (m, drop (from + 4) blob)) (sym number);
+      sees = each_read (byte_array (byte_len w)) (from_be_bytes w) (drop from blob) (drop (from + byte_len w) blob) bytes
+          (byte_array_are (byte_len w) from blob bytes fits is)
+          ∙ ap (λ m. Ok (m, drop (from + byte_len w) blob)) (sym value);
       placed = (tt, refl, fits);
     }
 
 -- the buffer ends before
+number_unseen : (w : Width) (from : ℕ) (blob : List ℕ) → 0 < byte_len w → length blob < from + byte_len w
+    → Seen {X = ℕ} (λ m. m) (λ _. ⊤) Flawed (number w) blob from (Err stucks.Short)
+number_unseen w from blob some short =
+    let few : length (drop from blob) < byte_len w = omega (arith, length-drop from blob) in
+    let head = byte_array-short (byte_len w) (drop from blob) few in
+    let refused = each_refused (byte_array (byte_len w)) (from_be_bytes w) (drop from blob) _ head in
+    record { sees = ap (map_err Flawed) refused; placed = tt }
+
+-- one byte, and four
+pub byte_seen : (from n : ℕ) (blob bytes : List ℕ) → from + 1 ≤ length blob
+    → bytes ≡ take 1 (drop from blob) → n ≡ from_be_bytes w8 bytes
+    → Seen (λ m. m) (λ _. ⊤) Flawed byte blob from (Ok (n, from + 1))
+unfolding byte
+byte_seen from n blob bytes fits is value = number_seen w8 from n blob bytes fits is value
+
+pub byte_unseen : (from : ℕ) (blob : List ℕ) → length blob < from + 1
+    → Seen {X = ℕ} (λ m. m) (λ _. ⊤) Flawed byte blob from (Err stucks.Short)
+unfolding byte
+byte_unseen from blob short = number_unseen w8 from blob (omega arith) short
+
+pub uint32_seen : (from n : ℕ) (blob bytes : List ℕ) → from + 4 ≤ length blob
+    → bytes ≡ take 4 (drop from blob) → n ≡ from_be_bytes w32 bytes
+    → Seen (λ m. m) (λ _. ⊤) Flawed uint32 blob from (Ok (n, from + 4))
+unfolding uint32
+uint32_seen from n blob bytes fits is value = number_seen w32 from n blob bytes fits is value
+
 pub uint32_unseen : (from : ℕ) (blob : List ℕ) → length blob < from + 4
     → Seen {X = ℕ} (λ m. m) (λ _. ⊤) Flawed uint32 blob from (Err stucks.Short)
 unfolding uint32
-uint32_unseen from blob short =
-    let few : length (drop from blob) < 4 = omega (arith, length-drop from blob) in
-    let head = byte_array-short 4 (drop from blob) few in
-    let refused = each_refused (byte_array 4) (from_be_bytes w32) (drop from blob) _ head in
-    record { sees = ap (map_err Flawed) refused; placed = tt }
+uint32_unseen from blob short = number_unseen w32 from blob (omega arith) short
+
+pub ruleset byte_at_place = (byte_seen, byte_unseen)
 
 pub ruleset uint32_at_place = (uint32_seen, uint32_unseen)
 

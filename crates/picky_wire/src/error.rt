@@ -8,7 +8,7 @@ use thiserror::Error;
 #[error("NoMemory")]
 pub struct NoMemory;
 
-/// A source or a sink failed, and counted it.
+/// A source, a sink or a suite failed, and counted it.
 #[derive(Debug, Drop, PartialEq, Eq, Error)]
 #[error("Failed")]
 pub struct Failed;

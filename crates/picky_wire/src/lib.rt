@@ -31,7 +31,7 @@ pub use fields::{take_byte, take_bytes, take_mpint, take_text, take_uint32, take
 pub use list::List;
 pub use list_codec::{decode_list, encode_list};
 pub use mpint::Mpint;
-pub use piece::{Piece, pieces_len, write_piece, write_pieces};
+pub use piece::{Piece, pieces_len, push_pieces, write_piece, write_pieces};
 pub use principals::{decode_principals, encode_principals};
 pub use read::{SshReadExt, read_byte, read_uint32, read_uint64};
 pub use sink::{MemorySink, Sink};
@@ -39,5 +39,7 @@ pub use source::{MemorySource, SliceSource, Source};
 pub use std_io::{StdSink, StdSource};
 pub use stop::Stop;
 pub use timestamp::Timestamp;
-pub use view::{Part, Stuck, Word, mpint_at, sized_at, string_at, text_at, uint32_at, word_at};
+pub use view::{
+    Part, Stuck, Word, byte_at, mpint_at, sized_at, string_at, text_at, uint32_at, word_at,
+};
 pub use write::{SshWriteExt, write_all};

@@ -1,6 +1,6 @@
 //! The bytes of a field, ready to be written, counted or hashed.
 
-ghost use Rattle.std.specs.Prelude.{◌≡◌, ◌^◌, ◌<◌, ◌≤◌, ◌+◌, ◌++◌, ◌∷◌, [], length, min, slice_index, true, false, IsUtf8};
+ghost use Rattle.std.specs.Prelude.{◌≡◌, ◌^◌, ◌<◌, ◌≤◌, ◌+◌, ◌++◌, ◌∷◌, [], length, min, slice_index, true, false, IsUtf8, OnOk};
 ghost use Rattle.std.specs.Int.{w8, w32, w64, to_be_bytes};
 ghost use Rattle.std.specs.List.{concat};
 ghost use Rattle.picky_layout.specs.Numbers.{IsBytes};
@@ -14,6 +14,7 @@ use crate::error::WireError;
 use crate::mpint::Mpint;
 use crate::sink::Sink;
 use crate::write::write_all;
+use std::alloc::AllocError;
 use std::marker::Model;
 
 /// The bytes of one field in its one spelling: at most eight of its own, and then borrowed ones.
@@ -192,6 +193,18 @@ pub fn write_pieces<S: Sink>(stream: &mut S, pieces: &[Piece<'_>]) -> Result<(),
             Ok(()) => {}
             Err(e) => return Err(e),
         }
+    }
+    Ok(())
+}
+
+/// Appends one field after another; on an error, a front of them.
+pub fn push_pieces(out: &mut Vec<u8>, pieces: &[Piece<'_>]) -> Result<(), AllocError>
+    ensures { OnOk result (out.new.items ≡ out.old.items ++ concat pieces.now) }
+{
+    'pieces: for piece in pieces {
+        let (head, body) = piece.parts();
+        out.extend_from_slice(head)?;
+        out.extend_from_slice(body)?;
     }
     Ok(())
 }

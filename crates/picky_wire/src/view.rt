@@ -1,13 +1,18 @@
 //! The fields of the wire, seen in a buffer at their places and not copied.
 
-ghost use Rattle.std.specs.Prelude.{◌≡◌, ◌^◌, ◌<◌, ◌≤◌, ⊤, ℕ, length, IsUtf8, MatchOption};
+ghost use Rattle.std.specs.Prelude.{◌≡◌, ◌^◌, ◌<◌, ◌≤◌, ⊤, ℕ, length, IfOk, IsUtf8, MatchOption};
 ghost use Rattle.picky_layout.specs.Flaw.{Flawed};
 ghost use Rattle.picky_layout.specs.Fixed.{sized};
 ghost use Rattle.picky_layout.specs.Wire.{byte_array, uint32, string, text};
+ghost use Rattle.picky_layout.specs.Magnitude.{IsMagnitude};
 ghost use Rattle.picky_layout.specs.Mpint.{mpint};
+ghost use Rattle.picky_layout.specs.Numbers.{byte};
 ghost use Rattle.picky_wire.specs.View.{end_of, Seen, Lies, WordLies, part_bytes, word_bytes, why_in};
 
-use crate::mpint::after_zeros;
+use crate::bytes::{Bytes, Text};
+use crate::error::NoMemory;
+use crate::mpint::{Mpint, after_zeros};
+use std::alloc::Global;
 
 /// A slice of a buffer, and its place: how many of the buffer's bytes stand before it.
 #[derive(Clone, Copy, Debug, PartialEq, Eq)]
@@ -48,6 +53,61 @@ impl<'a> Part<'a> {
             Ok(text) => Some(text),
             Err(_) => None,
         }
+    }
+
+    /// A copy of its bytes.
+    pub fn to_bytes(&self, alloc: Global) -> Result<Bytes, NoMemory>
+        requires { length self.now.bytes.now < 2 ^ 32 }
+        ensures { IfOk result (λ bytes. bytes ≡ self.now.bytes.now) }
+    {
+        match Bytes::new(alloc, self.bytes) {
+            Ok(bytes) => Ok(bytes),
+            Err(_) => Err(NoMemory),
+        }
+    }
+
+    /// A copy of its text.
+    pub fn to_text(&self, alloc: Global) -> Result<Text, NoMemory>
+        requires short { length self.now.bytes.now < 2 ^ 32 }
+        requires utf8 { IsUtf8 self.now.bytes.now }
+        ensures { IfOk result (λ text. text ≡ self.now.bytes.now) }
+    {
+        match self.as_str() {
+            Some(text) => match Text::new(alloc, text) {
+                Ok(text) => Ok(text),
+                Err(_) => Err(NoMemory),
+            },
+            None => Err(NoMemory),
+        }
+    }
+
+    /// A copy of its number.
+    #[tactic(auto, using(picky_layout::specs::carried::Zeros::all_is_kept))]
+    pub fn to_mpint(&self, alloc: Global) -> Result<Mpint, NoMemory>
+        requires { IsMagnitude self.now.bytes.now }
+        ensures { IfOk result (λ number. number ≡ self.now.bytes.now) }
+    {
+        match Mpint::from_be(alloc, self.bytes) {
+            Ok(number) => Ok(number),
+            Err(_) => Err(NoMemory),
+        }
+    }
+}
+
+/// A number of one byte.
+///
+/// `byte` of RFC 4251, section 5. Refuses, in order: `Short`.
+#[tactic(auto, using(crate::proofs::ViewLemmas::byte_at_place))]
+pub fn byte_at<'a>(blob: &'a [u8], from: usize) -> Result<(u8, usize), Stuck<'a>>
+    ensures { Seen (λ n. n) (λ _. ⊤) Flawed byte blob.now from result }
+{
+    if from > blob.len() {
+        return Err(Stuck::Short);
+    }
+    let (_, rest) = blob.split_at(from);
+    match rest.split_first_chunk::<1>() {
+        Some((bytes, _)) => Ok((u8::from_be_bytes(*bytes), from + 1)),
+        None => Err(Stuck::Short),
     }
 }
 
