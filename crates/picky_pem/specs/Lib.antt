@@ -1,0 +1,2 @@
+pub mod Pem
+pub mod PemRefusal
