@@ -22,25 +22,25 @@ use Rattle.picky_sshpub.specs.Blob.{key_type, ed_key, rsa_fields, ec_fields, ed_
 use Rattle.picky_sshpub.specs.Blob.{sk_ed_fields, fields_of, blob}
 use Rattle.picky_sshpub.specs.BlobSpelled.{NumberSpelled, AnyText, FieldsSpelled, BlobSpelled}
 
-number_exact : (v bytes : List ℕ) → IsBytes bytes → mpint.piece v bytes → NumberSpelled v bytes
+pub number_exact : (v bytes : List ℕ) → IsBytes bytes → mpint.piece v bytes → NumberSpelled v bytes
 number_exact v bytes each spells =
     let exact = mpint_exact v bytes each spells in
     record { zeros = exact.zeros; are = exact.are; short = exact.short }
 
-any_text : (v bytes : List ℕ) → IsBytes bytes → text.piece v bytes → AnyText bytes
+pub any_text : (v bytes : List ℕ) → IsBytes bytes → text.piece v bytes → AnyText bytes
 any_text v bytes each spells =
     let exact = text_exact v bytes each spells in
     record { name = v; are = exact.0; utf8 = exact.2 }
 
-ed_exact : (v bytes : List ℕ) → IsBytes bytes → (ed_key 1).piece v bytes → bytes ≡ string_of v
+pub ed_exact : (v bytes : List ℕ) → IsBytes bytes → (ed_key 1).piece v bytes → bytes ≡ string_of v
 unfolding ed_key
 ed_exact v bytes each (a, spells, (len, is)) = (string_exact a bytes each spells).0 ∙ ap string_of (sym is)
 
 -- two pieces joined, the second of which is known
-joined_is : (bytes x y z : List ℕ) → bytes ≡ x ++ y → y ≡ z → bytes ≡ x ++ z
+pub joined_is : (bytes x y z : List ℕ) → bytes ≡ x ++ y → y ≡ z → bytes ≡ x ++ z
 joined_is bytes x y z is same = is ∙ ap (λ r. x ++ r) same
 
-first_is : (bytes x y z : List ℕ) → bytes ≡ x ++ y → x ≡ z → bytes ≡ z ++ y
+pub first_is : (bytes x y z : List ℕ) → bytes ≡ x ++ y → x ≡ z → bytes ≡ z ++ y
 first_is bytes x y z is same = is ∙ ap (λ l. l ++ y) same
 
 rsa_exact : (key : SshBasePublicKey) (bytes : List ℕ) → IsBytes bytes → rsa_fields.piece key bytes

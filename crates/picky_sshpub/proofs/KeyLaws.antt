@@ -25,7 +25,7 @@ string_content : (v : List ℕ) → IsBytes (string_of v) → IsBytes v
 unfolding string_of
 string_content v each = bytes_behind (to_be_bytes w32 (length v)) v each
 
-number_keeps : (v bytes : List ℕ) → IsBytes bytes → mpint.piece v bytes → IsNumber v
+pub number_keeps : (v bytes : List ℕ) → IsBytes bytes → mpint.piece v bytes → IsNumber v
 number_keeps v bytes each spells =
     let exact = mpint_exact v bytes each spells in
     record {
@@ -34,12 +34,12 @@ number_keeps v bytes each spells =
       mpint = exact.mpint;
     }
 
-string_keeps : (v bytes : List ℕ) → IsBytes bytes → string.piece v bytes → IsString v
+pub string_keeps : (v bytes : List ℕ) → IsBytes bytes → string.piece v bytes → IsString v
 string_keeps v bytes each spells =
     let exact = string_exact v bytes each spells in
     record { bytes = string_content v (subst IsBytes exact.0 each); short = exact.1 }
 
-text_keeps : (v bytes : List ℕ) → IsBytes bytes → text.piece v bytes → IsText v
+pub text_keeps : (v bytes : List ℕ) → IsBytes bytes → text.piece v bytes → IsText v
 text_keeps v bytes each spells =
     let exact = text_exact v bytes each spells in
     record {
@@ -47,7 +47,7 @@ text_keeps v bytes each spells =
       utf8 = exact.2;
     }
 
-ed_keeps : (v bytes : List ℕ) → IsBytes bytes → (ed_key 1).piece v bytes → IsEdKey v
+pub ed_keeps : (v bytes : List ℕ) → IsBytes bytes → (ed_key 1).piece v bytes → IsEdKey v
 unfolding ed_key
 ed_keeps v bytes each spells =
     let exact = sized_exact 1 32 v bytes each spells in

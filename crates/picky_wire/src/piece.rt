@@ -47,6 +47,19 @@ impl<'a> Piece<'a> {
         }
     }
 
+    /// Bytes as they are, whose number is said elsewhere.
+    pub fn raw(bytes: &'a [u8]) -> Piece<'a>
+        requires { length bytes.now < 2 ^ 32 }
+        ensures raw { result ≡ bytes.now }
+        ensures bytes { IsBytes bytes.now }
+    {
+        Piece {
+            head: [0; 8],
+            len: 0,
+            body: bytes,
+        }
+    }
+
     /// A number of one byte.
     pub fn byte(n: u8) -> Piece<'a>
         ensures { result ≡ to_be_bytes w8 n }

@@ -1,0 +1,11 @@
+pub mod RefusedLemmas
+pub mod TakesLemmas
+pub mod NoNameLemmas
+pub mod NamedLemmas
+pub mod StopLemmas
+pub mod KeyLaws
+pub mod ViewLemmas
+pub mod PieceLemmas
+pub mod BlobExact
+pub mod BlobLaws
+pub mod LawLemmas

@@ -1,0 +1,21 @@
+-- One field after another.
+use Rattle.std.proofs.Common.{refl}
+use Rattle.std.proofs.lemmas.Result.{err_from_is_err_and}
+use Rattle.picky_layout.specs.Combine.{at}
+use Rattle.picky_layout.specs.Wire.{string, text}
+use Rattle.picky_layout.specs.Numbers.{byte}
+use Rattle.picky_sshpub.specs.Blob.{ed_key}
+use Rattle.picky_sshkey_blob.specs.Blob.{sk_ed_fields}
+use Rattle.picky_sshkey_blob.specs.inner.Stop.{secret_stop}
+use Rattle.picky_sshkey_blob.proofs.TakesLemmas.{part_passes, part_stops, field_takes}
+use Rattle.picky_sshkey_blob.proofs.read.take_sk_ed.Goals as goal
+
+pub returns-in_err-take_bytes : goal.returns-in_err-take_bytes
+unfolding sk_ed_fields
+returns-in_err-take_bytes g c =
+    let p = err_from_is_err_and c.from_residual-in_err-take_bytes.result c.from_residual-in_err-take_bytes.ensures.1 in
+    rw (p.1, p.2) (part_passes secret_stop (ed_key 1) _ _ c.in_ok-key.ensures
+    (part_passes secret_stop (at 2 text) _ _ (field_takes secret_stop 2 text _ (λ f. refl) c.in_ok-application.ensures.takes)
+    (part_passes secret_stop (at 3 byte) _ _ (field_takes secret_stop 3 byte _ (λ f. refl) c.in_ok-flags.ensures.takes)
+    (part_passes secret_stop (at 4 string) _ _ (field_takes secret_stop 4 string _ (λ f. refl) c.in_ok-handle.ensures.takes)
+    (part_stops secret_stop (at 5 string) _ _ (field_takes secret_stop 5 string _ (λ f. refl) c.in_err-take_bytes.ensures.takes))))))

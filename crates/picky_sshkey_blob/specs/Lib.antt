@@ -1,0 +1,11 @@
+pub mod FromWire
+pub mod Key
+pub mod Before
+pub mod Copy
+pub mod Blob
+pub mod BlobRefusal
+pub mod BlobLayout
+pub mod SecretSpelled
+pub mod View
+pub mod carried
+pub mod inner

@@ -1,0 +1,108 @@
+-- What a private key's view shows, where its parts lie, and what a view is stopped by.
+use Rattle.std.specs.Prelude.{◌≡◌, ◌-◌, List, [], ◌∷◌, ℕ, drop, Result, Ok, Err}
+use Rattle.picky_layout.specs.Flaw.{Why, Reason}
+use Rattle.picky_layout.specs.Grammar.{Grammar}
+use Rattle.picky_layout.specs.Outcome.{map_err}
+use Rattle.picky_layout.specs.Wire.{string, text}
+use Rattle.picky_layout.specs.Numbers.{byte}
+use Rattle.picky_layout.specs.Mpint.{mpint}
+use Rattle.picky_wire.specs.declared.view.Stuck.{Stuck}
+use Rattle.picky_wire.specs.declared.view.Stuck.TheVariants as stucks
+use Rattle.picky_wire.specs.View.{Lies, Places, end_of, stuck_shown, why_of}
+use Rattle.picky_sshpub.specs.Key.{IsText}
+use Rattle.picky_sshpub.specs.Blob.{ed_key}
+use Rattle.picky_sshkey_blob.specs.declared.key.SshBasePrivateKey.{SshBasePrivateKey}
+use Rattle.picky_sshkey_blob.specs.declared.key.SshBasePrivateKey.TheVariants as keys
+use Rattle.picky_sshkey_blob.specs.declared.error.SshPrivateKeyError.{SshPrivateKeyError}
+use Rattle.picky_sshkey_blob.specs.BlobRefusal.{private_error}
+use Rattle.picky_sshkey_blob.specs.declared.view.PrivateView.{PrivateView}
+use Rattle.picky_sshkey_blob.specs.declared.view.PrivateView.TheVariants as views
+use Rattle.picky_sshkey_blob.specs.declared.view.Stopped.{Stopped}
+
+-- the key that the parts make
+abbrev pub key_seen : PrivateView → SshBasePrivateKey
+key_seen (views.Rsa n e d iqmp p q) =
+    keys.Rsa n.bytes.now e.bytes.now d.bytes.now iqmp.bytes.now p.bytes.now q.bytes.now
+key_seen (views.Ec curve point secret) = keys.Ec curve point.bytes.now secret.bytes.now
+key_seen (views.Ed secret public) = keys.Ed secret.bytes.now public.bytes.now
+key_seen (views.SkEcdsaSha2NistP256 point application flags handle) =
+    keys.SkEcdsaSha2NistP256 point.bytes.now application.bytes.now flags handle.bytes.now
+key_seen (views.SkEd25519 key application flags handle) =
+    keys.SkEd25519 key.bytes.now application.bytes.now flags handle.bytes.now
+
+-- each part lies where its field ends, in the fields that stand one after another from this place; the secret of
+-- Ed25519 before the 32 bytes of the copy
+abbrev pub PartsLie : List ℕ → ℕ → PrivateView → Type 0
+PartsLie blob from (views.Rsa n e d iqmp p q) =
+    let n_end = end_of mpint blob from in
+    let e_end = end_of mpint blob n_end in
+    let d_end = end_of mpint blob e_end in
+    let iqmp_end = end_of mpint blob d_end in
+    let p_end = end_of mpint blob iqmp_end in
+    Lies blob n_end n × Lies blob e_end e × Lies blob d_end d × Lies blob iqmp_end iqmp × Lies blob p_end p
+    × Lies blob (end_of mpint blob p_end) q
+PartsLie blob from (views.Ec curve point secret) =
+    let point_end = end_of string blob (end_of text blob from) in
+    Lies blob point_end point × Lies blob (end_of mpint blob point_end) secret
+PartsLie blob from (views.Ed secret public) =
+    let public_end = end_of (ed_key 1) blob from in
+    Lies blob (end_of string blob public_end - 32) secret × Lies blob public_end public
+PartsLie blob from (views.SkEcdsaSha2NistP256 point application flags handle) =
+    let point_end = end_of string blob (end_of text blob from) in
+    let application_end = end_of text blob point_end in
+    Lies blob point_end point × Lies blob application_end application
+    × Lies blob (end_of string blob (end_of byte blob application_end)) handle
+PartsLie blob from (views.SkEd25519 key application flags handle) =
+    let key_end = end_of (ed_key 1) blob from in
+    let application_end = end_of text blob key_end in
+    Lies blob key_end key × Lies blob application_end application
+    × Lies blob (end_of string blob (end_of byte blob application_end)) handle
+
+-- what a view shows: the key that its parts make, and where each part stands
+abbrev pub view_shown : PrivateView → SshBasePrivateKey × List ℕ
+view_shown (views.Rsa n e d iqmp p q) =
+    (key_seen (views.Rsa n e d iqmp p q), n.at ∷ e.at ∷ d.at ∷ iqmp.at ∷ p.at ∷ q.at ∷ [])
+view_shown (views.Ec curve point secret) = (key_seen (views.Ec curve point secret), point.at ∷ secret.at ∷ [])
+view_shown (views.Ed secret public) = (key_seen (views.Ed secret public), secret.at ∷ public.at ∷ [])
+view_shown (views.SkEcdsaSha2NistP256 point application flags handle) =
+    (key_seen (views.SkEcdsaSha2NistP256 point application flags handle), point.at ∷ application.at ∷ handle.at ∷ [])
+view_shown (views.SkEd25519 key application flags handle) =
+    (key_seen (views.SkEd25519 key application flags handle), key.at ∷ application.at ∷ handle.at ∷ [])
+
+-- ---- a field that doesn't fit
+
+-- the layout's reason: the field, and what is wrong there
+abbrev pub reason_of : Stopped → Reason
+reason_of stopped = (stopped.field, why_of stopped.stuck)
+
+-- what a stop shows
+abbrev pub stopped_shown : Stopped → ℕ × Why × ℕ
+stopped_shown stopped = (stopped.field, (stuck_shown stopped.stuck).0, (stuck_shown stopped.stuck).1)
+
+-- what is wrong there, without the field
+abbrev pub stuck_of : Stopped → Stuck
+stuck_of stopped = stopped.stuck
+
+-- the layout reads what is shown before what stands at the next place, or refuses with that very reason
+abbrev pub SeesAt : {X A : Type 0} → (X → A) → Grammar Reason A → List ℕ → ℕ → Result (X × ℕ) Stopped → Type 0
+SeesAt shows layout blob from (Ok (x, next)) = layout.read (drop from blob) ≡ Ok (shows x, drop next blob)
+SeesAt shows layout blob from (Err stopped) = layout.read (drop from blob) ≡ Err (reason_of stopped)
+
+-- what a call that reads a buffer at a place answers, and the field at which it stops
+pub record SeenAt {X A : Type 0} (shows : X → A) (lies : X → Type 0) (layout : Grammar Reason A)
+    (blob : List ℕ) (from : ℕ) (result : Result (X × ℕ) Stopped) : Type 0 where
+  pub sees : SeesAt shows layout blob from result
+  pub placed : Places lies blob (end_of layout blob from) (map_err stuck_of result)
+
+-- a name that is refused is text
+abbrev pub NamesText : Stuck → Type 0
+NamesText (stucks.Name name) = IsText name.bytes.now
+NamesText stuck = Unit {0}
+
+abbrev pub IsRefusal : Stopped → Type 0
+IsRefusal stopped = NamesText stopped.stuck
+
+-- what the reader answers where a view answers this
+abbrev pub answer_of : List ℕ → Result (PrivateView × ℕ) Stopped → Result (SshBasePrivateKey × List ℕ) SshPrivateKeyError
+answer_of blob (Ok (view, next)) = Ok (key_seen view, drop next blob)
+answer_of blob (Err stopped) = Err (private_error (reason_of stopped))

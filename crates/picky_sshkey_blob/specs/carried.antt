@@ -1,0 +1,4 @@
+pub mod Before
+pub mod Blob
+pub mod BlobLayout
+pub mod FromWire

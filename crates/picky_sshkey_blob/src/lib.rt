@@ -1,0 +1,20 @@
+//! The blobs of SSH private keys: read, seen in a buffer and written (OpenSSH's PROTOCOL.key and PROTOCOL.u2f).
+#![tactic(auto)]
+
+mod blob;
+mod error;
+mod key;
+pub mod laws;
+mod pieces;
+mod read;
+mod refuse;
+mod view;
+mod view_fields;
+mod view_read;
+
+pub use error::SshPrivateKeyError;
+pub use key::SshBasePrivateKey;
+pub use pieces::secret_pieces;
+pub use refuse::refusal;
+pub use view::{PrivateView, Stopped};
+pub use view_read::private_at;

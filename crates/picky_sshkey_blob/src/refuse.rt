@@ -1,0 +1,27 @@
+//! The error of a blob that is stopped at a field.
+
+ghost use Rattle.std.specs.Prelude.{◌≡◌, ◌⊎◌};
+ghost use Rattle.picky_sshkey_blob.specs.BlobRefusal.{private_error};
+ghost use Rattle.picky_sshkey_blob.specs.View.{reason_of, IsRefusal};
+
+use crate::error::SshPrivateKeyError;
+use crate::view::Stopped;
+use picky_wire::{IoKind, NoMemory, Stuck};
+use std::alloc::Global;
+
+/// The error of the reader where a view is stopped, with a copy of a refused name, or `NoMemory`.
+pub fn refusal(alloc: Global, stopped: &Stopped<'_>) -> SshPrivateKeyError
+    requires { IsRefusal stopped.now }
+    ensures { (result ≡ private_error (reason_of stopped.now)) ⊎ (result ≡ SshPrivateKeyError.NoMemory) }
+{
+    match stopped.stuck {
+        Stuck::Short => SshPrivateKeyError::IoError(IoKind::UnexpectedEnd),
+        Stuck::NotUtf8 => SshPrivateKeyError::FromUtf8Error,
+        Stuck::Name(name) => match name.to_text(alloc) {
+            Ok(name) => SshPrivateKeyError::UnsupportedKeyType(name),
+            Err(NoMemory) => SshPrivateKeyError::NoMemory,
+        },
+        Stuck::Length if stopped.field == 2 => SshPrivateKeyError::InvalidKeyFormat,
+        Stuck::Length | Stuck::Number(_) => SshPrivateKeyError::KeyError,
+    }
+}

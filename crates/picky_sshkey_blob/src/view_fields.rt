@@ -1,0 +1,127 @@
+//! The fields of a private key's blob, seen at their places, each with its number in the blob.
+
+ghost use Rattle.std.specs.Prelude.{◌≡◌, ◌^◌, ◌<◌, ◌-◌, ⊤, length};
+ghost use Rattle.picky_layout.specs.Combine.{at};
+ghost use Rattle.picky_layout.specs.Wire.{string, text};
+ghost use Rattle.picky_layout.specs.Numbers.{byte};
+ghost use Rattle.picky_layout.specs.Mpint.{mpint};
+ghost use Rattle.picky_wire.specs.View.{Lies, end_of, part_bytes};
+ghost use Rattle.picky_sshpub.specs.Blob.{key_type, ed_key};
+ghost use Rattle.picky_sshkey_blob.specs.Blob.{ed_secret};
+ghost use Rattle.picky_sshkey_blob.specs.View.{SeenAt};
+
+use crate::view::Stopped;
+use picky_keys::KeyKind;
+use picky_sshpub::{ed_key_at, kind_at};
+use picky_wire::{Part, Stuck, byte_at, mpint_at, string_at, text_at};
+
+/// How long the secret of Ed25519 is.
+const SECRET_LEN: usize = 32;
+
+/// The name of a key type, which is field 0, as the kind that it stands for.
+#[tactic(auto, using(crate::proofs::ViewLemmas::kind_stopped))]
+pub fn kind_in<'a>(blob: &'a [u8], from: usize) -> Result<(KeyKind, usize), Stopped<'a>>
+    ensures { SeenAt (λ kind. kind) (λ _. ⊤) key_type blob.now from result }
+{
+    match kind_at(blob, from) {
+        Ok(found) => Ok(found),
+        Err(stuck) => Err(Stopped { field: 0, stuck }),
+    }
+}
+
+/// A number.
+pub fn mpint_in<'a>(
+    blob: &'a [u8],
+    from: usize,
+    field: usize,
+) -> Result<(Part<'a>, usize), Stopped<'a>>
+    requires { length blob.now < 2 ^ 32 }
+    ensures { SeenAt part_bytes (Lies blob.now (end_of mpint blob.now from)) (at field mpint) blob.now from result }
+{
+    match mpint_at(blob, from) {
+        Ok(found) => Ok(found),
+        Err(stuck) => Err(Stopped { field, stuck }),
+    }
+}
+
+/// A string's bytes.
+pub fn string_in<'a>(
+    blob: &'a [u8],
+    from: usize,
+    field: usize,
+) -> Result<(Part<'a>, usize), Stopped<'a>>
+    ensures { SeenAt part_bytes (Lies blob.now (end_of string blob.now from)) (at field string) blob.now from result }
+{
+    match string_at(blob, from) {
+        Ok(found) => Ok(found),
+        Err(stuck) => Err(Stopped { field, stuck }),
+    }
+}
+
+/// A string's bytes, which are UTF-8.
+pub fn text_in<'a>(
+    blob: &'a [u8],
+    from: usize,
+    field: usize,
+) -> Result<(Part<'a>, usize), Stopped<'a>>
+    ensures { SeenAt part_bytes (Lies blob.now (end_of text blob.now from)) (at field text) blob.now from result }
+{
+    match text_at(blob, from) {
+        Ok(found) => Ok(found),
+        Err(stuck) => Err(Stopped { field, stuck }),
+    }
+}
+
+/// A number of one byte.
+pub fn byte_in<'a>(blob: &'a [u8], from: usize, field: usize) -> Result<(u8, usize), Stopped<'a>>
+    ensures { SeenAt (λ n. n) (λ _. ⊤) (at field byte) blob.now from result }
+{
+    match byte_at(blob, from) {
+        Ok(found) => Ok(found),
+        Err(stuck) => Err(Stopped { field, stuck }),
+    }
+}
+
+/// A public key of Ed25519, which is field 1 of each layout that has one.
+#[tactic(auto, using(crate::proofs::ViewLemmas::ed_key_stopped))]
+pub fn ed_key_in<'a>(blob: &'a [u8], from: usize) -> Result<(Part<'a>, usize), Stopped<'a>>
+    ensures { SeenAt part_bytes (Lies blob.now (end_of (ed_key 1) blob.now from)) (ed_key 1) blob.now from result }
+{
+    match ed_key_at(blob, from) {
+        Ok(found) => Ok(found),
+        Err(stuck) => Err(Stopped { field: 1, stuck }),
+    }
+}
+
+/// The secret of Ed25519, which is field 2, before the copy of the public key.
+#[tactic(auto, using(crate::proofs::ViewLemmas::secret_seen), unfolding(crate::specs::Blob::ed_secret))]
+pub fn ed_secret_in<'a>(
+    blob: &'a [u8],
+    from: usize,
+    public: &[u8],
+) -> Result<(Part<'a>, usize), Stopped<'a>>
+    requires { length public.now ≡ 32 }
+    ensures { SeenAt part_bytes (Lies blob.now (end_of string blob.now from - 32)) (ed_secret public.now) blob.now from result }
+{
+    let (both, next) = string_in(blob, from, 2)?;
+    if both.bytes.len() < SECRET_LEN {
+        return Err(Stopped {
+            field: 2,
+            stuck: Stuck::Length,
+        });
+    }
+    let (secret, copy) = both.bytes.split_at(SECRET_LEN);
+    if copy != public {
+        return Err(Stopped {
+            field: 2,
+            stuck: Stuck::Length,
+        });
+    }
+    Ok((
+        Part {
+            at: both.at,
+            bytes: secret,
+        },
+        next,
+    ))
+}

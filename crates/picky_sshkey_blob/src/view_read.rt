@@ -1,0 +1,147 @@
+//! The walk over a private key's blob, by its kind.
+
+ghost use Rattle.std.specs.Prelude.{◌^◌, ◌<◌, length, IfOk, IfErr};
+ghost use Rattle.picky_wire.specs.View.{end_of};
+ghost use Rattle.picky_sshpub.specs.Blob.{key_type};
+ghost use Rattle.picky_sshkey_blob.specs.Key.{IsPrivateKey};
+ghost use Rattle.picky_sshkey_blob.specs.Blob.{rsa_fields, ec_fields, ed_fields, sk_ecdsa_fields, sk_ed_fields, fields_of, secret as secret_layout};
+ghost use Rattle.picky_sshkey_blob.specs.View.{key_seen, PartsLie, SeenAt, IsRefusal};
+
+use crate::view::{PrivateView, Stopped};
+use crate::view_fields::{byte_in, ed_key_in, ed_secret_in, kind_in, mpint_in, string_in, text_in};
+use picky_keys::{EcCurve, KeyKind};
+
+/// The view of the private key's blob that stands at a place, and the place after it.
+///
+/// OpenSSH's PROTOCOL.key. Refuses, in order, by field: `Short`, `NotUtf8`, `Name`, `Length`.
+#[tactic(auto, using(crate::proofs::ViewLemmas::seen_keeps))]
+pub fn private_at<'a>(blob: &'a [u8], from: usize) -> Result<(PrivateView<'a>, usize), Stopped<'a>>
+    requires { length blob.now < 2 ^ 32 }
+    ensures seen { SeenAt key_seen (PartsLie blob.now (end_of key_type blob.now from)) secret_layout blob.now from result }
+    ensures is_key { IfOk result (λ found. IsPrivateKey (key_seen found.0)) }
+    ensures is_refusal { IfErr result IsRefusal }
+{
+    key_at(blob, from)
+}
+
+#[tactic(auto, unfolding(crate::specs::Blob::secret))]
+fn key_at<'a>(blob: &'a [u8], from: usize) -> Result<(PrivateView<'a>, usize), Stopped<'a>>
+    requires { length blob.now < 2 ^ 32 }
+    ensures { SeenAt key_seen (PartsLie blob.now (end_of key_type blob.now from)) secret_layout blob.now from result }
+{
+    let (kind, next) = kind_in(blob, from)?;
+    fields_at(blob, next, kind)
+}
+
+fn fields_at<'a>(
+    blob: &'a [u8],
+    from: usize,
+    kind: KeyKind,
+) -> Result<(PrivateView<'a>, usize), Stopped<'a>>
+    requires { length blob.now < 2 ^ 32 }
+    ensures { SeenAt key_seen (PartsLie blob.now from) (fields_of kind) blob.now from result }
+{
+    match kind {
+        KeyKind::Rsa => rsa_at(blob, from),
+        KeyKind::Ec(curve) => ec_at(blob, from, curve),
+        KeyKind::Ed(_) => ed_at(blob, from),
+        KeyKind::SkEcdsaSha2NistP256 => sk_ecdsa_at(blob, from),
+        KeyKind::SkEd25519 => sk_ed_at(blob, from),
+    }
+}
+
+#[tactic(auto, unfolding(crate::specs::Blob::rsa_fields))]
+fn rsa_at<'a>(blob: &'a [u8], from: usize) -> Result<(PrivateView<'a>, usize), Stopped<'a>>
+    requires { length blob.now < 2 ^ 32 }
+    ensures { SeenAt key_seen (PartsLie blob.now from) rsa_fields blob.now from result }
+{
+    let (n, next) = mpint_in(blob, from, 1)?;
+    let (e, next) = mpint_in(blob, next, 2)?;
+    let (d, next) = mpint_in(blob, next, 3)?;
+    let (iqmp, next) = mpint_in(blob, next, 4)?;
+    let (p, next) = mpint_in(blob, next, 5)?;
+    let (q, next) = mpint_in(blob, next, 6)?;
+    Ok((
+        PrivateView::Rsa {
+            n,
+            e,
+            d,
+            iqmp,
+            p,
+            q,
+        },
+        next,
+    ))
+}
+
+#[tactic(auto, unfolding(crate::specs::Blob::ec_fields))]
+fn ec_at<'a>(
+    blob: &'a [u8],
+    from: usize,
+    curve: EcCurve,
+) -> Result<(PrivateView<'a>, usize), Stopped<'a>>
+    requires { length blob.now < 2 ^ 32 }
+    ensures { SeenAt key_seen (PartsLie blob.now from) (ec_fields curve) blob.now from result }
+{
+    let (_, next) = text_in(blob, from, 1)?;
+    let (point, next) = string_in(blob, next, 2)?;
+    let (secret, next) = mpint_in(blob, next, 3)?;
+    Ok((
+        PrivateView::Ec {
+            curve,
+            point,
+            secret,
+        },
+        next,
+    ))
+}
+
+#[tactic(auto, unfolding(crate::specs::Blob::ed_fields))]
+fn ed_at<'a>(blob: &'a [u8], from: usize) -> Result<(PrivateView<'a>, usize), Stopped<'a>>
+    ensures { SeenAt key_seen (PartsLie blob.now from) ed_fields blob.now from result }
+{
+    let (public, next) = ed_key_in(blob, from)?;
+    let (secret, next) = ed_secret_in(blob, next, public.bytes)?;
+    Ok((PrivateView::Ed { secret, public }, next))
+}
+
+#[tactic(auto, unfolding(crate::specs::Blob::sk_ecdsa_fields))]
+fn sk_ecdsa_at<'a>(blob: &'a [u8], from: usize) -> Result<(PrivateView<'a>, usize), Stopped<'a>>
+    ensures { SeenAt key_seen (PartsLie blob.now from) sk_ecdsa_fields blob.now from result }
+{
+    let (_, next) = text_in(blob, from, 1)?;
+    let (point, next) = string_in(blob, next, 2)?;
+    let (application, next) = text_in(blob, next, 3)?;
+    let (flags, next) = byte_in(blob, next, 4)?;
+    let (handle, next) = string_in(blob, next, 5)?;
+    let (_, next) = string_in(blob, next, 6)?;
+    Ok((
+        PrivateView::SkEcdsaSha2NistP256 {
+            point,
+            application,
+            flags,
+            handle,
+        },
+        next,
+    ))
+}
+
+#[tactic(auto, unfolding(crate::specs::Blob::sk_ed_fields))]
+fn sk_ed_at<'a>(blob: &'a [u8], from: usize) -> Result<(PrivateView<'a>, usize), Stopped<'a>>
+    ensures { SeenAt key_seen (PartsLie blob.now from) sk_ed_fields blob.now from result }
+{
+    let (key, next) = ed_key_in(blob, from)?;
+    let (application, next) = text_in(blob, next, 2)?;
+    let (flags, next) = byte_in(blob, next, 3)?;
+    let (handle, next) = string_in(blob, next, 4)?;
+    let (_, next) = string_in(blob, next, 5)?;
+    Ok((
+        PrivateView::SkEd25519 {
+            key,
+            application,
+            flags,
+            handle,
+        },
+        next,
+    ))
+}
