@@ -1,0 +1,14 @@
+pub mod KdfLemmas
+pub mod BlockLemmas
+pub mod WrittenLemmas
+pub mod EncodeLemmas
+pub mod PublicLaws
+pub mod SecretLaws
+pub mod PieceLaws
+pub mod LockLaws
+pub mod MeaningLaws
+pub mod WrittenLaws
+pub mod KeptLaws
+pub mod FaultLaws
+pub mod ReadingLemmas
+pub mod LawLemmas

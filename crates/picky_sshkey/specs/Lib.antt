@@ -1,0 +1,16 @@
+pub mod CipherNames
+pub mod Cipher
+pub mod Kdf
+pub mod KdfLayout
+pub mod Envelope
+pub mod PrivateBlock
+pub mod Opened
+pub mod PrivateText
+pub mod PrivateRefusal
+pub mod Written
+pub mod Encodes
+pub mod Made
+pub mod Kept
+pub mod View
+pub mod carried
+pub mod inner

@@ -1,0 +1,19 @@
+//! SSH private keys in OpenSSH's envelope (OpenSSH's PROTOCOL.key), sealed under a passphrase or not.
+#![tactic(auto)]
+
+mod block;
+mod cipher;
+mod envelope;
+mod kdf;
+mod kdf_wire;
+mod kept;
+pub mod laws;
+mod private_key;
+mod reading;
+mod sealing;
+mod writing;
+
+pub use kdf::{Kdf, KdfOption};
+pub use picky_pem::{Pem, PemError, parse_pem};
+pub use picky_sshkey_blob::{PrivateView, SshBasePrivateKey, SshPrivateKeyError};
+pub use private_key::{PrivateKeyRef, SshPrivateKey};

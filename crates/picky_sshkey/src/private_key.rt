@@ -1,0 +1,259 @@
+//! A private key with what its envelope says.
+
+ghost use Rattle.std.specs.Prelude.{◌≡◌, ◌⊎◌, [], Some, None, IfOk, MatchOption};
+ghost use Rattle.std.specs.Option.{option_copied};
+ghost use Rattle.picky_wire.specs.Gives.{Gives};
+ghost use Rattle.picky_sshkey_blob.specs.Key.{public_part};
+ghost use Rattle.picky_sshkey.specs.Made.{key_made, made_of, base_of as base_made, inner_of, private_shown};
+
+use crate::cipher::Cipher;
+use crate::kdf::{Kdf, NONE};
+use crate::kept::{kept_pass, kept_text, name_text};
+use picky_keys::{EcCurve, PrivateKey};
+use picky_sshkey_blob::{SshBasePrivateKey, SshPrivateKeyError};
+use picky_sshpub::SshPublicKey;
+use picky_wire::{Bytes, Mpint, NoMemory, Text, TryClone};
+use std::alloc::Global;
+
+/// A private key. The public key has an empty comment: the key's own stands in `comment` alone.
+///
+/// `cipher_name` and `kdf` are what an envelope said; with a passphrase `aes256-ctr` and `bcrypt` are written, with the
+/// salt and rounds of `kdf`, and without one `none` and `none`.
+#[derive(Debug, Drop, PartialEq, Eq)]
+pub struct SshPrivateKey {
+    pub cipher_name: Text,
+    pub kdf: Kdf,
+    pub base_key: SshBasePrivateKey,
+    pub public_key: SshPublicKey,
+    pub check: u32,
+    pub comment: Text,
+    pub passphrase: Option<Text>,
+}
+
+/// A private key whose parts another value keeps.
+#[derive(Clone, Copy, Debug, PartialEq, Eq)]
+pub enum PrivateKeyRef<'a> {
+    Rsa {
+        n: &'a Mpint,
+        e: &'a Mpint,
+        d: &'a Mpint,
+        iqmp: &'a Mpint,
+        p: &'a Mpint,
+        q: &'a Mpint,
+    },
+    Ec {
+        curve: EcCurve,
+        point: &'a Bytes,
+        secret: &'a Mpint,
+    },
+    Ed {
+        secret: &'a [u8; 32],
+        public: &'a [u8; 32],
+    },
+}
+
+impl SshPrivateKey {
+    /// The key with this comment, the check number 0, and with a passphrase the salt and 16 rounds.
+    ///
+    /// Refuses, in order: `TooLong`, where the passphrase or the comment has 2^32 bytes or more.
+    #[tactic(auto, unfolding(crate::specs::Made::key_made))]
+    pub fn from_base(
+        alloc: Global,
+        base: SshBasePrivateKey,
+        passphrase: Option<&str>,
+        comment: &str,
+        salt: &[u8; 16],
+    ) -> Result<SshPrivateKey, SshPrivateKeyError>
+        ensures { Gives SshPrivateKeyError.NoMemory (λ key. key) result
+            (key_made base (option_copied passphrase.entry) comment.now salt.now) }
+    {
+        let passphrase = match kept_pass(alloc, passphrase) {
+            Ok(passphrase) => passphrase,
+            Err(e) => return Err(e),
+        };
+        let comment = match kept_text(alloc, comment) {
+            Ok(comment) => comment,
+            Err(e) => return Err(e),
+        };
+        match made(alloc, base, passphrase, comment, salt) {
+            Ok(key) => Ok(key),
+            Err(NoMemory) => Err(SshPrivateKeyError::NoMemory),
+        }
+    }
+
+    /// The key without a passphrase and a comment.
+    pub fn from_private_key(alloc: Global, key: PrivateKey) -> Result<SshPrivateKey, NoMemory>
+        ensures { IfOk result (λ made. made ≡ made_of (base_made key) None [] []) }
+    {
+        let comment = name_text(alloc, "")?;
+        made(alloc, base_of(key), None, comment, &[0; 16])
+    }
+
+    /// The public key, with an empty comment.
+    pub fn public_key(&self) -> &SshPublicKey
+        ensures { result.now ≡ self.now.public_key }
+    {
+        &self.public_key
+    }
+
+    /// The key without what its envelope says.
+    pub fn base_key(&self) -> &SshBasePrivateKey
+        ensures { result.now ≡ self.now.base_key }
+    {
+        &self.base_key
+    }
+
+    /// The key, and none where a device keeps the secret.
+    pub fn inner_key(&self) -> Option<PrivateKeyRef<'_>>
+        ensures { MatchOption result (inner_of self.now.base_key ≡ None)
+            (λ key. inner_of self.now.base_key ≡ Some (private_shown key)) }
+    {
+        match &self.base_key {
+            SshBasePrivateKey::Rsa {
+                n,
+                e,
+                d,
+                iqmp,
+                p,
+                q,
+            } => Some(PrivateKeyRef::Rsa {
+                n,
+                e,
+                d,
+                iqmp,
+                p,
+                q,
+            }),
+            SshBasePrivateKey::Ec {
+                curve,
+                point,
+                secret,
+            } => Some(PrivateKeyRef::Ec {
+                curve: *curve,
+                point,
+                secret,
+            }),
+            SshBasePrivateKey::Ed { secret, public } => Some(PrivateKeyRef::Ed { secret, public }),
+            SshBasePrivateKey::SkEcdsaSha2NistP256 { .. } | SshBasePrivateKey::SkEd25519 { .. } => {
+                None
+            }
+        }
+    }
+}
+
+impl TryClone for SshPrivateKey {
+    fn try_clone(&self, alloc: Global) -> Result<SshPrivateKey, NoMemory> {
+        let cipher_name = self.cipher_name.try_clone(alloc)?;
+        let kdf = self.kdf.try_clone(alloc)?;
+        let base_key = self.base_key.try_clone(alloc)?;
+        let public_key = self.public_key.try_clone(alloc)?;
+        let comment = self.comment.try_clone(alloc)?;
+        let passphrase = pass_clone(alloc, &self.passphrase)?;
+        Ok(SshPrivateKey {
+            cipher_name,
+            kdf,
+            base_key,
+            public_key,
+            check: self.check,
+            comment,
+            passphrase,
+        })
+    }
+}
+
+/// A copy of a passphrase, where there is one.
+fn pass_clone(alloc: Global, pass: &Option<Text>) -> Result<Option<Text>, NoMemory>
+    ensures { IfOk result (λ copy. copy ≡ pass.now) }
+{
+    match pass {
+        Some(pass) => match pass.try_clone(alloc) {
+            Ok(pass) => Ok(Some(pass)),
+            Err(e) => Err(e),
+        },
+        None => Ok(None),
+    }
+}
+
+/// The key of these parts.
+#[tactic(auto, unfolding(crate::specs::Kdf::none, crate::specs::Kdf::bcrypt))]
+fn made(
+    alloc: Global,
+    base_key: SshBasePrivateKey,
+    passphrase: Option<Text>,
+    comment: Text,
+    salt: &[u8; 16],
+) -> Result<SshPrivateKey, NoMemory>
+    ensures { IfOk result (λ key. key ≡ made_of base_key passphrase comment salt.now) }
+{
+    let public_key = public_key_of(alloc, &base_key)?;
+    match passphrase {
+        Some(pass) => {
+            let cipher_name = name_text(alloc, Cipher::Aes256Ctr.name())?;
+            let kdf = Kdf::bcrypt(alloc, salt)?;
+            Ok(SshPrivateKey {
+                cipher_name,
+                kdf,
+                base_key,
+                public_key,
+                check: 0,
+                comment,
+                passphrase: Some(pass),
+            })
+        }
+        None => {
+            let cipher_name = name_text(alloc, NONE)?;
+            let kdf = Kdf::plain(alloc)?;
+            Ok(SshPrivateKey {
+                cipher_name,
+                kdf,
+                base_key,
+                public_key,
+                check: 0,
+                comment,
+                passphrase: None,
+            })
+        }
+    }
+}
+
+/// The public key of a private one, with an empty comment.
+pub fn public_key_of(alloc: Global, base: &SshBasePrivateKey) -> Result<SshPublicKey, NoMemory>
+    ensures { IfOk result (λ key. key ≡ record { inner_key = public_part base.now; comment = [] }) }
+{
+    let inner_key = base.base_public_key(alloc)?;
+    let comment = name_text(alloc, "")?;
+    Ok(SshPublicKey { inner_key, comment })
+}
+
+/// A key whose secret no device keeps, as one of OpenSSH's.
+fn base_of(key: PrivateKey) -> SshBasePrivateKey
+    ensures { result ≡ base_made key }
+{
+    match key {
+        PrivateKey::Rsa {
+            n,
+            e,
+            d,
+            iqmp,
+            p,
+            q,
+        } => SshBasePrivateKey::Rsa {
+            n,
+            e,
+            d,
+            iqmp,
+            p,
+            q,
+        },
+        PrivateKey::Ec {
+            curve,
+            point,
+            secret,
+        } => SshBasePrivateKey::Ec {
+            curve,
+            point,
+            secret,
+        },
+        PrivateKey::Ed { secret, public } => SshBasePrivateKey::Ed { secret, public },
+    }
+}
