@@ -8,6 +8,7 @@ use Rattle.picky_layout.specs.Combine.{tag}
 use Rattle.picky_layout.specs.Outcome.{map_err}
 use Rattle.picky_layout.specs.Wire.{string, string_of}
 use Rattle.picky_layout.proofs.Strings.{string_reads_back}
+use Rattle.picky_wire.proofs.WriteLemmas.{length-string_of}
 use Rattle.picky_wire.specs.Flaws.{wire_error}
 use Rattle.picky_wire.specs.Gives.{Gives}
 use Rattle.picky_wire.specs.Takes.{HasCause, causes_of}
@@ -18,13 +19,9 @@ use Rattle.picky_sshkey.specs.declared.kdf.KdfOption.{KdfOption}
 use Rattle.picky_sshkey.specs.Kdf.{is_no_option, kdf_option_of, no_option, option_fields}
 use Rattle.picky_sshkey.specs.KdfLayout.{option_said, read_option}
 
-pub string_len : (bytes : List ℕ) → length (string_of bytes) ≡ 4 + length bytes
-unfolding string_of
-string_len bytes = length-append (to_be_bytes w32 (length bytes)) bytes
-
 fields_len : (option : KdfOption) → is_no_option option ≡ false → length (option_fields option) ≡ length option.salt + 8
 fields_len option some =
-    rw some (omega (arith, length-append (string_of option.salt) (to_be_bytes w32 option.rounds), string_len option.salt))
+    rw some (omega (arith, length-append (string_of option.salt) (to_be_bytes w32 option.rounds), length-string_of option.salt))
 
 -- no salt and 0 rounds
 pub no_option_spelled : (option : KdfOption) → is_no_option option ≡ true
@@ -34,7 +31,7 @@ no_option_spelled option none = append-nil (string_of []) ∙ rw none refl
 
 pub no_option_len : (option : KdfOption) → is_no_option option ≡ true → length (kdf_option_of option) ≡ 4
 unfolding kdf_option_of
-no_option_len option none = rw none (string_len [])
+no_option_len option none = rw none (omega (arith, length-string_of []))
 
 pub empty_option : string_of [] ≡ kdf_option_of no_option
 unfolding kdf_option_of
@@ -52,7 +49,7 @@ option_spelled option n some is =
 
 pub option_len : (option : KdfOption) → is_no_option option ≡ false → length (kdf_option_of option) ≡ length option.salt + 12
 unfolding kdf_option_of
-option_len option some = omega (arith, string_len (option_fields option), fields_len option some)
+option_len option some = omega (arith, length-string_of (option_fields option), fields_len option some)
 
 -- ---- read
 

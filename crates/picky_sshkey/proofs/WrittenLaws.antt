@@ -32,8 +32,10 @@ use Rattle.picky_sshkey.specs.PrivateBlock.{PrivateBlock, check_numbers, private
 use Rattle.picky_sshkey.specs.Written.{count_up, envelope_of, fields_of, padding_of, plain_block, unit_of}
 use Rattle.picky_sshkey.specs.Written.{written_cipher, written_kdf, written_option}
 use Rattle.picky_sshkey.specs.carried.Kdf.{option_spells}
-use Rattle.picky_sshkey.proofs.KdfLemmas.{option_len, string_len}
-use Rattle.picky_sshkey.proofs.SecretLaws.{secret_is_bytes, secret_spells}
+use Rattle.picky_wire.proofs.WriteLemmas.{length-string_of}
+use Rattle.picky_sshkey.proofs.KdfLemmas.{option_len}
+use Rattle.picky_sshkey_blob.specs.carried.Blob.{secret_spells}
+use Rattle.picky_sshkey.proofs.SecretLaws.{secret_is_bytes}
 
 -- ---- the block
 
@@ -210,7 +212,7 @@ length-envelope_of key block =
       eight_parts magic (0 ∷ []) (string_of (written_cipher key.passphrase)) (string_of (written_kdf key.passphrase))
           (kdf_option_of (written_option key.passphrase key.kdf.option)) (to_be_bytes w32 1)
           (string_of (blob_of (public_part key.base_key))) (string_of block),
-      string_len block,
+      length-string_of block,
     )
 
 -- the parts of an envelope that is short
@@ -223,7 +225,7 @@ parts_short : (key : SshPrivateKey) (block : List ℕ) → length (envelope_of k
 parts_short key block short =
     let len = length-envelope_of key block in
     record {
-      outer = omega (arith, short, len, string_len (blob_of (public_part key.base_key)));
+      outer = omega (arith, short, len, length-string_of (blob_of (public_part key.base_key)));
       inner = omega (arith, short, len);
       room = room_of (written_option key.passphrase key.kdf.option) (omega (arith, short, len));
     }

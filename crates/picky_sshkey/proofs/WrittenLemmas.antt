@@ -17,7 +17,8 @@ use Rattle.picky_sshkey.specs.CipherNames.{cipher_name}
 use Rattle.picky_sshkey.specs.Envelope.{magic}
 use Rattle.picky_sshkey.specs.Kdf.{HasRoom, bcrypt, is_no_option, kdf_option_of, none, no_option}
 use Rattle.picky_sshkey.specs.Written.{count_up, envelope_of, may_derive, written_cipher, written_kdf, written_option}
-use Rattle.picky_sshkey.proofs.KdfLemmas.{no_option_len, option_len, string_len}
+use Rattle.picky_wire.proofs.WriteLemmas.{length-string_of}
+use Rattle.picky_sshkey.proofs.KdfLemmas.{no_option_len, option_len}
 
 -- ---- the padding
 
@@ -46,7 +47,7 @@ after_names cipher kdf option outer block =
     let c = length-append (string_of kdf) (option ++ (to_be_bytes w32 1 ++ (string_of outer ++ (string_of block ++ [])))) in
     let b = length-append (string_of cipher)
     (string_of kdf ++ (option ++ (to_be_bytes w32 1 ++ (string_of outer ++ (string_of block ++ []))))) in
-    omega (arith, b, c, d, e, f, g, string_len cipher, string_len kdf, string_len outer, string_len block)
+    omega (arith, b, c, d, e, f, g, length-string_of cipher, length-string_of kdf, length-string_of outer, length-string_of block)
 
 -- what may be derived from has a salt
 has_salt : (option : KdfOption) → 1 ≤ length option.salt → is_no_option option ≡ false

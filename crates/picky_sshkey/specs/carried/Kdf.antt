@@ -17,6 +17,7 @@ use Rattle.picky_layout.proofs.Strings.{string_spells}
 use Rattle.picky_layout.specs.Wire.{byte_array, uint32, string, string_of}
 use Rattle.picky_wire.specs.declared.error.WireError.{WireError}
 use Rattle.picky_wire.specs.declared.error.WireError.TheVariants as errors
+use Rattle.picky_wire.proofs.WriteLemmas.{length-string_of}
 use Rattle.picky_wire.specs.Flaws.{wire_error}
 use Rattle.picky_wire.specs.carried.Flaws.{wire_own}
 use Rattle.picky_sshkey.specs.declared.kdf.KdfOption.{KdfOption}
@@ -65,10 +66,6 @@ option_own bytes e refused = wire_own (kdf_option.read bytes) e (Prim.cc (option
 pub option_used : (bytes : List ℕ) → string.used bytes ≡ kdf_layout.used bytes
 unfolding kdf_option
 option_used bytes = refl
-
-len_of : (bytes : List ℕ) → length (string_of bytes) ≡ 4 + length bytes
-unfolding string_of
-len_of bytes = length-append (to_be_bytes w32 (length bytes)) bytes
 
 fields_spell : (option : KdfOption) → IsOption option → HasRoom option
     → kdf_fields.piece option (string_of option.salt ++ to_be_bytes w32 option.rounds)
@@ -124,7 +121,7 @@ option_spells option keeps written = go (is_no_option option) refl
         let fields : List ℕ = string_of option.salt ++ to_be_bytes w32 option.rounds in
         let all = append-nil fields in
         let len : length fields ≡ length option.salt + 8 =
-        omega (arith, length-append (string_of option.salt) (to_be_bytes w32 option.rounds), len_of option.salt) in
+        omega (arith, length-append (string_of option.salt) (to_be_bytes w32 option.rounds), length-string_of option.salt) in
         let room = has_room option written in
         rw is (subst (λ b. kdf_layout.piece option (string_of b)) all
         (or_empty_spells (λ flaw. flaw) no_option kdf_fields option fields [] (omega (arith, len))
