@@ -64,16 +64,16 @@ impl Kdf {
         let option = option_of(alloc, &[], 0)?;
         Ok(Kdf { name, option })
     }
+}
 
-    /// The one derivation, with this salt and 16 rounds.
-    #[tactic(auto, unfolding(crate::specs::Kdf::bcrypt))]
-    pub fn bcrypt(alloc: Global, salt: &[u8; 16]) -> Result<Kdf, NoMemory>
-        ensures { IfOk result (λ kdf. kdf ≡ record { name = bcrypt; option = record { salt = salt.now; rounds = 16 } }) }
-    {
-        let name = name_text(alloc, BCRYPT)?;
-        let option = option_of(alloc, salt, ROUNDS)?;
-        Ok(Kdf { name, option })
-    }
+/// The one derivation, with this salt and 16 rounds.
+#[tactic(auto, unfolding(crate::specs::Kdf::bcrypt))]
+pub fn bcrypt_kdf(alloc: Global, salt: &[u8; 16]) -> Result<Kdf, NoMemory>
+    ensures { IfOk result (λ kdf. kdf ≡ record { name = bcrypt; option = record { salt = salt.now; rounds = 16 } }) }
+{
+    let name = name_text(alloc, BCRYPT)?;
+    let option = option_of(alloc, salt, ROUNDS)?;
+    Ok(Kdf { name, option })
 }
 
 /// The salt and the rounds as a value.

@@ -7,7 +7,7 @@ ghost use Rattle.picky_sshkey_blob.specs.Key.{public_part};
 ghost use Rattle.picky_sshkey.specs.Made.{key_made, made_of, base_of as base_made, inner_of, private_shown};
 
 use crate::cipher::Cipher;
-use crate::kdf::{Kdf, NONE};
+use crate::kdf::{Kdf, NONE, bcrypt_kdf};
 use crate::kept::{kept_pass, kept_text, name_text};
 use picky_keys::{EcCurve, PrivateKey};
 use picky_sshkey_blob::{SshBasePrivateKey, SshPrivateKeyError};
@@ -189,7 +189,7 @@ fn made(
     match passphrase {
         Some(pass) => {
             let cipher_name = name_text(alloc, Cipher::Aes256Ctr.name())?;
-            let kdf = Kdf::bcrypt(alloc, salt)?;
+            let kdf = bcrypt_kdf(alloc, salt)?;
             Ok(SshPrivateKey {
                 cipher_name,
                 kdf,
