@@ -1,15 +1,14 @@
 -- No order of refusals answers a fault of the suite or want of memory, which are the code's alone.
-use Rattle.std.specs.Prelude.{◌≡◌, ◌≢◌, ◌==◌, Bool, true, false, List, ℕ, Option, None, Some, Result, Ok, Err, if◌then◌else◌}
+use Rattle.std.specs.Prelude.{◌≢◌, ◌==◌, Bool, true, false, List, ℕ, Option, None, Some, Result, Ok, Err, if◌then◌else◌}
 use Rattle.std.specs.Prelude.{length}
 use Rattle.std.specs.Option.{ok_or}
 use Rattle.std.specs.Str.{bytes_eq}
-use Rattle.std.proofs.Common.{inl, inr, refl, subst}
+use Rattle.std.proofs.Common.{refl, subst}
 use Rattle.picky_layout.specs.Combine.{tag}
 use Rattle.picky_layout.specs.Fixed.{is_number}
-use Rattle.picky_layout.specs.Flaw.{Flaw, Short, NotUtf8, Big, Why, Flawed, Length, Magic, Name, Number, Reason}
+use Rattle.picky_layout.specs.Flaw.{Flaw, Short, NotUtf8, Big, Flawed, Length, Magic, Name, Number, Reason}
 use Rattle.picky_layout.specs.Front.{read_front}
-use Rattle.picky_layout.specs.Grammar.{Grammar}
-use Rattle.picky_layout.specs.Outcome.{and_then, map_err}
+use Rattle.picky_layout.specs.Outcome.{map_err}
 use Rattle.picky_layout.specs.Table.{find_entry}
 use Rattle.picky_layout.specs.Wire.{text as utf8, uint32}
 use Rattle.picky_pem.specs.PemRefusal.{after_header, before_footer, of_body, pem_content, short_content}
@@ -23,7 +22,7 @@ use Rattle.picky_sshkey_blob.specs.Blob.{secret}
 use Rattle.picky_sshkey_blob.specs.BlobRefusal.{private_error}
 use Rattle.picky_sshkey_blob.specs.declared.error.SshPrivateKeyError.{SshPrivateKeyError}
 use Rattle.picky_sshkey_blob.specs.declared.error.SshPrivateKeyError.TheVariants as errors
-use Rattle.picky_sshkey_blob.proofs.RefusedLemmas.{RefusesAs, and_then_err, both_refuses, done_refuses, narrow_refuses}
+use Rattle.picky_sshkey_blob.proofs.RefusedLemmas.{RefusesAs, both_refuses, done_refuses, narrow_refuses}
 use Rattle.picky_sshkey_blob.proofs.RefusedLemmas.{test_refused}
 use Rattle.picky_sshkey.specs.declared.private_key.SshPrivateKey.{SshPrivateKey}
 use Rattle.picky_sshkey.specs.declared.cipher.Cipher.{Cipher}
@@ -33,48 +32,8 @@ use Rattle.picky_sshkey.specs.Kdf.{bcrypt}
 use Rattle.picky_sshkey.specs.PrivateBlock.{PrivateBlock, check_numbers, flaw_error, private_block}
 use Rattle.picky_sshkey.specs.PrivateRefusal.{Closed, closed, content_key, envelope_error, envelope_under, key_closed}
 use Rattle.picky_sshkey.specs.PrivateRefusal.{key_of_block, lock_of, lock_under, sealed_under, takes_block, text_key}
+use Rattle.picky_sshkey.proofs.RefusalLemmas.{Refuses, err_as, front_as, if_as, map_as, ok_as, some_as, tag_as, then_as}
 use Rattle.picky_sshkey.specs.Written.{key_content, key_text, sealable, text_len}
-
--- ---- steps
-
--- each refusal is such a one
-abbrev pub Refuses : {E A : Type 0} → (E → Type 0) → Result A E → Type 0
-Refuses {E = E} P r = (e : E) → r ≡ Err e → P e
-
-ok_as : {E A : Type 0} (P : E → Type 0) (x : A) → Refuses P (Ok x)
-ok_as P x e is = cc is
-
-err_as : {E A : Type 0} (P : E → Type 0) (why : E) → P why → Refuses {A = A} P (Err why)
-err_as P why such e is =
-    let same : why ≡ e = cc is in
-    subst P same such
-
-then_as : {E A B : Type 0} (P : E → Type 0) (r : Result A E) (next : A → Result B E) → Refuses P r
-    → ((x : A) → Refuses P (next x)) → Refuses P (and_then r next)
-then_as P r next first later e is = elim (and_then_err r next e is) [
-  | inl early ↦ first e early
-  | inr (x, was, late) ↦ later x e late
-]
-
-if_as : {E A : Type 0} (P : E → Type 0) (test : Bool) (r s : Result A E) → Refuses P r → Refuses P s
-    → Refuses P (if test then r else s)
-if_as P true r s passes fails = passes
-if_as P false r s passes fails = fails
-
-some_as : {E A : Type 0} (P : E → Type 0) (o : Option A) (why : E) → P why → Refuses P (ok_or o why)
-some_as P (Some x) why such e is = cc is
-some_as P None why such e is = err_as P why such e is
-
-map_as : {E F A : Type 0} (P : F → Type 0) (f : E → F) (r : Result A E) → ((e : E) → P (f e)) → Refuses P (map_err f r)
-map_as P f (Ok x) each e is = cc is
-map_as P f (Err why) each e is = err_as P (f why) (each why) e is
-
-tag_as : {E F A : Type 0} (P : F → Type 0) (f : E → F) (G : Grammar E A) → ((e : E) → P (f e)) → RefusesAs P (tag f G).read
-tag_as P f G each bytes e is = map_as P f (G.read bytes) each e is
-
-front_as : {E A : Type 0} (P : E → Type 0) (G : Grammar E A) (bytes : List ℕ) → RefusesAs P G.read
-    → Refuses P (read_front G bytes)
-front_as P G bytes refuses = then_as P (G.read bytes) (λ first. Ok first.0) (refuses bytes) (λ first. ok_as P first.0)
 
 -- ---- which errors are no faults
 
@@ -82,21 +41,25 @@ abbrev pub IsOwnPem : PemError → Type 0
 IsOwnPem pem.NoMemory = ⊥
 IsOwnPem other = Unit {0}
 
+-- neither the suite's nor memory's
 abbrev pub IsOwn : SshPrivateKeyError → Type 0
 IsOwn errors.SuiteFault = ⊥
 IsOwn errors.NoMemory = ⊥
 IsOwn (errors.PemError e) = IsOwnPem e
 IsOwn other = Unit {0}
 
+-- A flaw of a field is no fault.
 flaw_own : (flaw : Flaw) → IsOwn (flaw_error flaw)
 flaw_own Short = tt
 flaw_own NotUtf8 = tt
 flaw_own Big = tt
 
+-- A length that is refused is none.
 length_own : (secret : Bool) → IsOwn (if secret then errors.InvalidKeyFormat else errors.KeyError)
 length_own true = tt
 length_own false = tt
 
+-- Nor is a reason for which a blob is refused.
 private_own : (reason : Reason) → IsOwn (private_error reason)
 private_own (i, Flawed flaw) = flaw_own flaw
 private_own (i, Length) = length_own (i == 2)
@@ -104,6 +67,7 @@ private_own (i, Name name) = tt
 private_own (i, Magic) = tt
 private_own (i, Number n) = tt
 
+-- Nor one for which an envelope is.
 envelope_own : (reason : Reason) → IsOwn (envelope_error reason)
 envelope_own (i, Flawed flaw) = flaw_own flaw
 envelope_own (i, Length) = tt
@@ -113,6 +77,7 @@ envelope_own (i, Number n) = tt
 
 -- ---- a content
 
+-- Nor one for which the check numbers are.
 checks_own : RefusesAs IsOwn check_numbers.read
 unfolding check_numbers
 checks_own =
@@ -123,6 +88,7 @@ checks_own =
     (λ n e is. subst IsOwn (test_refused (n == check) n (errors.InvalidCheckNumbers check n) e is) tt))
     (λ again. done_refuses IsOwn check))
 
+-- Nor one for which a block is.
 block_own : RefusesAs IsOwn private_block.read
 unfolding private_block
 block_own =
@@ -130,19 +96,20 @@ block_own =
     both_refuses IsOwn (tag private_error secret).read _ (tag_as IsOwn private_error secret private_own) (λ key.
     both_refuses IsOwn (tag flaw_error utf8).read _ (tag_as IsOwn flaw_error utf8 flaw_own) (λ comment. done_refuses IsOwn _)))
 
--- An envelope under a passphrase is not.
+-- No envelope is refused for a fault.
 pub envelope_under_own : (given : Option (List ℕ)) (content : List ℕ) → Refuses IsOwn (envelope_under given content)
 unfolding envelope_under
 envelope_under_own given content =
     if_as IsOwn _ _ _ (map_as IsOwn envelope_error _ envelope_own) (err_as IsOwn errors.TooLong tt)
 
+-- Nor is a lock under a cipher and a passphrase.
 under_own : (e : Envelope) (cipher : Cipher) (pass : List ℕ) → Refuses IsOwn (lock_under e cipher pass)
 under_own e cipher pass =
     if_as IsOwn (bcrypt_fits (length pass) (length e.option.salt) e.option.rounds) _ _
     (if_as IsOwn (takes_block cipher e.block) _ _ (ok_as IsOwn _) (err_as IsOwn errors.DecryptionError tt))
     (err_as IsOwn errors.HashingError tt)
 
--- Nor is what opens a block that is sealed.
+-- Nor is a lock of a sealed block.
 pub sealed_own : (given : Option (List ℕ)) (e : Envelope) → Refuses IsOwn (sealed_under given e)
 unfolding sealed_under
 sealed_own given e =
@@ -153,18 +120,20 @@ sealed_own given e =
     (some_as IsOwn given errors.MissingPassphrase tt) (under_own e cipher))
     (err_as IsOwn (errors.UnsupportedKdf e.kdf) tt))
 
+-- Nor is any.
 lock_own : (given : Option (List ℕ)) (e : Envelope) → Refuses IsOwn (lock_of given e)
 unfolding lock_of
 lock_own given e =
     if_as IsOwn _ _ _ (ok_as IsOwn None) (then_as IsOwn _ _ (sealed_own given e) (λ lock. ok_as IsOwn (Some lock)))
 
+-- Nor are both together.
 closed_own : (given : Option (List ℕ)) (content : List ℕ) → Refuses IsOwn (closed given content)
 unfolding closed
 closed_own given content =
     then_as IsOwn _ _ (envelope_under_own given content) (λ e.
     then_as IsOwn _ _ (lock_own given e) (λ lock. ok_as IsOwn _))
 
--- Nor is a block, nor the key of one.
+-- Nor is what a block begins with, nor its key.
 pub block_front_own : (block : List ℕ) → Refuses IsOwn (read_front private_block block)
 block_front_own block = front_as IsOwn private_block block block_own
 
@@ -172,27 +141,32 @@ pub key_of_block_own : (given : Option (List ℕ)) (e : Envelope) (block : Priva
     → Refuses IsOwn (key_of_block given e block)
 key_of_block_own given e block = if_as IsOwn _ _ _ (ok_as IsOwn _) (err_as IsOwn errors.PublicKeyMismatch tt)
 
+-- Nor is the key in them.
 key_closed_own : (m : Meanings) (given : Option (List ℕ)) (c : Closed) → Refuses IsOwn (key_closed m given c)
 unfolding key_closed
 key_closed_own m given c =
     then_as IsOwn _ _ (block_front_own _) (key_of_block_own given c.envelope)
 
+-- Nor is a content.
 content_own : (m : Meanings) (given : Option (List ℕ)) (content : List ℕ) → Refuses IsOwn (content_key m given content)
 unfolding content_key
 content_own m given content = then_as IsOwn _ _ (closed_own given content) (key_closed_own m given)
 
 -- ---- a text
 
+-- A content of a text is not refused for a fault.
 short_own : (content : List ℕ) → Refuses IsOwnPem (short_content content)
 unfolding short_content
 short_own content = if_as IsOwnPem _ _ _ (ok_as IsOwnPem content) (err_as IsOwnPem pem.TooLong tt)
 
+-- Nor is a body.
 body_own : (body : List ℕ) → Refuses IsOwnPem (of_body body)
 unfolding of_body
 body_own body =
     then_as IsOwnPem (ok_or (decoded (packed body)) pem.BadBase64) short_content
     (some_as IsOwnPem (decoded (packed body)) pem.BadBase64 tt) short_own
 
+-- Nor is the armour.
 pem_own : (bytes : List ℕ) → Refuses IsOwnPem (pem_content bytes)
 unfolding pem_content
 pem_own bytes =
@@ -201,10 +175,12 @@ pem_own bytes =
     then_as IsOwnPem (ok_or (before_footer after) pem.FooterNotFound) of_body
     (some_as IsOwnPem (before_footer after) pem.FooterNotFound tt) body_own)
 
+-- A fault of the armour would be a fault of the key.
 pem_error_own : (r : Result (List ℕ) PemError) → Refuses IsOwnPem r → Refuses IsOwn (map_err errors.PemError r)
 pem_error_own (Ok x) each = ok_as IsOwn x
 pem_error_own (Err why) each = err_as IsOwn (errors.PemError why) (each why refl)
 
+-- Nor is a text.
 text_own : (m : Meanings) (given : Option (List ℕ)) (text : List ℕ) → Refuses IsOwn (text_key m given text)
 unfolding text_key
 text_own m given text =
@@ -212,6 +188,7 @@ text_own m given text =
 
 -- ---- what is written
 
+-- No key is refused for a fault before it is sealed.
 sealable_own : (measure : List ℕ → ℕ) (key : SshPrivateKey) → Refuses IsOwn (sealable measure key)
 unfolding sealable
 sealable_own measure key =
@@ -219,10 +196,12 @@ sealable_own measure key =
     (if_as IsOwn _ _ _ (ok_as IsOwn _) (err_as IsOwn errors.TooLong tt))
     (err_as IsOwn errors.HashingError tt)
 
+-- Nor is its content.
 written_own : (m : Meanings) (key : SshPrivateKey) → Refuses IsOwn (key_content m key)
 unfolding key_content
 written_own m key = then_as IsOwn _ _ (sealable_own _ key) (λ lock. ok_as IsOwn _)
 
+-- Nor is its text.
 written_text_own : (m : Meanings) (key : SshPrivateKey) → Refuses IsOwn (key_text m key)
 unfolding key_text
 written_text_own m key = then_as IsOwn _ _ (sealable_own text_len key) (λ lock. ok_as IsOwn _)

@@ -1,5 +1,5 @@
 -- What is written of a private key is read back, sealed or not, under its own passphrase.
-use Rattle.std.specs.Prelude.{◌≡◌, ◌<◌, ◌^◌, ◌++◌, Bool, true, false, List, [], ℕ, Option, None, Some, Result, Ok, Err, length}
+use Rattle.std.specs.Prelude.{◌≡◌, ◌<◌, ◌^◌, ◌++◌, true, List, [], ℕ, Option, None, Some, Ok, length}
 use Rattle.std.specs.Option.{IfSome}
 use Rattle.std.specs.Str.{trim_end}
 use Rattle.std.proofs.Common.{◌∙◌, ap, arith, inl, inr, refl, subst, sym}
@@ -12,7 +12,6 @@ use Rattle.picky_layout.proofs.Numbers.{bytes_in_front}
 use Rattle.picky_pem.specs.Pem.{pem_text}
 use Rattle.picky_pem.proofs.TextLaws.{text_is_long, text_read_back}
 use Rattle.picky_suite.specs.Meanings.{Meanings}
-use Rattle.picky_suite.specs.Ranges.{bcrypt_fits}
 use Rattle.picky_suite.proofs.RangeLemmas.{bcrypt_decides}
 use Rattle.picky_text.proofs.WordLaws.{IsUtf8-trim_end, trim_end-trim_end, trim_end_front}
 use Rattle.picky_sshpub.specs.Blob.{blob_of}
@@ -25,7 +24,6 @@ use Rattle.picky_sshkey_blob.proofs.KeyLaws.{public_part_is_key}
 use Rattle.picky_sshkey.specs.declared.cipher.Cipher.TheVariants.{Aes256Ctr}
 use Rattle.picky_sshkey.specs.declared.kdf.KdfOption.{KdfOption}
 use Rattle.picky_sshkey.specs.declared.private_key.SshPrivateKey.{SshPrivateKey}
-use Rattle.picky_sshkey.specs.Envelope.{Envelope}
 use Rattle.picky_sshkey.specs.Kept.{IsKept, read_again}
 use Rattle.picky_sshkey.specs.Opened.{Lock, opened}
 use Rattle.picky_sshkey.specs.PrivateRefusal.{content_key, text_key}
@@ -35,8 +33,8 @@ use Rattle.picky_sshkey.specs.Written.{padding_of, plain_block, sealable, sealed
 use Rattle.picky_sshkey.specs.Written.{written_cipher, written_kdf, written_option}
 use Rattle.picky_sshkey.proofs.LockLaws.{length-opened, opened-opened, opened_bytes}
 use Rattle.picky_sshkey.proofs.MeaningLaws.{content_means}
-use Rattle.picky_sshkey.proofs.WrittenLaws.{block_is_bytes, block_read, block_spells, envelope_is_bytes, envelope_read}
-use Rattle.picky_sshkey.proofs.WrittenLaws.{envelope_spells, length-envelope_of, written_keeps}
+use Rattle.picky_sshkey.proofs.BlockLaws.{block_is_bytes, block_read, block_spells}
+use Rattle.picky_sshkey.proofs.WrittenLaws.{envelope_is_bytes, envelope_read, envelope_spells, length-envelope_of, written_keeps}
 
 -- ---- sealing
 
@@ -84,6 +82,7 @@ sealed_opens m key (Some pass) outer may =
       sym (opened-opened m lock key.kdf.option (plain_block key) refl),
     )
 
+-- What is sealed is bytes.
 sealed_bytes : (m : Meanings) (key : SshPrivateKey) (given : Option (List ℕ)) → IsKept key → IfSome given IsText
     → IsBytes (sealed_block m (lock_kept given) key)
 sealed_bytes m key None kept pass = block_is_bytes key kept
@@ -98,6 +97,7 @@ record IsSealable (measure : List ℕ → ℕ) (key : SshPrivateKey) (lock : Opt
   short : measure (envelope_of key (plain_block key)) < 2 ^ 32
   is : lock_kept key.passphrase ≡ lock
 
+-- What may be sealed may be derived for, is short, and has its lock.
 sealable_says : (measure : List ℕ → ℕ) (key : SshPrivateKey) (lock : Option Lock) → sealable measure key ≡ Ok lock
     → IsSealable measure key lock
 unfolding sealable
@@ -108,6 +108,7 @@ sealable_says measure key lock is =
 
 -- ---- the content
 
+-- A passphrase that is text is short.
 short_pass : (given : Option (List ℕ)) → IfSome given IsText → IsShortPass given
 short_pass None is = tt
 short_pass (Some pass) is = is.string.short
@@ -116,6 +117,7 @@ short_pass (Some pass) is = is.string.short
 abbrev written : Meanings → SshPrivateKey → List ℕ
 written m key = content_under m key (lock_kept key.passphrase)
 
+-- A content is as short sealed as before.
 written_short : (m : Meanings) (key : SshPrivateKey) → length (envelope_of key (plain_block key)) < 2 ^ 32
     → length (written m key) < 2 ^ 32
 written_short m key short =
@@ -123,6 +125,7 @@ written_short m key short =
     (sealed_len m key (lock_kept key.passphrase)) in
     omega (arith, short, same)
 
+-- A block is its fields and their padding.
 plain_is : (key : SshPrivateKey)
     → plain_block key ≡ fields_of key ++ padding_of (unit_of key.passphrase) (fields_of key)
 unfolding plain_block
@@ -164,6 +167,7 @@ content_reads_back m key content more kept has =
 
 -- ---- the text
 
+-- The text of a content that is written is read back, whatever follows it.
 written_reads_back : (m : Meanings) (key : SshPrivateKey) (more : List ℕ) → IsKept key
     → may_derive key.passphrase key.kdf.option ≡ true → length (envelope_of key (plain_block key)) < 2 ^ 32
     → text_key m key.passphrase (pem_text (written m key) ++ more) ≡ Ok (read_again key)
@@ -193,6 +197,7 @@ text_reads_back m key text more kept has =
 
 -- ---- and what is read again of what was read again
 
+-- Options that are written are written as they are.
 written_twice : (given : Option (List ℕ)) (option : KdfOption)
     → written_option given (written_option given option) ≡ written_option given option
 written_twice None option = refl
@@ -208,6 +213,7 @@ read_again-read_again key kept =
     }) (written_twice key.passphrase key.kdf.option)
     ∙ ap (λ comment. record once { comment = comment }) (trim_end-trim_end key.comment kept.comment.utf8)
 
+-- Text without the white space at its end is text.
 trimmed_keeps : (text : List ℕ) → IsText text → IsText (trim_end text)
 trimmed_keeps text is =
     let front = trim_end_front text is.utf8 in

@@ -7,8 +7,11 @@ pub mod SecretLaws
 pub mod PieceLaws
 pub mod LockLaws
 pub mod MeaningLaws
+pub mod NameLaws
+pub mod BlockLaws
 pub mod WrittenLaws
 pub mod KeptLaws
+pub mod RefusalLemmas
 pub mod FaultLaws
 pub mod ReadingLemmas
-pub mod LawLemmas
+pub mod EqualityLemmas

@@ -1,5 +1,5 @@
 -- What opens a block: the order of its refusals answers what the relation says, and what is opened keeps.
-use Rattle.std.specs.Prelude.{◌≡◌, ◌⊎◌, ◌||◌, ◌==◌, Bool, true, false, List, ℕ, Option, None, Some, Ok, Err, length, not}
+use Rattle.std.specs.Prelude.{◌≡◌, ◌⊎◌, ◌||◌, ◌==◌, Bool, true, false, List, ℕ, Option, None, Some, Ok, length, not}
 use Rattle.std.specs.Prelude.{◌+◌, if◌then◌else◌}
 use Rattle.std.specs.Option.{ok_or}
 use Rattle.std.specs.Str.{bytes_eq}
@@ -29,16 +29,19 @@ use Rattle.picky_sshkey.specs.PrivateText.{IsLocked}
 
 -- ---- the test of a block's length
 
+-- A block that a chaining cipher takes is whole.
 whole_of : (chains : Bool) (over : ℕ) → (not chains || over == 0) ≡ true → chains ≡ true → over ≡ 0
 whole_of true over passes is = eqb-true over 0 passes
 whole_of false over passes is = cc is
 
+-- It takes a whole one.
 of_whole : (chains : Bool) (over : ℕ) → (chains ≡ true → over ≡ 0) → (not chains || over == 0) ≡ true
 of_whole true over whole = eq-eqb over 0 (whole refl)
 of_whole false over whole = refl
 
 -- ---- a lock that is found is one
 
+-- A lock that is found under a cipher and a passphrase is one of the envelope.
 under_says : (given : Option (List ℕ)) (e : Envelope) (cipher : Cipher) (pass : List ℕ) (lock : Lock)
     → e.cipher ≡ cipher_name cipher → e.kdf ≡ bcrypt → given ≡ Some pass → lock_under e cipher pass ≡ Ok lock
     → IsLocked given e lock
@@ -54,6 +57,7 @@ under_says given e cipher pass lock named kdf some is =
       whole = whole_of (is_cbc cipher) _ takes.0;
     })
 
+-- So is one that is found for a block that is sealed.
 sealed_says : (given : Option (List ℕ)) (e : Envelope) (lock : Lock) → sealed_under given e ≡ Ok lock
     → IsLocked given e lock
 unfolding sealed_under ciphers
@@ -86,15 +90,18 @@ pub lock_of_none : (given : Option (List ℕ)) (e : Envelope) → e.kdf ≡ none
 unfolding lock_of
 lock_of_none given e kdf = rw ((bytes_eq-Decides e.kdf none).1 kdf) refl
 
+-- The two names of derivations differ.
 names_differ : bytes_eq bcrypt none ≡ false
 unfolding bcrypt none
 names_differ = refl
 
+-- A cipher is found by its name.
 cipher_found : (e : Envelope) (cipher : Cipher) → e.cipher ≡ cipher_name cipher
     → find_entry ciphers e.cipher ≡ Some cipher
 unfolding ciphers
 cipher_found e cipher named = key_is_found ciphers e.cipher cipher (sym named)
 
+-- A lock of the envelope is found under its cipher and passphrase.
 under_means : (given : Option (List ℕ)) (e : Envelope) (lock : Lock) → IsLocked given e lock
     → lock_under e lock.cipher lock.pass ≡ Ok lock
 under_means given e lock locked =
@@ -102,6 +109,7 @@ under_means given e lock locked =
     let takes : takes_block lock.cipher e.block ≡ true = of_whole (is_cbc lock.cipher) _ locked.whole in
     rw (fits, takes) refl
 
+-- It is found for the block that is sealed.
 sealed_means : (given : Option (List ℕ)) (e : Envelope) (lock : Lock) → IsLocked given e lock
     → sealed_under given e ≡ Ok lock
 unfolding sealed_under
@@ -121,6 +129,7 @@ lock_of_some given e lock locked =
 
 -- ---- what is opened
 
+-- What holds of both holds of either.
 either : {A : Type 0} (P : A → Type 0) (b : Bool) (x y : A) → P x → P y → P (if b then x else y)
 either P true x y left right = left
 either P false x y left right = right

@@ -1,5 +1,5 @@
 -- A private key's content, and its text, mean a key exactly where they say it, and they say one.
-use Rattle.std.specs.Prelude.{◌≡◌, Bool, true, false, List, ℕ, Option, None, Some, Result, Ok, Err}
+use Rattle.std.specs.Prelude.{◌≡◌, true, false, List, ℕ, Option, None, Some, Result, Ok, Err}
 use Rattle.std.specs.Option.{IfSome}
 use Rattle.std.proofs.Common.{◌∙◌, ap, inl, inr, refl, subst, sym}
 use Rattle.std.proofs.lemmas.Bool.{ltb-true, lt-ltb}
@@ -33,16 +33,19 @@ use Rattle.picky_sshkey.proofs.PublicLaws.{says_public_is, says_public_refused, 
 
 -- ---- the passphrase is short
 
+-- A passphrase that passes the test is short.
 short_says : (given : Option (List ℕ)) → is_short_text given ≡ true → IsShortPass given
 short_says None is = tt
 short_says (Some pass) is = ltb-true _ _ is
 
+-- A short one passes it.
 short_means : (given : Option (List ℕ)) → IsShortPass given → is_short_text given ≡ true
 short_means None short = refl
 short_means (Some pass) short = lt-ltb _ _ short
 
 -- ---- the envelope and its lock
 
+-- An envelope that is read stands in front, under a short passphrase.
 envelope_says : (given : Option (List ℕ)) (content : List ℕ) (e : Envelope) → envelope_under given content ≡ Ok e
     → IsShortPass given × Begins layout.piece content e
 unfolding envelope_under
@@ -51,12 +54,14 @@ envelope_says given content e is =
     let read = map_err_ok envelope_error (read_front layout content) e passed.1 in
     (short_says given passed.0, front_sound layout content e read)
 
+-- An envelope that stands in front is read.
 envelope_means : (given : Option (List ℕ)) (content : List ℕ) (e : Envelope) → IsShortPass given
     → Begins layout.piece content e → envelope_under given content ≡ Ok e
 unfolding envelope_under
 envelope_means given content e short begins =
     rw (short_means given short, front_complete layout content e begins) refl
 
+-- What is closed is an envelope and its lock.
 closed_says : (given : Option (List ℕ)) (content : List ℕ) (c : Closed) → closed given content ≡ Ok c
     → (envelope_under given content ≡ Ok c.envelope) × (lock_of given c.envelope ≡ Ok c.lock)
 unfolding closed
@@ -67,6 +72,7 @@ closed_says given content c is =
     subst (λ (d : Closed). (envelope_under given content ≡ Ok d.envelope) × (lock_of given d.envelope ≡ Ok d.lock)) same
     (one.1, two.1)
 
+-- An envelope and its lock are closed.
 closed_means : (given : Option (List ℕ)) (content : List ℕ) (e : Envelope) (lock : Option Lock)
     → envelope_under given content ≡ Ok e → lock_of given e ≡ Ok lock
     → closed given content ≡ Ok (record { envelope = e; lock = lock })
@@ -75,6 +81,7 @@ closed_means given content e lock one two = rw (one, two) refl
 
 -- ---- the block that is opened
 
+-- A lock that is found opens the block.
 opened_says : (m : Meanings) (given : Option (List ℕ)) (e : Envelope) (lock : Option Lock) → lock_of given e ≡ Ok lock
     → IsOpened m given e (plain_of m e lock)
 opened_says m given e lock is = elim (lock_of_says given e lock is) [
@@ -82,6 +89,7 @@ opened_says m given e lock is = elim (lock_of_says given e lock is) [
   | inr shut ↦ inr (shut.0, shut.2, ap (plain_of m e) shut.1)
 ]
 
+-- What a block of bytes was before it was sealed is bytes.
 opened_is_bytes : (m : Meanings) (given : Option (List ℕ)) (e : Envelope) (plain : List ℕ) → IfSome given IsBytes
     → IsBytes e.option.salt → IsBytes e.block → IsOpened m given e plain → IsBytes plain
 opened_is_bytes m given e plain pass salt block is = elim is [
@@ -91,6 +99,7 @@ opened_is_bytes m given e plain pass salt block is = elim is [
       subst IsBytes (sym shut.2) (opened_bytes m shut.0 e.option e.block each salt block)
 ]
 
+-- What opens the block is found.
 opened_means : (m : Meanings) (given : Option (List ℕ)) (e : Envelope) (plain : List ℕ) → IsOpened m given e plain
     → (lock : Option Lock) × (lock_of given e ≡ Ok lock) × (plain_of m e lock ≡ plain)
 opened_means m given e plain is = elim is [
@@ -100,6 +109,7 @@ opened_means m given e plain is = elim is [
 
 -- ---- the public key before it
 
+-- Where the outer key passes the test, it stands in front.
 public_says : (outer : List ℕ) (key : SshBasePrivateKey) → IsBytes outer → IsPrivateKey key
     → is_public_part outer key ≡ true → Begins blob.piece outer (public_part key)
 public_says outer key each private is = go (read_front blob outer) refl
@@ -111,6 +121,7 @@ public_says outer key each private is = go (read_front blob outer) refl
     go (Err reason) refused =
         let differs : true ≡ false = sym is ∙ says_public_refused outer key reason refused in cc differs
 
+-- Where it stands in front, it passes.
 public_means : (outer : List ℕ) (key : SshBasePrivateKey) → Begins blob.piece outer (public_part key)
     → is_public_part outer key ≡ true
 public_means outer key begins =
@@ -125,6 +136,7 @@ record IsBlockOf (m : Meanings) (given : Option (List ℕ)) (c : Closed) (key : 
   public : is_public_part c.envelope.outer block.key ≡ true
   is : key_in given c.envelope block ≡ key
 
+-- A key that is found in the opened bytes is one of a block there.
 closed_key : (m : Meanings) (given : Option (List ℕ)) (c : Closed) (key : SshPrivateKey) → key_closed m given c ≡ Ok key
     → IsBlockOf m given c key
 unfolding key_closed
@@ -169,6 +181,7 @@ content_says m given content key each pass has =
       key_is = sym inside.is;
     }
 
+-- A block in front of the opened bytes has its key found.
 block_means : (m : Meanings) (given : Option (List ℕ)) (e : Envelope) (lock : Option Lock) (block : PrivateBlock)
     → Begins private_block.piece (plain_of m e lock) block → is_public_part e.outer block.key ≡ true
     → key_closed m given (record { envelope = e; lock = lock }) ≡ Ok (key_in given e block)

@@ -1,8 +1,7 @@
 -- What the pieces of an envelope and of a block keep, where they are bytes.
-use Rattle.std.specs.Prelude.{◌≡◌, List, [], ◌∷◌, ℕ}
-use Rattle.std.proofs.Common.{ap, subst, sym}
+use Rattle.std.specs.Prelude.{List, [], ◌∷◌, ℕ}
+use Rattle.std.proofs.Common.{subst, sym}
 use Rattle.picky_layout.specs.Numbers.{IsBytes}
-use Rattle.picky_layout.specs.Wire.{string}
 use Rattle.picky_layout.proofs.Numbers.{bytes_in_front, bytes_behind}
 use Rattle.picky_sshpub.proofs.ByteLaws.{no_bytes}
 use Rattle.picky_sshpub.proofs.KeyLaws.{string_keeps}
@@ -11,10 +10,11 @@ use Rattle.picky_sshkey_blob.proofs.KeyLaws.{spelled_is_key}
 use Rattle.picky_sshkey.specs.declared.kdf.KdfOption.{KdfOption}
 use Rattle.picky_sshkey.specs.Envelope.{Envelope, envelope, envelope_fields, envelope_parts}
 use Rattle.picky_sshkey.specs.Kdf.{kdf_fields, kdf_option, option_inside}
-use Rattle.picky_sshkey.specs.PrivateBlock.{PrivateBlock, check_numbers, private_block}
+use Rattle.picky_sshkey.specs.PrivateBlock.{PrivateBlock, private_block}
 
 -- ---- the options
 
+-- A salt in fields of bytes is bytes.
 fields_salt : (option : KdfOption) (bytes : List ℕ) → IsBytes bytes → kdf_fields.piece option bytes
     → IsBytes option.salt
 unfolding kdf_fields
@@ -22,6 +22,7 @@ fields_salt option bytes each (salt, x, y, salt_is, (rounds, z, w, rounds_is, (i
     subst (λ (o : KdfOption). IsBytes o.salt) (sym is)
     (string_keeps salt x (bytes_in_front x y (subst IsBytes j1 each)) salt_is).bytes
 
+-- So is one that a string of bytes says.
 said_salt : (block : List ℕ) (option : KdfOption) → IsBytes block → option_inside.means block option
     → IsBytes option.salt
 said_salt [] option each is = subst (λ (o : KdfOption). IsBytes o.salt) (sym is) no_bytes
@@ -40,6 +41,7 @@ option_keeps option bytes each (block, spells, means) =
 abbrev EnvelopeBytes : Envelope → Type 0
 EnvelopeBytes e = IsBytes e.option.salt × IsBytes e.outer × IsBytes e.block
 
+-- So are the salt, the public key and the block after the names.
 parts_keep : (cipher kdf : List ℕ) (e : Envelope) (bytes : List ℕ) → IsBytes bytes
     → (envelope_parts cipher kdf).piece e bytes → EnvelopeBytes e
 unfolding envelope_parts

@@ -38,6 +38,7 @@ front_is_key outer other each read =
     let same : found.0.0 ≡ other = cc found.2 in
     subst IsKey same key
 
+-- What is not true is false.
 not_true : (b : Bool) → (b ≡ true → ⊥) → b ≡ false
 not_true true other = absurd (other refl)
 not_true false other = refl
@@ -74,11 +75,13 @@ says_public_refused outer key r refused = ap (says_public key) refused
 
 -- ---- by the public key's own reading
 
+-- What is read under other errors is read.
 unmapped : {E F A B : Type 0} (f : E → F) (g : A → B) (r : Result A E) (y : B)
     → and_then (map_err f r) (λ found. Ok (g found)) ≡ Ok y → and_then r (λ found. Ok (g found)) ≡ Ok y
 unmapped f g (Ok x) y same = cc same
 unmapped f g (Err e) y same = cc same
 
+-- What is refused under other errors is refused.
 unmapped_err : {E F A B : Type 0} (f : E → F) (g : A → B) (r : Result A E) (e : F)
     → and_then (map_err f r) (λ found. Ok (g found)) ≡ Err e
     → (reason : E) × (and_then r (λ found. Ok (g found)) ≡ Err reason)

@@ -1,103 +1,36 @@
--- What is written of a private key: its pieces, its length, and that it is bytes.
-use Rattle.std.specs.Prelude.{◌≡◌, ◌<◌, ◌≤◌, ◌+◌, ◌-◌, ◌%◌, ◌^◌, ◌++◌, ◌==◌, ◌&&◌, Bool, true, false, List, [], ◌∷◌, ℕ, zero, suc}
-use Rattle.std.specs.Prelude.{Option, None, Some, IsUtf8, length, if◌then◌else◌, nat_lt, codes}
+-- The envelope that is written of a private key: it is a piece of its layout, how long it is, and that it is bytes.
+use Rattle.std.specs.Prelude.{◌≡◌, ◌<◌, ◌+◌, ◌-◌, ◌^◌, ◌++◌, ◌==◌, ◌&&◌, Bool, true, false, List, [], ◌∷◌, ℕ}
+use Rattle.std.specs.Prelude.{Option, None, Some, length, if◌then◌else◌, codes}
 use Rattle.std.specs.Int.{w32, to_be_bytes}
-use Rattle.std.specs.List.{concat, list_all}
-use Rattle.std.proofs.Common.{◌∙◌, ap, arith, refl, sym}
-use Rattle.std.proofs.lemmas.Bool.{eqb-true, lt-ltb, ltb-true}
+use Rattle.std.specs.List.{concat}
+use Rattle.std.proofs.Common.{arith, refl}
+use Rattle.std.proofs.lemmas.Bool.{eqb-true, lt-ltb}
 use Rattle.std.proofs.lemmas.List.{length-append}
-use Rattle.std.proofs.lemmas.List.Sums.{AllPass-from_list_all}
-use Rattle.std.proofs.lemmas.Str.{IsUtf8-from_ascii}
-use Rattle.std.proofs.lemmas.Str.Ascii.{IsAscii-from_all}
 use Rattle.picky_layout.specs.Numbers.{IsBytes}
 use Rattle.picky_layout.specs.Wire.{string_of}
 use Rattle.picky_layout.proofs.Fixed.{fixed_uint32_spells, raw_spells}
-use Rattle.picky_layout.proofs.Numbers.{byte_spells, uint32_spells}
+use Rattle.picky_layout.proofs.Numbers.{byte_spells}
 use Rattle.picky_layout.proofs.Strings.{string_spells, text_spells}
 use Rattle.picky_sshpub.specs.Blob.{blob_of}
 use Rattle.picky_sshpub.proofs.ByteLaws.{bytes_by_test, bytes_first, bytes_joined, no_bytes, number_bytes, string_bytes_each}
 use Rattle.picky_sshpub.proofs.LineLaws.{blob_is_bytes}
-use Rattle.picky_sshkey_blob.specs.Blob.{secret_of}
 use Rattle.picky_sshkey_blob.specs.Key.{public_part}
 use Rattle.picky_sshkey_blob.proofs.KeyLaws.{public_part_is_key}
-use Rattle.picky_sshkey.specs.declared.cipher.Cipher.TheVariants.{Aes256Ctr}
 use Rattle.picky_sshkey.specs.declared.kdf.KdfOption.{KdfOption}
 use Rattle.picky_sshkey.specs.declared.private_key.SshPrivateKey.{SshPrivateKey}
-use Rattle.picky_sshkey.specs.CipherNames.{cipher_name}
 use Rattle.picky_sshkey.specs.Envelope.{Envelope, envelope, envelope_fields, envelope_parts, magic}
-use Rattle.picky_sshkey.specs.Kdf.{HasRoom, bcrypt, is_no_option, kdf_option_of, no_option, none, option_fields}
+use Rattle.picky_sshkey.specs.Kdf.{HasRoom, is_no_option, kdf_option_of, no_option, option_fields}
 use Rattle.picky_sshkey.specs.KdfLayout.{IsOption, unwritten}
 use Rattle.picky_sshkey.specs.Kept.{IsKept}
-use Rattle.picky_sshkey.specs.PrivateBlock.{PrivateBlock, check_numbers, private_block}
-use Rattle.picky_sshkey.specs.Written.{count_up, envelope_of, fields_of, padding_of, plain_block, unit_of}
-use Rattle.picky_sshkey.specs.Written.{written_cipher, written_kdf, written_option}
+use Rattle.picky_sshkey.specs.Written.{envelope_of, written_cipher, written_kdf, written_option}
 use Rattle.picky_sshkey.specs.carried.Kdf.{option_spells}
 use Rattle.picky_wire.proofs.WriteLemmas.{length-string_of}
 use Rattle.picky_sshkey.proofs.KdfLemmas.{option_len}
-use Rattle.picky_sshkey_blob.specs.carried.Blob.{secret_spells}
-use Rattle.picky_sshkey.proofs.SecretLaws.{secret_is_bytes}
-
--- ---- the block
-
--- the block of a key, before it is sealed
-abbrev pub block_read : SshPrivateKey → PrivateBlock
-block_read key = record { check = key.check; key = key.base_key; comment = key.comment }
-
-checks_spell : (n : ℕ) → n < 2 ^ 32 → check_numbers.piece n (to_be_bytes w32 n ++ (to_be_bytes w32 n ++ []))
-unfolding check_numbers
-checks_spell n small = (
-  n,
-  _,
-  _,
-  uint32_spells n small,
-  (n, _, _, (n, uint32_spells n small, (refl, refl)), (refl, refl), refl),
-  refl,
-)
-
--- The fields that are written are a piece of the block's layout.
-pub block_spells : (key : SshPrivateKey) → IsKept key → private_block.piece (block_read key) (fields_of key)
-unfolding private_block fields_of
-block_spells key kept = (
-  key.check,
-  to_be_bytes w32 key.check ++ (to_be_bytes w32 key.check ++ []),
-  secret_of key.base_key ++ (string_of key.comment ++ []),
-  checks_spell key.check kept.check,
-  (
-    key.base_key,
-    _,
-    _,
-    secret_spells key.base_key kept.base_key,
-    (key.comment, _, _, text_spells key.comment kept.comment.string.short kept.comment.utf8, (refl, refl), refl),
-    refl,
-  ),
-  refl,
-)
-
--- Numbers from n on are bytes, as long as they are below 256.
-count_bytes : (n more : ℕ) → n + more ≤ 256 → IsBytes (count_up n more)
-count_bytes n zero small = no_bytes
-count_bytes n (suc more) small = bytes_first n (count_up (n + 1) more) (omega arith) (count_bytes (n + 1) more (omega arith))
-
-unit_small : (given : Option (List ℕ)) → unit_of given ≤ 16
-unit_small None = omega arith
-unit_small (Some pass) = omega arith
-
--- The block that is written is bytes.
-pub block_is_bytes : (key : SshPrivateKey) → IsKept key → IsBytes (plain_block key)
-unfolding plain_block fields_of
-block_is_bytes key kept =
-    let check = number_bytes key.check in
-    let small = unit_small key.passphrase in
-    let fields : List ℕ = secret_of key.base_key ++ (string_of key.comment ++ []) in
-    bytes_joined (fields_of key) (padding_of (unit_of key.passphrase) (fields_of key))
-    (bytes_joined (to_be_bytes w32 key.check) (to_be_bytes w32 key.check ++ fields) check
-    (bytes_joined (to_be_bytes w32 key.check) fields check
-    (bytes_joined _ _ (secret_is_bytes key.base_key kept.base_key)
-    (bytes_joined _ [] (string_bytes_each key.comment kept.comment.string.bytes) no_bytes))))
-    (count_bytes 1 (unit_of key.passphrase - length (fields_of key) % unit_of key.passphrase) (omega (arith, small)))
+use Rattle.picky_sshkey.proofs.NameLaws.{cipher_is_name, kdf_is_name}
 
 -- ---- the options
 
+-- No salt and 0 rounds keep what options do.
 none_is_short : IsOption no_option
 none_is_short = record { salt = record { bytes = no_bytes; short = omega arith }; rounds = omega arith }
 
@@ -107,6 +40,7 @@ pub written_keeps : (given : Option (List ℕ)) (option : KdfOption) → IsOptio
 written_keeps None option keeps = none_is_short
 written_keeps (Some pass) option keeps = keeps
 
+-- Of two tests that pass, the first does.
 and_left : (a b : Bool) → (a && b) ≡ true → a ≡ true
 and_left true b is = refl
 and_left false b is = cc is
@@ -121,9 +55,11 @@ room_of option short = go (is_no_option option) refl
         omega (arith, empty)
     go false is = omega (arith, short, option_len option is)
 
-option_has_piece : (option : KdfOption) → HasRoom option → unwritten option ≡ None
-option_has_piece option room = rw (lt-ltb (length option.salt) (2 ^ 32 - 8) room) refl
+-- Options that have room are written.
+unwritten_of : (option : KdfOption) → HasRoom option → unwritten option ≡ None
+unwritten_of option room = rw (lt-ltb (length option.salt) (2 ^ 32 - 8) room) refl
 
+-- Options that are written are bytes.
 option_is_bytes : (option : KdfOption) → IsOption option → IsBytes (kdf_option_of option)
 unfolding kdf_option_of
 option_is_bytes option keeps = string_bytes_each (option_fields option) (go (is_no_option option))
@@ -133,39 +69,6 @@ option_is_bytes option keeps = string_bytes_each (option_fields option) (go (is_
     go false =
         bytes_joined (string_of option.salt) (to_be_bytes w32 option.rounds) (string_bytes_each option.salt keeps.salt.bytes)
         (number_bytes option.rounds)
-
--- ---- the names
-
--- a name: text, bytes and short
-record IsName (name : List ℕ) : Type 0 where
-  bytes : IsBytes name
-  utf8 : IsUtf8 name
-  short : length name < 2 ^ 32
-
-utf8_by_test : (bytes : List ℕ) → list_all (λ b. nat_lt b 128) bytes ≡ true → IsUtf8 bytes
-utf8_by_test bytes all =
-    IsUtf8-from_ascii bytes
-    (IsAscii-from_all bytes (λ k d inside. ltb-true _ 128 (AllPass-from_list_all (λ b. nat_lt b 128) bytes all k d inside)))
-
-none_is_name : IsName none
-unfolding none
-none_is_name = record { bytes = bytes_by_test (codes "none") refl; utf8 = utf8_by_test (codes "none") refl; short = omega arith }
-
-bcrypt_is_name : IsName bcrypt
-unfolding bcrypt
-bcrypt_is_name = record { bytes = bytes_by_test (codes "bcrypt") refl; utf8 = utf8_by_test (codes "bcrypt") refl; short = omega arith }
-
-ctr_is_name : IsName (cipher_name Aes256Ctr)
-unfolding cipher_name
-ctr_is_name = record { bytes = bytes_by_test (codes "aes256-ctr") refl; utf8 = utf8_by_test (codes "aes256-ctr") refl; short = omega arith }
-
-cipher_is_name : (given : Option (List ℕ)) → IsName (written_cipher given)
-cipher_is_name None = none_is_name
-cipher_is_name (Some pass) = ctr_is_name
-
-kdf_is_name : (given : Option (List ℕ)) → IsName (written_kdf given)
-kdf_is_name None = none_is_name
-kdf_is_name (Some pass) = bcrypt_is_name
 
 -- ---- the envelope
 
@@ -221,6 +124,7 @@ record IsShort (key : SshPrivateKey) (block : List ℕ) : Type 0 where
   inner : length block < 2 ^ 32
   room : HasRoom (written_option key.passphrase key.kdf.option)
 
+-- The parts of a short envelope are short.
 parts_short : (key : SshPrivateKey) (block : List ℕ) → length (envelope_of key block) < 2 ^ 32 → IsShort key block
 parts_short key block short =
     let len = length-envelope_of key block in
@@ -230,6 +134,7 @@ parts_short key block short =
       room = room_of (written_option key.passphrase key.kdf.option) (omega (arith, short, len));
     }
 
+-- What is written after the names is a piece of its layout.
 parts_spell : (key : SshPrivateKey) (block : List ℕ) → IsKept key → IsShort key block
     → (envelope_parts (written_cipher key.passphrase) (written_kdf key.passphrase)).piece (envelope_read key block)
     (concat (kdf_option_of (written_option key.passphrase key.kdf.option) ∷ to_be_bytes w32 1
@@ -241,7 +146,7 @@ parts_spell key block kept short =
       option,
       _,
       _,
-      option_spells option keeps (option_has_piece option short.room),
+      option_spells option keeps (unwritten_of option short.room),
       (
         1,
         _,
@@ -296,6 +201,7 @@ envelope_spells key block kept short =
       refl,
     )
 
+-- The magic is bytes.
 magic_bytes : IsBytes magic
 unfolding magic
 magic_bytes = bytes_by_test (codes "openssh-key-v1") refl

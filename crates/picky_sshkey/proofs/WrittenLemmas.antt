@@ -19,6 +19,7 @@ use Rattle.picky_sshkey.specs.Kdf.{HasRoom, bcrypt, is_no_option, kdf_option_of,
 use Rattle.picky_sshkey.specs.Written.{count_up, envelope_of, may_derive, written_cipher, written_kdf, written_option}
 use Rattle.picky_wire.proofs.WriteLemmas.{length-string_of}
 use Rattle.picky_sshkey.proofs.KdfLemmas.{no_option_len, option_len}
+use Rattle.picky_sshkey.proofs.WrittenLaws.{length-envelope_of}
 
 -- ---- the padding
 
@@ -34,21 +35,6 @@ padding_counts k most = front_counts 1 k 16 most
 
 -- ---- the envelope's length
 
-after_names : (cipher kdf option outer block : List ℕ)
-    → length (concat (magic ∷ (0 ∷ []) ∷ string_of cipher ∷ string_of kdf ∷ option ∷ to_be_bytes w32 1 ∷ string_of outer
-    ∷ string_of block ∷ []))
-    ≡ 35 + length cipher + length kdf + length option + length outer + length block
-unfolding magic
-after_names cipher kdf option outer block =
-    let g = length-append (string_of block) [] in
-    let f = length-append (string_of outer) (string_of block ++ []) in
-    let e = length-append (to_be_bytes w32 1) (string_of outer ++ (string_of block ++ [])) in
-    let d = length-append option (to_be_bytes w32 1 ++ (string_of outer ++ (string_of block ++ []))) in
-    let c = length-append (string_of kdf) (option ++ (to_be_bytes w32 1 ++ (string_of outer ++ (string_of block ++ [])))) in
-    let b = length-append (string_of cipher)
-    (string_of kdf ++ (option ++ (to_be_bytes w32 1 ++ (string_of outer ++ (string_of block ++ []))))) in
-    omega (arith, b, c, d, e, f, g, length-string_of cipher, length-string_of kdf, length-string_of outer, length-string_of block)
-
 -- what may be derived from has a salt
 has_salt : (option : KdfOption) → 1 ≤ length option.salt → is_no_option option ≡ false
 has_salt option some = go (length option.salt == 0) refl
@@ -62,10 +48,20 @@ envelope_under : (key : SshPrivateKey) (block : List ℕ) (given : Option (List 
     ≡ 35 + length (written_cipher given) + length (written_kdf given)
     + length (kdf_option_of (written_option given key.kdf.option)) + length (blob_of (public_part key.base_key))
     + length block
-unfolding envelope_of
+unfolding magic
 envelope_under key block given is =
-    rw is (after_names (written_cipher given) (written_kdf given) (kdf_option_of (written_option given key.kdf.option))
-    (blob_of (public_part key.base_key)) block)
+    let front : length magic ≡ 14 = refl in
+    let named = ap (λ p. length (string_of (written_cipher p)) + length (string_of (written_kdf p))
+    + length (kdf_option_of (written_option p key.kdf.option))) is in
+    omega (
+      arith,
+      front,
+      named,
+      length-envelope_of key block,
+      length-string_of (written_cipher given),
+      length-string_of (written_kdf given),
+      length-string_of (blob_of (public_part key.base_key)),
+    )
 
 -- round a block, without a passphrase and with one
 pub plain_len : (key : SshPrivateKey) (block : List ℕ) → key.passphrase ≡ None

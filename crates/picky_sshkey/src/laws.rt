@@ -18,7 +18,6 @@ ghost use Rattle.picky_sshkey.specs.Written.{envelope_of, key_content, key_text}
 
 use crate::kdf::{Kdf, KdfOption};
 use crate::private_key::{PrivateKeyRef, SshPrivateKey};
-use picky_sshkey_blob::SshBasePrivateKey;
 
 /// A content and a text mean a key exactly where they say it, under a passphrase and what a suite's calls mean, and they
 /// say one.
@@ -36,7 +35,7 @@ pub fn private_key_means_what_it_says()
 {}
 
 /// What is written of a key is read back, whatever follows it, sealed or not, under the key's own passphrase: with the
-/// names and options that are written, and without the white space at the comment's end. What is read so is read so again.
+/// names and options that are written, and without the white space at the comment's end. A key so read stays as it is.
 pub fn private_key_is_read_back()
     ensures content { (m : Meanings) (key : Key) (content more : List ℕ) → IsKept key → key_content m key ≡ Ok content
         → content_key m key.passphrase (content ++ more) ≡ Ok (read_again key) }
@@ -65,9 +64,10 @@ pub fn orders_answer_no_fault()
         → (key_text m key ≢ Err errors.SuiteFault) × (key_text m key ≢ Err errors.NoMemory) }
 {}
 
-/// Two keys are equal exactly where their contents are, and so are derivations, their options, and a key's borrowed parts.
+/// Two keys are equal exactly where their contents are, and so are derivations, their options and borrowed keys.
 pub fn equality_is_of_contents()
     ensures option { IsEquality ⟦<KdfOption as PartialEq>⟧.eq }
     ensures kdf { IsEquality ⟦<Kdf as PartialEq>⟧.eq }
+    ensures key { IsEquality ⟦<SshPrivateKey as PartialEq>⟧.eq }
     ensures borrowed { IsEqualityOf private_shown ⟦<PrivateKeyRef<'static> as PartialEq>⟧.eq }
 {}
