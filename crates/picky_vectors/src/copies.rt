@@ -1,13 +1,11 @@
 //! A copy is made where there is memory, and is equal to its value.
 
-use crate::private_keys::zero_key;
 use picky_convert::Key;
 use picky_keys::{EcCurve, PublicKey};
 use picky_kv::{
     Base64PpkValue, HexPpkValue, PpkArgon2MemoryValue, PpkArgon2ParallelismValue,
     PpkArgon2PassesValue, PpkCommentValue,
 };
-use picky_sshkey::{Kdf, Pem, SshBasePrivateKey};
 use picky_sshpub::SshBasePublicKey;
 use picky_wire::{Bytes, Mpint, Text, TryClone};
 use std::alloc::AllocGlobal;
@@ -66,61 +64,6 @@ fn copies_each_kind_of_key(rt: HostRuntime) -> Result<(), Fail> {
     )?;
     copies(&rt, PublicKey::Ed { key: [7; 32] })?;
     copies(&rt, Key::Public(SshBasePublicKey::Ed { key: [7; 32] }))
-}
-
-#[test]
-fn copies_each_kind_of_private_key(rt: HostRuntime) -> Result<(), Fail> {
-    let alloc = rt.alloc();
-    copies(
-        &rt,
-        SshBasePrivateKey::Rsa {
-            n: Mpint::from_be(alloc, &[129])?,
-            e: Mpint::from_be(alloc, &[3])?,
-            d: Mpint::from_be(alloc, &[5])?,
-            iqmp: Mpint::from_be(alloc, &[2])?,
-            p: Mpint::from_be(alloc, &[7])?,
-            q: Mpint::from_be(alloc, &[11])?,
-        },
-    )?;
-    copies(
-        &rt,
-        SshBasePrivateKey::Ec {
-            curve: EcCurve::NistP384,
-            point: Bytes::new(alloc, &[4])?,
-            secret: Mpint::from_be(alloc, &[6])?,
-        },
-    )?;
-    copies(
-        &rt,
-        SshBasePrivateKey::Ed {
-            secret: [6; 32],
-            public: [7; 32],
-        },
-    )?;
-    copies(
-        &rt,
-        SshBasePrivateKey::SkEcdsaSha2NistP256 {
-            point: Bytes::new(alloc, &[4])?,
-            application: Text::new(alloc, "ssh:")?,
-            flags: 1,
-            handle: Bytes::new(alloc, b"handle")?,
-        },
-    )?;
-    copies(
-        &rt,
-        SshBasePrivateKey::SkEd25519 {
-            key: [7; 32],
-            application: Text::new(alloc, "ssh:")?,
-            flags: 1,
-            handle: Bytes::new(alloc, b"handle")?,
-        },
-    )?;
-    copies(&rt, zero_key(alloc, None)?)?;
-    copies(&rt, zero_key(alloc, Some("password"))?)?;
-    copies(&rt, Pem::new(alloc, b"content")?)?;
-    let kdf = Kdf::plain(alloc)?;
-    copies(&rt, kdf.option.try_clone(alloc)?)?;
-    copies(&rt, kdf)
 }
 
 #[test]

@@ -4,7 +4,6 @@ use crate::ppk_fields::parsing_error;
 use picky_convert::{ConvertError, ReadError};
 use picky_kv::{KvError, PpkValueError};
 use picky_ppk::PuttyError;
-use picky_sshkey::{PemError, SshPrivateKeyError};
 use picky_sshpub::SshPublicKeyError;
 use picky_suite::SignError;
 use picky_wire::{Failed, IoKind, NoMemory, SizeError, Text, WireError};
@@ -87,69 +86,6 @@ fn prints_the_errors_of_public_keys(rt: HostRuntime) -> Result<(), Fail> {
             (SshPublicKeyError::KeyError, "KeyError"),
             (SshPublicKeyError::TooLong, "TooLong"),
             (SshPublicKeyError::NoMemory, "NoMemory"),
-        ],
-    )?;
-    Ok(())
-}
-
-#[test]
-fn prints_the_errors_of_private_keys(rt: HostRuntime) -> Result<(), Fail> {
-    let alloc = rt.alloc();
-    prints(
-        &rt,
-        &[
-            (PemError::HeaderNotFound, "HeaderNotFound"),
-            (PemError::FooterNotFound, "FooterNotFound"),
-            (PemError::BadBase64, "BadBase64"),
-            (PemError::TooLong, "TooLong"),
-            (PemError::NoMemory, "NoMemory"),
-        ],
-    )?;
-    prints(
-        &rt,
-        &[
-            (SshPrivateKeyError::FromUtf8Error, "FromUtf8Error"),
-            (
-                SshPrivateKeyError::IoError(IoKind::UnexpectedEnd),
-                "IoError",
-            ),
-            (
-                SshPrivateKeyError::UnsupportedKeyType(some_text(alloc)?),
-                "UnsupportedKeyType",
-            ),
-            (
-                SshPrivateKeyError::UnsupportedCipher(some_text(alloc)?),
-                "UnsupportedCipher",
-            ),
-            (
-                SshPrivateKeyError::UnsupportedKdf(some_text(alloc)?),
-                "UnsupportedKdf",
-            ),
-            (
-                SshPrivateKeyError::InvalidAuthMagicHeader,
-                "InvalidAuthMagicHeader",
-            ),
-            (
-                SshPrivateKeyError::InvalidKeysAmount(2),
-                "InvalidKeysAmount",
-            ),
-            (
-                SshPrivateKeyError::InvalidCheckNumbers(1, 2),
-                "InvalidCheckNumbers",
-            ),
-            (SshPrivateKeyError::InvalidKeyFormat, "InvalidKeyFormat"),
-            (SshPrivateKeyError::DecryptionError, "DecryptionError"),
-            (SshPrivateKeyError::HashingError, "HashingError"),
-            (SshPrivateKeyError::MissingPassphrase, "MissingPassphrase"),
-            (SshPrivateKeyError::KeyError, "KeyError"),
-            (
-                SshPrivateKeyError::PemError(PemError::BadBase64),
-                "PemError",
-            ),
-            (SshPrivateKeyError::SuiteFault, "SuiteFault"),
-            (SshPrivateKeyError::TooLong, "TooLong"),
-            (SshPrivateKeyError::NoMemory, "NoMemory"),
-            (SshPrivateKeyError::PublicKeyMismatch, "PublicKeyMismatch"),
         ],
     )?;
     Ok(())
