@@ -1,13 +1,11 @@
 -- Why a private key's blob is refused: each stop of its readers, and each unknown name, is one that some bytes have.
 use Rattle.std.specs.Prelude.{Bool, true, false, if◌then◌else◌, ◌==◌, ◌<◌, ◌^◌, None, length, replicate, IsUtf8}
-use Rattle.std.proofs.Common.{◌≡◌, ℕ, List, [], ◌∷◌, ◌++◌, refl, ap, ◌∙◌, inl, inr, Result, Ok, Err}
+use Rattle.std.proofs.Common.{◌≡◌, ℕ, List, [], ◌∷◌, ◌++◌, refl, ap, ◌∙◌, inl, inr, Err}
 use Rattle.std.specs.Str.{is_utf8, chars}
 use Rattle.picky_layout.specs.Flaw.{Flaw, Reason, Flawed, Short, NotUtf8, Big, Length, Magic, Name, Number}
 use Rattle.picky_layout.specs.Outcome.{map_err, and_then}
-use Rattle.picky_layout.specs.Combine.{at, placed}
 use Rattle.picky_layout.specs.Table.{find_entry}
 use Rattle.picky_layout.specs.Wire.{byte_array, uint32, string, string_of, text}
-use Rattle.picky_layout.specs.Mpint.{mpint}
 use Rattle.picky_keys.specs.declared.kind.KeyKind.{KeyKind}
 use Rattle.picky_keys.specs.declared.kind.KeyKind.TheVariants as kinds
 use Rattle.picky_keys.specs.declared.curve.EdAlgorithm.TheVariants.{Ed25519}
@@ -18,9 +16,8 @@ use Rattle.picky_wire.specs.declared.error.WireError.TheVariants as wire
 use Rattle.picky_wire.specs.declared.error.IoKind.TheVariants as io_kinds
 use Rattle.picky_wire.specs.declared.stop.Stop.{Stop}
 use Rattle.picky_wire.specs.declared.stop.Stop.TheVariants as stops
-use Rattle.picky_wire.specs.Flaws.{wire_error}
 use Rattle.picky_wire.specs.Takes.{HasCause, Refuses, causes_of}
-use Rattle.picky_wire.proofs.CauseLemmas.{mpint_is_too_long}
+use Rattle.picky_wire.proofs.CauseLemmas.{mpint_is_too_long, first_is_too_long}
 use Rattle.picky_sshpub.specs.Blob.{key_type, ed_key}
 use Rattle.picky_sshkey_blob.specs.declared.error.SshPrivateKeyError.TheVariants as errors
 use Rattle.picky_sshkey_blob.specs.FromWire.{private_key_error}
@@ -101,23 +98,9 @@ unfolding ed_fields ed_key ed_secret string uint32 byte_array
 secret_is_empty =
     after_name (kinds.Ed Ed25519) (0 ∷ 0 ∷ 0 ∷ 32 ∷ (replicate 32 0 ++ 0 ∷ 0 ∷ 0 ∷ 0 ∷ [])) (2, Length) refl
 
-number_refused : (r : Result (List ℕ × List ℕ) Flaw) → map_err wire_error r ≡ Err wire.TooLong → r ≡ Err Big
-number_refused (Ok x) is = cc is
-number_refused (Err Short) is = cc is
-number_refused (Err NotUtf8) is = cc is
-number_refused (Err Big) is = refl
-
-first_refused : {A B E : Type 0} (r : Result A E) (next : A → Result B E) (e : E) → r ≡ Err e
-    → and_then r next ≡ Err e
-first_refused r next e refused = ap (λ x. and_then x next) refused
-
 number_is_too_long : Refuses read_secret errors.TooLong
 unfolding rsa_fields
-number_is_too_long =
-    let bytes = mpint_is_too_long.0 in
-    after_name kinds.Rsa bytes (1, Flawed Big)
-    (first_refused ((at 1 mpint).read bytes) _ (1, Flawed Big)
-    (ap (map_err (placed 1)) (number_refused (mpint.read bytes) mpint_is_too_long.1)))
+number_is_too_long = after_name kinds.Rsa mpint_is_too_long.0 (1, Flawed Big) (first_is_too_long 1 _)
 
 -- Each stop has its cause.
 pub stop_has_cause : (s : Stop) (fault : Type 0) → (s ≡ stops.Fault → fault)

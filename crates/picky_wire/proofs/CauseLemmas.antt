@@ -4,9 +4,9 @@ use Rattle.std.proofs.lemmas.List.{length-replicate}
 use Rattle.std.proofs.lemmas.Bool.{le-ltb}
 use Rattle.std.specs.Str.{is_utf8, chars}
 use Rattle.std.specs.Prelude.{◌++◌, replicate, if◌then◌else◌}
-use Rattle.picky_layout.specs.Flaw.{Flaw, Big}
+use Rattle.picky_layout.specs.Flaw.{Flaw, Short, NotUtf8, Big, Reason, Flawed}
 use Rattle.picky_layout.specs.Outcome.{map_err, and_then}
-use Rattle.picky_layout.specs.Combine.{tag}
+use Rattle.picky_layout.specs.Combine.{at, placed, tag}
 use Rattle.picky_layout.specs.Narrowed.{meant}
 use Rattle.picky_layout.specs.Numbers.{uint64}
 use Rattle.picky_layout.specs.Wire.{byte_array, uint32, string, string_of, text}
@@ -66,6 +66,19 @@ ones_refused n many few =
 
 pub mpint_is_too_long : Refuses (tag wire_error mpint).read errors.TooLong
 mpint_is_too_long = ones_refused (2 ^ 32 - 1) (omega arith) (omega arith)
+
+too_long_is_big : (r : Result (List ℕ × List ℕ) Flaw) → map_err wire_error r ≡ Err errors.TooLong → r ≡ Err Big
+too_long_is_big (Ok x) is = cc is
+too_long_is_big (Err Short) is = cc is
+too_long_is_big (Err NotUtf8) is = cc is
+too_long_is_big (Err Big) is = refl
+
+-- so is what begins with such a number
+pub first_is_too_long : {B : Type 0} (i : ℕ) (next : List ℕ × List ℕ → Result B Reason)
+    → and_then ((at i mpint).read mpint_is_too_long.0) next ≡ Err (i, Flawed Big)
+first_is_too_long i next =
+    let bytes = mpint_is_too_long.0 in
+    ap (λ r. and_then (map_err (placed i) r) next) (too_long_is_big (mpint.read bytes) mpint_is_too_long.1)
 
 -- ---- what is refused as a string is refused as a text and as a number
 
