@@ -214,7 +214,7 @@ read_again-read_again key kept =
     ∙ ap (λ comment. record once { comment = comment }) (trim_end-trim_end key.comment kept.comment.utf8)
 
 -- Text without the white space at its end is text.
-trimmed_keeps : (text : List ℕ) → IsText text → IsText (trim_end text)
+pub trimmed_keeps : (text : List ℕ) → IsText text → IsText (trim_end text)
 trimmed_keeps text is =
     let front = trim_end_front text is.utf8 in
     record {

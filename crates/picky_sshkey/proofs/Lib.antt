@@ -11,6 +11,7 @@ pub mod NameLaws
 pub mod BlockLaws
 pub mod WrittenLaws
 pub mod KeptLaws
+pub mod ReadLaws
 pub mod RefusalLemmas
 pub mod FaultLaws
 pub mod ReadingLemmas

@@ -90,7 +90,7 @@ opened_says m given e lock is = elim (lock_of_says given e lock is) [
 ]
 
 -- What a block of bytes was before it was sealed is bytes.
-opened_is_bytes : (m : Meanings) (given : Option (List ℕ)) (e : Envelope) (plain : List ℕ) → IfSome given IsBytes
+pub opened_is_bytes : (m : Meanings) (given : Option (List ℕ)) (e : Envelope) (plain : List ℕ) → IfSome given IsBytes
     → IsBytes e.option.salt → IsBytes e.block → IsOpened m given e plain → IsBytes plain
 opened_is_bytes m given e plain pass salt block is = elim is [
   | inl bare ↦ subst IsBytes (sym bare.1) block
@@ -162,10 +162,10 @@ content_says m given content key each pass has =
     let fits = outside.1.1 in
     let keeps = envelope_keeps c.envelope fits.0 (bytes_in_front fits.0 outside.1.0 (subst IsBytes fits.2 each)) fits.1 in
     let opened = opened_says m given c.envelope c.lock parts.1 in
-    let plain = opened_is_bytes m given c.envelope (plain_of m c.envelope c.lock) pass keeps.0 keeps.2 opened in
+    let plain = opened_is_bytes m given c.envelope (plain_of m c.envelope c.lock) pass keeps.0.salt.bytes keeps.2 opened in
     let inside = closed_key m given c key step.2 in
     let front = inside.begins.1 in
-    let private = block_keeps inside.block front.0 (bytes_in_front front.0 inside.begins.0 (subst IsBytes front.2 plain)) front.1 in
+    let private = (block_keeps inside.block front.0 (bytes_in_front front.0 inside.begins.0 (subst IsBytes front.2 plain)) front.1).key in
     let public = public_says c.envelope.outer inside.block.key keeps.1 private inside.public in
     record {
       envelope = c.envelope;

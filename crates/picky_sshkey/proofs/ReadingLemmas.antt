@@ -1,5 +1,5 @@
 -- Lemmas on what reading a private key answers, round the suite.
-use Rattle.std.proofs.Common.{◌≡◌, ◌≢◌, ◌⊎◌, ◌∙◌, ℕ, List, ap, inl, inr, refl, subst, Result, Ok, Err}
+use Rattle.std.proofs.Common.{◌≡◌, ◌≢◌, ◌∙◌, ℕ, List, ap, inl, inr, refl, subst, Result, Ok, Err}
 use Rattle.std.specs.Prelude.{Option, None}
 use Rattle.picky_wire.specs.Gives.{Gives}
 use Rattle.picky_sshkey_blob.specs.declared.error.SshPrivateKeyError.{SshPrivateKeyError}

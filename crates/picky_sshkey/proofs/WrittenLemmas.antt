@@ -1,16 +1,14 @@
 -- Lemmas on what is written of a key: how long it is, and how its parts join.
-use Rattle.std.proofs.Common.{◌≡◌, ◌≢◌, ◌+◌, ◌-◌, ◌++◌, ◌∷◌, ◌<◌, ◌≤◌, ◌^◌, ℕ, zero, suc, List, [], length, take, true, false}
+use Rattle.std.proofs.Common.{◌≡◌, ◌+◌, ◌++◌, ◌∷◌, ◌<◌, ◌≤◌, ◌^◌, ℕ, zero, suc, List, [], length, take, true, false}
 use Rattle.std.proofs.Common.{ap, arith, eqb-true, refl, subst, sym, ◌∙◌}
-use Rattle.std.specs.Prelude.{Bool, Option, None, Some, ◌&&◌, ◌==◌, if◌then◌else◌}
-use Rattle.std.specs.Int.{w32, to_be_bytes}
+use Rattle.std.specs.Prelude.{Bool, Option, None, Some, ◌==◌}
 use Rattle.std.specs.List.{concat}
-use Rattle.std.proofs.lemmas.List.{append-nil, append_assoc, length-append}
+use Rattle.std.proofs.lemmas.List.{append-nil, append_assoc}
 use Rattle.picky_layout.specs.Wire.{string_of}
-use Rattle.picky_suite.specs.Ranges.{bcrypt_fits, BcryptOk}
+use Rattle.picky_suite.specs.Ranges.{BcryptOk}
 use Rattle.picky_suite.proofs.RangeLemmas.{bcrypt_decides}
 use Rattle.picky_sshpub.specs.Blob.{blob_of}
 use Rattle.picky_sshkey_blob.specs.Key.{public_part}
-use Rattle.picky_sshkey.specs.declared.cipher.Cipher.TheVariants.{Aes256Ctr}
 use Rattle.picky_sshkey.specs.declared.kdf.KdfOption.{KdfOption}
 use Rattle.picky_sshkey.specs.declared.private_key.SshPrivateKey.{SshPrivateKey}
 use Rattle.picky_sshkey.specs.CipherNames.{cipher_name}

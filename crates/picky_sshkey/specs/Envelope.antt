@@ -1,5 +1,5 @@
 -- The envelope of a private key (OpenSSH's PROTOCOL.key, section 1), which holds a public key and a block.
-use Rattle.std.specs.Prelude.{List, [], ◌∷◌, ℕ, codes}
+use Rattle.std.specs.Prelude.{List, ℕ, codes}
 use Rattle.picky_layout.specs.Flaw.{Reason}
 use Rattle.picky_layout.specs.Grammar.{Grammar}
 use Rattle.picky_layout.specs.Combine.{at, done, ◌>>=◌}

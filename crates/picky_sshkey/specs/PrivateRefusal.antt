@@ -1,13 +1,12 @@
 -- The order in which an OpenSSH private key is refused: its text, its envelope by field, what would open its block, and
 -- then, of what the suite answered, its block by field and its public key.
-use Rattle.std.specs.Prelude.{◌||◌, ◌%◌, ◌==◌, Bool, true, false, List, ℕ, Option, None, Some, Result, Ok, Err, length}
+use Rattle.std.specs.Prelude.{◌||◌, ◌%◌, ◌==◌, Bool, false, List, ℕ, Option, None, Some, Result, Ok, Err, length}
 use Rattle.std.specs.Prelude.{if◌then◌else◌, is_some, not}
 use Rattle.std.specs.Option.{ok_or}
 use Rattle.std.specs.Str.{bytes_eq}
 use Rattle.picky_layout.specs.Flaw.{Why, Reason, Flawed, Length, Magic, Name, Number}
 use Rattle.picky_layout.specs.Front.{read_front}
 use Rattle.picky_layout.specs.Outcome.{and_then, map_err}
-use Rattle.picky_layout.specs.Combine.{tag}
 use Rattle.picky_layout.specs.Table.{find_entry}
 use Rattle.picky_pem.specs.PemRefusal.{pem_content}
 use Rattle.picky_suite.specs.Meanings.{Meanings}

@@ -10,7 +10,10 @@ ghost use Rattle.picky_sshkey_blob.specs.declared.error.SshPrivateKeyError.TheVa
 ghost use Rattle.picky_sshkey.specs.declared.kdf.KdfOption.{KdfOption as Salted};
 ghost use Rattle.picky_sshkey.specs.declared.private_key.SshPrivateKey.{SshPrivateKey as Key};
 ghost use Rattle.picky_sshkey.specs.Kept.{IsKept, read_again};
-ghost use Rattle.picky_sshkey.specs.Made.{private_shown};
+ghost use Rattle.picky_sshkey.specs.Made.{made_of, private_shown};
+ghost use Rattle.picky_sshpub.specs.Key.{IsString, IsText};
+ghost use Rattle.picky_sshkey_blob.specs.Key.{IsPrivateKey};
+ghost use Rattle.picky_sshkey_blob.specs.declared.key.SshBasePrivateKey.{SshBasePrivateKey as BaseKey};
 ghost use Rattle.picky_sshkey.specs.Opened.{Lock, opened};
 ghost use Rattle.picky_sshkey.specs.PrivateRefusal.{content_key, text_key};
 ghost use Rattle.picky_sshkey.specs.PrivateText.{IsPrivateContent, IsPrivateText, IsShortPass};
@@ -43,6 +46,16 @@ pub fn private_key_is_read_back()
         → text_key m key.passphrase (text ++ more) ≡ Ok (read_again key) }
     ensures kept { (key : Key) → IsKept key → IsKept (read_again key) }
     ensures again { (key : Key) → IsKept key → read_again (read_again key) ≡ read_again key }
+{}
+
+/// A key that is read under a passphrase, or made of its parts, keeps what a key keeps; so what is written of it is read back.
+pub fn key_keeps_its_ranges()
+    ensures content { (m : Meanings) (given : Option (List ℕ)) (content : List ℕ) (key : Key) → IsBytes content
+        → IfSome given IsText → content_key m given content ≡ Ok key → IsKept key }
+    ensures text { (m : Meanings) (given : Option (List ℕ)) (text : List ℕ) (key : Key) → IsBytes text
+        → IfSome given IsText → text_key m given text ≡ Ok key → IsKept key }
+    ensures made { (base : BaseKey) (given : Option (List ℕ)) (comment salt : List ℕ) → IsPrivateKey base
+        → IfSome given IsText → IsText comment → IsString salt → IsKept (made_of base given comment salt) }
 {}
 
 /// Sealing a block changes no length of its envelope.

@@ -3,6 +3,7 @@
 
 mod block;
 mod cipher;
+mod draft;
 mod envelope;
 mod kdf;
 mod kdf_wire;

@@ -1,7 +1,7 @@
 -- With a passphrase.
 use Rattle.std.proofs.Common.{ap, arith, length}
 use Rattle.picky_sshkey.proofs.WrittenLemmas.{sealed_len}
-use Rattle.picky_sshkey.proofs.writing.envelope_len.Goals as goal
+use Rattle.picky_sshkey.proofs.draft.envelope_len.Goals as goal
 
 pub returns-in-Some : goal.returns-in-Some
 returns-in-Some c = λ block len.

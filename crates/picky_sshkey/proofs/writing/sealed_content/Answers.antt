@@ -11,7 +11,7 @@ open-requires-clause-range g c =
 
 pub returns-in-Ok-content_round-clause-len : goal.returns-in-Ok-content_round-clause-len
 returns-in-Ok-content_round-clause-len g c =
-    let block = c.requires.draft.block in
+    let block = c.requires.block in
     let same = same_len c.args.key.now c.as_slice-in-Ok.result.now (plain_block c.args.key.now)
     (omega (
       arith,
@@ -21,4 +21,4 @@ returns-in-Ok-content_round-clause-len g c =
       ap length c.as_slice-in-Ok.ensures.value,
       ap length c.as_mut_slice.ensures.value,
     )) in
-    c.in-Ok-content_round.content.ok.0 ∙ ap length c.in-Ok-content_round.ensures.ok ∙ same ∙ sym c.requires.draft.len
+    c.in-Ok-content_round.content.ok.0 ∙ ap length c.in-Ok-content_round.ensures.ok ∙ same ∙ sym c.requires.len
