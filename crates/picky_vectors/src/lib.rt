@@ -41,6 +41,14 @@ mod ppk_lines;
 #[cfg(test)]
 mod printed_errors;
 #[cfg(test)]
+mod private_block_refusals;
+#[cfg(test)]
+mod private_key_refusals;
+#[cfg(test)]
+mod private_keys;
+#[cfg(test)]
+mod private_texts;
+#[cfg(test)]
 mod putty_comments;
 #[cfg(test)]
 mod putty_public;
@@ -52,6 +60,8 @@ mod refused_inputs;
 mod refused_lines;
 #[cfg(test)]
 mod runs;
+#[cfg(test)]
+mod sealed_key_refusals;
 #[cfg(test)]
 mod statuses;
 #[cfg(test)]
