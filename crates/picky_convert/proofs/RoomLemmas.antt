@@ -33,7 +33,7 @@ use Rattle.picky_sshpub.specs.BlobSpelled.{NumberSpelled, AnyText, FieldsSpelled
 use Rattle.picky_sshpub.proofs.BlobExact.{blob_exact}
 use Rattle.picky_sshpub.specs.Line.{IsPublicLine, line_of, line_name, line_body}
 use Rattle.picky_convert.proofs.SizeLemmas.{length-string_of, length_high, length_low, length_two, length_three, length-blob_of}
-use Rattle.picky_ppk.specs.PuttyPublic.{header, footer, comment_start, comment_line, putty_public}
+use Rattle.picky_putty_public.specs.PuttyPublic.{header, footer, comment_start, comment_line, putty_public}
 use Rattle.picky_convert.specs.declared.meaning.Meaning.{Meaning}
 use Rattle.picky_convert.specs.declared.conversion.Target.{Target}
 use Rattle.picky_convert.specs.declared.conversion.Target.TheVariants as targets

@@ -11,7 +11,7 @@ ghost use Rattle.picky_convert.specs.inner.Causes.{putty_refusal as putty_refusa
 use crate::error::{ConvertError, ReadError};
 use crate::meaning::{Key, Meaning, read_text};
 use memchr::{memchr, memchr2};
-use picky_ppk::{PuttyError, PuttyPublicKey};
+use picky_putty_public::{PuttyError, PuttyPublicKey};
 use picky_sshpub::{SshPublicKey, SshPublicKeyError};
 use picky_suite::Suite;
 use picky_wire::Text;

@@ -2,7 +2,7 @@
 
 ghost use Rattle.std.specs.Prelude.{◌≡◌};
 
-use picky_ppk::PuttyError;
+use picky_putty_public::PuttyError;
 use picky_sshpub::SshPublicKeyError;
 use thiserror::Error;
 

@@ -4,7 +4,7 @@ ghost use Rattle.std.specs.Prelude.{◌≡◌};
 ghost use Rattle.picky_convert.specs.Report.{report as report_of};
 
 use crate::error::{ConvertError, ReadError, Status};
-use picky_ppk::PuttyError;
+use picky_putty_public::PuttyError;
 use picky_sshpub::SshPublicKeyError;
 
 /// The line of a status; Done has none that is written.

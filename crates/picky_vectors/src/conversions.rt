@@ -3,7 +3,7 @@
 use crate::keys::KEY_ROWS;
 use crate::runs::{converts, refuses, writes};
 use picky_convert::{ConvertError, Target, convert};
-use picky_ppk::PuttyError;
+use picky_putty_public::PuttyError;
 use picky_suite::PlainSuite;
 use picky_wire::Text;
 use std::alloc::Global;

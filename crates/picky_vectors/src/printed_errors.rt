@@ -3,7 +3,7 @@
 use crate::ppk_fields::parsing_error;
 use picky_convert::{ConvertError, ReadError};
 use picky_kv::{KvError, PpkValueError};
-use picky_ppk::PuttyError;
+use picky_putty_public::PuttyError;
 use picky_sshpub::SshPublicKeyError;
 use picky_suite::SignError;
 use picky_wire::{Failed, IoKind, NoMemory, SizeError, Text, WireError};

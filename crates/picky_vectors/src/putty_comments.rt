@@ -1,7 +1,7 @@
 //! The comment lines of PuTTY's public keys.
 
 use crate::putty_public::{ED25519, is_written, key_with, text_with};
-use picky_ppk::{PuttyError, PuttyPublicKey};
+use picky_putty_public::{PuttyError, PuttyPublicKey};
 use std::alloc::Global;
 use std::test::Fail;
 

@@ -2,7 +2,7 @@
 
 use crate::keys::KEY_ROWS;
 use picky_keys::{PublicKey, PublicKeyRef};
-use picky_ppk::{PuttyError, PuttyPublicKey};
+use picky_putty_public::{PuttyError, PuttyPublicKey};
 use picky_sshpub::SshPublicKey;
 use picky_wire::TryClone;
 use std::alloc::Global;

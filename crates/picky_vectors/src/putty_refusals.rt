@@ -1,7 +1,7 @@
 //! Why a PuTTY public key's text, or the blob that it holds, is refused.
 
 use crate::putty_public::{key_with, spelled};
-use picky_ppk::{PuttyError, PuttyPublicKey};
+use picky_putty_public::{PuttyError, PuttyPublicKey};
 use picky_sshpub::SshPublicKeyError;
 use picky_wire::IoKind;
 use std::alloc::AllocGlobal;

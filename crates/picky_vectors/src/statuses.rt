@@ -2,7 +2,7 @@
 
 use crate::runs::{ended, run_on};
 use picky_convert::{ConvertError, ReadError, Status, report};
-use picky_ppk::PuttyError;
+use picky_putty_public::PuttyError;
 use picky_sshpub::SshPublicKeyError;
 use picky_wire::{MemorySource, SliceSource};
 use std::alloc::Global;
