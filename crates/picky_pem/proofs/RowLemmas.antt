@@ -1,17 +1,14 @@
 -- The base64 of bytes, a row of 48 bytes at a time, and how long its rows are.
-use Rattle.std.proofs.Common.{◌≡◌, ◌<◌, ◌≤◌, ◌+◌, ◌-◌, ◌*◌, ◌/◌, ◌%◌, ℕ, zero, suc, List, [], ◌∷◌, ◌++◌, length, take, drop, min, replicate}
+use Rattle.std.proofs.Common.{◌≡◌, ◌<◌, ◌≤◌, ◌+◌, ◌-◌, ◌*◌, ◌/◌, ℕ, zero, suc, List, [], ◌∷◌, ◌++◌, length, take, drop, min}
 use Rattle.std.proofs.Common.{refl, sym, ap, ◌∙◌, arith, inl, inr}
 use Rattle.std.proofs.lemmas.Bool.{cases_lt}
-use Rattle.std.proofs.lemmas.List.{append_assoc, length-append, length-take, length-drop, take-append-drop, take_at, drop_at, take_all, drop_all, take_min, drop_min, nil_from_length, length-replicate}
+use Rattle.std.proofs.lemmas.List.{append_assoc, length-append, length-take, length-drop, take-append-drop, take_at, drop_at, take_all, drop_all, take_min, drop_min, nil_from_length}
 use Rattle.std.specs.List.{flat_map}
-use Rattle.base64.specs.Engines.{standard}
-use Rattle.base64.proofs.EngineFacts.{encode_of-append}
-use Rattle.base64.specs.Rfc4648.{encode_symbols}
-use Rattle.base64.proofs.RoundTrip.{length-encode_symbols}
 use Rattle.picky_text.specs.Base64.{base64_of}
 use Rattle.picky_text.specs.Lines.{text_of}
 use Rattle.picky_text.specs.Rows.{rows_of}
 use Rattle.picky_text.specs.declared.lines.LineEnd.TheVariants.{Lf}
+use Rattle.picky_text.proofs.Base64Laws.{length_base64, base64_append, base64_nil}
 use Rattle.picky_text.proofs.RowLaws.{rows_more}
 use Rattle.picky_text.proofs.RowLemmas.{text_of_no_row}
 
@@ -22,25 +19,6 @@ record IsRowSplit (bytes : List ℕ) : Type 0 where
   front : base64_of (take 48 bytes) ≡ take 64 (base64_of bytes)
   back : base64_of (drop 48 bytes) ≡ drop 64 (base64_of bytes)
 
--- how long the base64 of bytes is
-pub length_base64 : (bytes : List ℕ) → length (base64_of bytes) ≡ 4 * ((length bytes + 2) / 3)
-unfolding base64_of
-length_base64 bytes =
-    let n : ℕ = length bytes in
-    let pad : ℕ = (3 - n % 3) % 3 in
-    let symbols = length-encode_symbols standard.encode_table bytes in
-    let tail : List ℕ = replicate pad 61 in
-    let padded : length tail ≡ pad = length-replicate pad 61 in
-    length-append (encode_symbols standard.encode_table bytes) tail ∙ ap (λ k. k + length tail) symbols
-    ∙ ap (λ k. (4 * n + 2) / 3 + k) padded ∙ omega arith
-
-base64_append : (x y : List ℕ) → length x ≡ 48 → base64_of (x ++ y) ≡ base64_of x ++ base64_of y
-unfolding base64_of
-base64_append x y full = encode_of-append standard x y (omega (arith, full))
-
-base64_nil : base64_of [] ≡ []
-base64_nil = nil_from_length (base64_of []) (length_base64 [])
-
 row_split : (bytes : List ℕ) → IsRowSplit bytes
 row_split bytes = elim (cases_lt 48 (length bytes)) [
   | inl long ↦
@@ -48,7 +26,7 @@ row_split bytes = elim (cases_lt 48 (length bytes)) [
       let y : List ℕ = drop 48 bytes in
       let full : length x ≡ 48 = omega (arith, length-take 48 bytes) in
       let row : length (base64_of x) ≡ 64 = omega (arith, length_base64 x) in
-      let both = ap base64_of (sym (take-append-drop 48 bytes)) ∙ base64_append x y full in
+      let both = ap base64_of (sym (take-append-drop 48 bytes)) ∙ base64_append x y (omega (arith, full)) in
       record {
         front = sym (ap (take 64) both ∙ take_at (base64_of x) (base64_of y) 64 row);
         back = sym (ap (drop 64) both ∙ drop_at (base64_of x) (base64_of y) 64 row);

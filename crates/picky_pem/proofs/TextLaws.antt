@@ -21,7 +21,8 @@ use Rattle.picky_pem.specs.Pem.{header, footer, packed, pem_lines, pem_text, IsP
 use Rattle.picky_pem.specs.PemRefusal.{pem_content}
 use Rattle.picky_pem.proofs.MeaningLaws.{parts, pem_means}
 use Rattle.picky_pem.proofs.PackedLaws.{packed_whole, packed_blank, packed_base64_rows, base64_no_blank}
-use Rattle.picky_pem.proofs.RowLemmas.{length_base64, length_rows}
+use Rattle.picky_text.proofs.Base64Laws.{length_base64}
+use Rattle.picky_pem.proofs.RowLemmas.{length_rows}
 
 -- ---- it says its content
 

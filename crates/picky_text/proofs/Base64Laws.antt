@@ -1,8 +1,8 @@
 -- The laws of base64: it is read back, each text of it is the text of one list, and its alphabet.
 use Rattle.std.proofs.Common.{◌≡◌, ◌≢◌, ℕ, zero, suc, ◌<◌, ◌≤◌, ◌+◌, ◌-◌, ◌*◌, ◌/◌, ◌%◌, Bool, true, false}
 use Rattle.std.proofs.Common.{IsTrue, List, [], ◌∷◌, ◌++◌, take, drop, length, slice_index, ◌⊎◌, refl, sym}
-use Rattle.std.proofs.Common.{◌∙◌, ap, arith, inl, inr}
-use Rattle.std.proofs.lemmas.List.{length-drop, get_or-drop}
+use Rattle.std.proofs.Common.{◌∙◌, ap, arith, inl, inr, replicate}
+use Rattle.std.proofs.lemmas.List.{length-append, length-drop, length-replicate, get_or-drop, nil_from_length}
 use Rattle.std.proofs.lemmas.List.Sums.{AllPass-from_list_all}
 use Rattle.std.specs.List.{AllByRecursion}
 use Rattle.std.specs.Result.{result_ok}
@@ -22,7 +22,8 @@ use Rattle.base64.specs.Rfc4648.{encode_symbols}
 use Rattle.base64.specs.Tables.{is_inverse}
 use Rattle.base64.proofs.Canonical.{IsScanned-scan}
 use Rattle.base64.proofs.EngineFacts.{IsAscii-encode_of, decode_of-encode_of, decode_of_strict}
-use Rattle.base64.proofs.EngineFacts.{decode_of_bytes}
+use Rattle.base64.proofs.EngineFacts.{decode_of_bytes, encode_of-append}
+use Rattle.base64.proofs.RoundTrip.{length-encode_symbols}
 use Rattle.base64.proofs.Tables.{IsDecodeTable_from, are_tables_inverse}
 use Rattle.picky_text.specs.Base64.{base64_of, decoded, is_base64_symbol}
 use Rattle.picky_text.specs.Lines.{HasNo}
@@ -237,6 +238,29 @@ base64_has_no b bytes small other =
 pub base64_is_ascii : (bytes : List ℕ) → IsAscii (base64_of bytes)
 unfolding base64_of
 base64_is_ascii bytes = IsAscii-encode_of standard bytes
+
+-- ---- how long, and where it is cut
+
+-- how long the base64 of bytes is
+pub length_base64 : (bytes : List ℕ) → length (base64_of bytes) ≡ 4 * ((length bytes + 2) / 3)
+unfolding base64_of
+length_base64 bytes =
+    let n : ℕ = length bytes in
+    let pad : ℕ = (3 - n % 3) % 3 in
+    let symbols = length-encode_symbols standard.encode_table bytes in
+    let tail : List ℕ = replicate pad 61 in
+    let padded : length tail ≡ pad = length-replicate pad 61 in
+    length-append (encode_symbols standard.encode_table bytes) tail ∙ ap (λ k. k + length tail) symbols
+    ∙ ap (λ k. (4 * n + 2) / 3 + k) padded ∙ omega arith
+
+-- behind whole groups of three bytes others go
+pub base64_append : (x y : List ℕ) → length x % 3 ≡ 0 → base64_of (x ++ y) ≡ base64_of x ++ base64_of y
+unfolding base64_of
+base64_append x y whole = encode_of-append standard x y whole
+
+-- no bytes are no text
+pub base64_nil : base64_of [] ≡ []
+base64_nil = nil_from_length (base64_of []) (length_base64 [])
 
 -- what `laws` states of base64
 pub ruleset base64_laws = (
