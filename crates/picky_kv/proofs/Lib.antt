@@ -9,3 +9,4 @@ pub mod SeparatorLemmas
 pub mod JoinLemmas
 pub mod PartLemmas
 pub mod OneLineLemmas
+pub mod BlockValueLemmas

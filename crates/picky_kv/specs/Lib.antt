@@ -1,12 +1,16 @@
+pub use Rattle.picky_block.specs.Block
+pub use Rattle.picky_block.specs.BlockRefusal
 pub use Rattle.picky_kv_words.specs.Field
 pub use Rattle.picky_kv_words.specs.Literal
 pub use Rattle.picky_kv_words.specs.Choices
 pub use Rattle.picky_kv_words.specs.Keys
 pub use Rattle.picky_kv_words.specs.Argon2Keys
 pub use Rattle.picky_kv_words.specs.ChoiceFields
+pub use Rattle.picky_kv_values.specs.Values
+pub use Rattle.picky_kv_values.specs.Blocks
+pub use Rattle.picky_kv_values.specs.ValueFields
 pub mod Algorithm
 pub mod Numbers
-pub mod Values
 pub mod Context
 pub mod Lines
 pub mod Parts
@@ -14,5 +18,5 @@ pub mod Output
 pub mod ReadBack
 pub mod AlgorithmField
 pub mod NumberFields
-pub mod ValueFields
 pub mod carried
+pub mod inner

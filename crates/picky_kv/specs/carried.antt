@@ -1,4 +1,3 @@
 pub mod Pairs
 pub mod Algorithm
 pub mod Numbers
-pub mod Values

@@ -1,6 +1,6 @@
 //! The laws of a file's lines, each as the contract of a function that does nothing.
 
-ghost use Rattle.std.specs.Prelude.{◌≡◌, ◌↔◌, ◌<◌, ℕ, List, [], ◌∷◌, length, Err};
+ghost use Rattle.std.specs.Prelude.{◌≡◌, ◌↔◌, ◌<◌, ℕ, List, [], ◌∷◌, length, Ok, Err};
 ghost use Rattle.std.specs.List.{AllByRecursion};
 ghost use Rattle.picky_layout.specs.Numbers.{IsBytes};
 ghost use Rattle.picky_text.specs.Rows.{rows_of};
@@ -10,7 +10,8 @@ ghost use Rattle.picky_kv_words.specs.Argon2Keys.{key_derivation_key_row};
 ghost use Rattle.picky_kv.specs.Algorithm.{algorithm_row};
 ghost use Rattle.picky_kv_words.specs.Choices.{encryption_row, flavour_row, version_row};
 ghost use Rattle.picky_wire.specs.Equality.{IsEquality};
-ghost use Rattle.picky_kv_words.specs.Field.{IsOfRow};
+ghost use Rattle.picky_kv_words.specs.Field.{IsOfRow, field_value};
+ghost use Rattle.picky_kv_values.specs.Blocks.{IsBlockText};
 ghost use Rattle.picky_kv_words.specs.Keys.{comment_key_row, encryption_key_row, private_lines_key_row};
 ghost use Rattle.picky_kv_words.specs.Keys.{private_mac_key_row, public_lines_key_row};
 ghost use Rattle.picky_kv.specs.Lines.{key_and_value, first_joined, next_pair, next_block};
@@ -20,8 +21,8 @@ ghost use Rattle.picky_kv.specs.Numbers.{count_row, u32_row};
 ghost use Rattle.picky_kv.specs.Parts.{HasNoSeparator, AreKeyAndValue, AreJoined, PairsAreRead};
 ghost use Rattle.picky_kv.specs.Parts.{BlocksAreRead, HasNoLineEnd, AreOneLine};
 ghost use Rattle.picky_kv.specs.ReadBack.{PairIsReadBack, BlockIsReadBack};
-ghost use Rattle.picky_kv.specs.Values.{base64_row, comment_row, hex_row, padded_base64};
-ghost use Rattle.picky_kv.specs.Values.{AreHexPairs, IsLowerDigit};
+ghost use Rattle.picky_kv_values.specs.Values.{base64_row, comment_row, hex_row, padded_base64};
+ghost use Rattle.picky_kv_values.specs.Values.{AreHexPairs, IsLowerDigit};
 
 use crate::algorithm::PpkKeyAlgorithmValue;
 use crate::error::KvError;
@@ -31,7 +32,7 @@ use crate::pairs::{
     PpkEncryption, PpkHeader, PpkKeyDerivation, PpkKeyValue, PpkMultilineKeyValue, PpkPrivateLines,
     PpkPrivateMac, PpkPublicLines,
 };
-use crate::values::{Base64PpkValue, HexPpkValue, PpkCommentValue};
+use picky_kv_values::{Base64PpkValue, HexPpkValue, PpkBlock, PpkCommentValue};
 use picky_kv_words::{
     Argon2FlavourValue, PpkArgon2MemoryKey, PpkArgon2ParallelismKey, PpkArgon2PassesKey,
     PpkArgon2SaltKey, PpkCommentKey, PpkEncryptionKey, PpkEncryptionValue, PpkField,
@@ -283,4 +284,11 @@ pub fn pair_is_read_back<T: PpkKeyValue>()
 /// A block that is written is read back, whatever follows.
 pub fn block_is_read_back<T: PpkMultilineKeyValue>()
     ensures { BlockIsReadBack T.Key.field T.Value.field T.Key.name }
+{}
+
+/// A value of a block is read exactly from the base64 of fewer than 2^32 bytes, and it is what `from_block` gives for
+/// those.
+pub fn block_values_are_of_their_bytes<B: PpkBlock>()
+    ensures { (text : List ℕ) (v : B) → IsBytes text
+        → field_value B.field text ≡ Ok v ↔ IsBlockText B.made text v }
 {}

@@ -2,14 +2,13 @@
 #![tactic(auto)]
 
 mod algorithm;
+mod counted;
 mod error;
 pub mod laws;
 pub mod literals;
 mod numbers;
 mod pairs;
 mod reader;
-mod spelling;
-mod values;
 mod writer;
 
 pub use algorithm::PpkKeyAlgorithmValue;
@@ -20,6 +19,8 @@ pub use pairs::{
     PpkEncryption, PpkHeader, PpkKeyDerivation, PpkKeyValue, PpkMultilineKeyValue, PpkPrivateLines,
     PpkPrivateMac, PpkPublicLines,
 };
+pub use picky_block::{BlockDecoder, BlockError};
+pub use picky_kv_values::{Base64PpkValue, HexPpkValue, PpkBlock, PpkCommentValue};
 pub use picky_kv_words::{
     Argon2FlavourValue, PpkArgon2MemoryKey, PpkArgon2ParallelismKey, PpkArgon2PassesKey,
     PpkArgon2SaltKey, PpkCommentKey, PpkEncryptionKey, PpkEncryptionValue, PpkField,
@@ -27,5 +28,4 @@ pub use picky_kv_words::{
     PpkSingle, PpkValueError, PpkValueParsingError, PpkVersionKey,
 };
 pub use reader::PuttyKvReader;
-pub use values::{Base64PpkValue, HexPpkValue, PpkCommentValue};
 pub use writer::PuttyKvWriter;

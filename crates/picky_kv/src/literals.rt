@@ -1,5 +1,6 @@
 //! The literals of a PuTTY private key file, and the names and words of its refusals.
 
+pub use picky_kv_values::literals::{VALID_BASE64, VALID_HEX};
 pub use picky_kv_words::literals::{
     AES256_CBC, ANY_ENCRYPTION, ANY_FLAVOUR, ANY_VERSION, ARGON2_FLAVOUR_VALUE, ARGON2_MEMORY,
     ARGON2_PARALLELISM, ARGON2_PASSES, ARGON2_SALT, ARGON2D, ARGON2I, ARGON2ID, COMMENT,
@@ -32,10 +33,6 @@ pub const ANY_ALGORITHM: &str = "[ssh-rsa, ssh-dss, ecdsa-sha2-nistp256, ecdsa-s
     ecdsa-sha2-nistp521, ssh-ed25519, ssh-ed448]";
 
 pub const VALID_U32: &str = "<valid u32 value>";
-
-pub const VALID_BASE64: &str = "<valid base64 data>";
-
-pub const VALID_HEX: &str = "<valid hex data>";
 
 pub const VALID_COUNT: &str = "<valid lines count>";
 

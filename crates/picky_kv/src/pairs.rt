@@ -15,7 +15,7 @@ ghost use Rattle.picky_kv.specs.carried.Pairs.{base64_field_is_ascii};
 
 use crate::algorithm::PpkKeyAlgorithmValue;
 use crate::numbers::{PpkArgon2MemoryValue, PpkArgon2ParallelismValue, PpkArgon2PassesValue};
-use crate::values::{Base64PpkValue, HexPpkValue, PpkCommentValue};
+use picky_kv_values::{Base64PpkValue, HexPpkValue, PpkBlock, PpkCommentValue};
 use picky_kv_words::{
     Argon2FlavourValue, PpkArgon2MemoryKey, PpkArgon2ParallelismKey, PpkArgon2PassesKey,
     PpkArgon2SaltKey, PpkCommentKey, PpkEncryptionKey, PpkEncryptionValue, PpkField,
@@ -39,7 +39,7 @@ pub trait PpkKeyValue {
 pub trait PpkMultilineKeyValue {
     type Key: PpkField + PpkLiteral;
 
-    type Value: PpkField;
+    type Value: PpkBlock;
 
     // a key is written as its literal, in which no colon, CR and LF stand
     ghost key_written: { (k : Self.Key) → Self.Key.field.spelling k ≡ Self.Key.literal k };

@@ -1,17 +1,19 @@
 //! Reads the lines of a PuTTY private key file, typed.
 
-ghost use Rattle.std.specs.Prelude.{◌≡◌, ◌⊎◌, ℕ, List, [], IfNone, IfSome, IfOk, IfErr, OnErr, string_bytes};
+ghost use Rattle.std.specs.Prelude.{◌≡◌, ℕ, List, [], IfNone, IfSome, OnErr};
 ghost use Rattle.picky_text.specs.Lines.{lines};
 ghost use Rattle.picky_wire.specs.Gives.{Gives};
 ghost use Rattle.picky_kv_words.specs.Field.{field_value};
-ghost use Rattle.picky_kv.specs.Lines.{next_pair, next_block, value_alone, first_joined};
+ghost use Rattle.picky_kv.specs.Lines.{next_pair, next_block, value_alone};
 ghost use Rattle.picky_kv.specs.Lines.{key_and_value as cut};
 ghost use Rattle.picky_kv.specs.Context.{in_context};
 
+use crate::counted::{block_value, take_counted};
 use crate::error::KvError;
 use crate::literals::SEPARATOR;
 use crate::numbers::LineCount;
 use crate::pairs::{PpkKeyValue, PpkMultilineKeyValue};
+use picky_kv_values::PpkBlock;
 use picky_kv_words::{PpkField, PpkLiteral, PpkValueError};
 use picky_text::LineReader;
 use picky_wire::Text;
@@ -132,35 +134,16 @@ fn read_pair<K: PpkField + PpkLiteral, V: PpkField>(
     }
 }
 
-fn read_block<K: PpkField + PpkLiteral, V: PpkField>(
+fn read_block<K: PpkField + PpkLiteral, V: PpkBlock>(
     lines: &mut LineReader<'_>,
     alloc: Global,
 ) -> Result<(K, V), KvError>
     ensures { Gives KvError.NoMemory (λ pair. (pair, lines.new)) result (next_block K.field V.field K.name lines.old) }
 {
     let (key, count) = read_pair::<K, LineCount>(lines, alloc)?;
-    let text = joined(lines, alloc, count.number())?;
-    let value = read_in::<K, V>(alloc, text.as_str())?;
+    let block = take_counted(lines, alloc, count.number())?;
+    let value = block_value::<K, V>(alloc, block)?;
     Ok((key, value))
-}
-
-fn joined(lines: &mut LineReader<'_>, alloc: Global, count: u16) -> Result<String, KvError>
-    ensures ok { IfOk result (λ t.
-        first_joined count lines.old ≡ Some (string_bytes t, lines.new)) }
-    ensures err { IfErr result (λ e.
-        (e ≡ KvError.NoMemory) ⊎ ((e ≡ KvError.EndOfInput) × (first_joined count lines.old ≡ None))) }
-{
-    let mut text = String::new(alloc);
-    'lines: for _ in 0..count {
-        match lines.next_line() {
-            Some(line) => match text.push_str(line) {
-                Ok(()) => {}
-                Err(_) => return Err(KvError::NoMemory),
-            },
-            None => return Err(KvError::EndOfInput),
-        }
-    }
-    Ok(text)
 }
 
 fn key_and_value(line: &str) -> Option<(&str, &str)>
@@ -170,7 +153,7 @@ fn key_and_value(line: &str) -> Option<(&str, &str)>
     line.split_once(SEPARATOR)
 }
 
-fn read_in<K: PpkLiteral, V: PpkField>(alloc: Global, text: &str) -> Result<V, KvError>
+pub(crate) fn read_in<K: PpkLiteral, V: PpkField>(alloc: Global, text: &str) -> Result<V, KvError>
     ensures { Gives KvError.NoMemory (λ value. value) result (in_context K.name (field_value V.field text.now)) }
 {
     match V::read(alloc, text) {

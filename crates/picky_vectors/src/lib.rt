@@ -35,6 +35,8 @@ mod macs;
 #[cfg(test)]
 mod meanings;
 #[cfg(test)]
+mod ppk_blocks;
+#[cfg(test)]
 mod ppk_fields;
 #[cfg(test)]
 mod ppk_lines;

@@ -5,8 +5,8 @@ ghost use Rattle.picky_kv_words.specs.Field.{IsSpelling};
 
 use picky_wire::{SizeError, Text};
 
-/// The string as a text.
-pub(crate) fn text_within(string: String) -> Result<Text, SizeError>
+/// The string as a text. Refuses, in order: `TooLong`, where it has 2^32 bytes or more.
+pub fn text_within(string: String) -> Result<Text, SizeError>
     ensures { IsSpelling result (string_bytes string) }
 {
     if string.len() < 1 << 32 {

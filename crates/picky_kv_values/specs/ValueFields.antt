@@ -4,8 +4,8 @@ use Rattle.hex.specs.Hex.{encode_lower}
 use Rattle.picky_text.specs.Base64.{base64_of, decoded}
 use Rattle.picky_text.proofs.Base64Laws.{base64_is_read_back}
 use Rattle.picky_kv_words.specs.Field.{Field}
-use Rattle.picky_kv.specs.Values.{is_long, comment_row, base64_row, hex_row, AreFewBytes, hex_decoded}
-use Rattle.picky_kv.specs.carried.Values.{short_is_not_long, hex_is_read_back}
+use Rattle.picky_kv_values.specs.Values.{is_long, comment_row, base64_row, hex_row, AreFewBytes, hex_decoded}
+use Rattle.picky_kv_values.specs.carried.Values.{short_is_not_long, hex_is_read_back}
 
 -- a comment is its text
 unfoldable pub comment_field : Field (List ℕ)

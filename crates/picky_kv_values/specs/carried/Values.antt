@@ -6,7 +6,7 @@ use Rattle.std.specs.Result.{result_ok}
 use Rattle.hex.specs.Hex.{encode_lower}
 use Rattle.hex.proofs.HexLemmas.{decode_of-encode_lower}
 use Rattle.picky_layout.specs.Numbers.{IsBytes}
-use Rattle.picky_kv.specs.Values.{is_long, hex_decoded}
+use Rattle.picky_kv_values.specs.Values.{is_long, hex_decoded}
 
 -- fewer are not
 pub short_is_not_long : (bytes : List ℕ) → length bytes < 2 ^ 32 → is_long bytes ≡ false

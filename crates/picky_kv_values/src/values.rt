@@ -5,8 +5,10 @@ ghost use Rattle.picky_layout.specs.Numbers.{IsBytes};
 ghost use Rattle.hex.specs.Hex.{encode_lower};
 ghost use Rattle.picky_text.specs.Base64.{base64_of};
 ghost use Rattle.picky_kv_words.specs.Field.{IsSpelling};
-ghost use Rattle.picky_kv.specs.ValueFields.{comment_field, base64_field, hex_field};
+ghost use Rattle.picky_kv_values.specs.ValueFields.{comment_field, base64_field, hex_field};
+ghost use Rattle.picky_kv_values.specs.carried.Blocks.{base64_field_is_of_blocks};
 
+use crate::block::PpkBlock;
 use crate::literals::{VALID_BASE64, VALID_HEX};
 use crate::spelling::text_within;
 use hex::FromHexError;
@@ -108,6 +110,16 @@ impl PpkField for Base64PpkValue {
     fn write(&self, alloc: Global) -> Result<Text, SizeError> {
         base64_text(alloc, self.bytes.as_slice())
     }
+}
+
+impl PpkBlock for Base64PpkValue {
+    ghost made = { λ bytes. bytes };
+
+    fn from_block(bytes: Bytes) -> Base64PpkValue {
+        Base64PpkValue { bytes }
+    }
+
+    ghost blocks = { base64_field_is_of_blocks };
 }
 
 impl TryClone for Base64PpkValue {

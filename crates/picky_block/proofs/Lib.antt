@@ -1,0 +1,4 @@
+pub mod GroupLemmas
+pub mod FrontLemmas
+pub mod StateLemmas
+pub mod LineLemmas

@@ -1,0 +1,10 @@
+//! Base64 whose text comes line by line (RFC 4648, section 4).
+#![tactic(auto)]
+
+mod block;
+mod error;
+pub mod laws;
+mod tail;
+
+pub use block::BlockDecoder;
+pub use error::BlockError;

@@ -1,0 +1,4 @@
+pub mod Values
+pub mod Blocks
+pub mod ValueFields
+pub mod carried
