@@ -10,7 +10,7 @@ use Rattle.picky_sshpub.specs.declared.error.SshPublicKeyError.{SshPublicKeyErro
 use Rattle.picky_sshpub.specs.declared.error.SshPublicKeyError.TheVariants as public
 use Rattle.picky_sshpub.specs.LineRefusal.{line_meaning}
 use Rattle.picky_sshpub.specs.carried.SourceLine.{line_own}
-use Rattle.picky_putty_public.specs.PuttyRefusal.{no_hardware_keys}
+use Rattle.picky_ppk_parts.specs.Unsupported.{no_hardware_keys}
 use Rattle.picky_convert.specs.declared.command.Command.{Command}
 use Rattle.picky_convert.specs.declared.command.Command.TheVariants as commands
 use Rattle.picky_convert.specs.declared.conversion.Target.{Target}

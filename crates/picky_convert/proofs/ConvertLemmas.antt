@@ -18,7 +18,8 @@ use Rattle.picky_sshpub.specs.Line.{IsKept}
 use Rattle.picky_sshpub.proofs.LineLaws.{line_says}
 use Rattle.picky_sshpub.proofs.CanonicalLaws.{text_is_kept}
 use Rattle.picky_sshpub.specs.LineRefusal.{is_short}
-use Rattle.picky_putty_public.specs.PuttyRefusal.{is_hardware, no_hardware_keys}
+use Rattle.picky_ppk_parts.specs.Unsupported.{no_hardware_keys}
+use Rattle.picky_putty_public.specs.PuttyRefusal.{is_hardware}
 use Rattle.picky_sshpub.proofs.ByteLaws.{no_by_test}
 use Rattle.picky_putty_public.proofs.PuttyLaws.{putty_public_spells, putty_public_only, putty_public_means}
 use Rattle.picky_wire.specs.Gives.{Gives}

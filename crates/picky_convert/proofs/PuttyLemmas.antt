@@ -5,11 +5,12 @@ use Rattle.std.proofs.lemmas.Bool.{cases_Bool}
 use Rattle.picky_sshpub.specs.declared.key.SshPublicKey.{SshPublicKey}
 use Rattle.picky_sshpub.specs.Blob.{blob_of}
 use Rattle.picky_sshpub.specs.LineRefusal.{is_short}
-use Rattle.picky_putty_public.specs.declared.error.PuttyError.{PuttyError}
-use Rattle.picky_putty_public.specs.declared.error.PuttyError.TheVariants as putty
+use Rattle.picky_ppk_parts.specs.declared.error.PuttyError.{PuttyError}
+use Rattle.picky_ppk_parts.specs.declared.error.PuttyError.TheVariants as putty
 use Rattle.picky_putty_public.specs.declared.putty_public.PuttyPublicKey.{PuttyPublicKey}
 use Rattle.picky_putty_public.specs.PuttyPublic.{putty_public}
-use Rattle.picky_putty_public.specs.PuttyRefusal.{is_hardware, no_hardware_keys, of_openssh, putty_text}
+use Rattle.picky_ppk_parts.specs.Unsupported.{no_hardware_keys}
+use Rattle.picky_putty_public.specs.PuttyRefusal.{is_hardware, of_openssh, putty_text}
 use Rattle.picky_convert.specs.declared.conversion.Target.TheVariants as targets
 use Rattle.picky_convert.specs.declared.error.ConvertError.{ConvertError}
 use Rattle.picky_convert.specs.declared.error.ConvertError.TheVariants as convert

@@ -10,7 +10,8 @@ use Rattle.picky_sshpub.specs.Blob.{blob_of}
 use Rattle.picky_sshpub.specs.Line.{line_of}
 use Rattle.picky_sshpub.specs.LineRefusal.{is_short}
 use Rattle.picky_putty_public.specs.PuttyPublic.{SpellsPuttyPublic, IsPuttyPublic, putty_public}
-use Rattle.picky_putty_public.specs.PuttyRefusal.{is_hardware, no_hardware_keys}
+use Rattle.picky_ppk_parts.specs.Unsupported.{no_hardware_keys}
+use Rattle.picky_putty_public.specs.PuttyRefusal.{is_hardware}
 use Rattle.picky_convert.specs.declared.error.ConvertError.{ConvertError}
 use Rattle.picky_convert.specs.declared.error.ConvertError.TheVariants as errors
 use Rattle.picky_convert.specs.declared.meaning.Key.{Key}

@@ -2,8 +2,8 @@
 use Rattle.std.specs.Prelude.{List, [], ◌++◌, ℕ, codes}
 use Rattle.picky_sshpub.specs.declared.error.SshPublicKeyError.{SshPublicKeyError}
 use Rattle.picky_sshpub.specs.declared.error.SshPublicKeyError.TheVariants as public
-use Rattle.picky_putty_public.specs.declared.error.PuttyError.{PuttyError}
-use Rattle.picky_putty_public.specs.declared.error.PuttyError.TheVariants as putty
+use Rattle.picky_ppk_parts.specs.declared.error.PuttyError.{PuttyError}
+use Rattle.picky_ppk_parts.specs.declared.error.PuttyError.TheVariants as putty
 use Rattle.picky_convert.specs.declared.error.ReadError.{ReadError}
 use Rattle.picky_convert.specs.declared.error.ReadError.TheVariants as input
 use Rattle.picky_convert.specs.declared.error.ConvertError.{ConvertError}

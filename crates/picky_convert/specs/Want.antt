@@ -1,7 +1,7 @@
 -- Which errors say that memory ran out, and what a run answers then.
 use Rattle.std.specs.Prelude.{◌≡◌, ◌⊎◌}
 use Rattle.picky_sshpub.specs.declared.error.SshPublicKeyError.TheVariants as public
-use Rattle.picky_putty_public.specs.declared.error.PuttyError.TheVariants as putty
+use Rattle.picky_ppk_parts.specs.declared.error.PuttyError.TheVariants as putty
 use Rattle.picky_convert.specs.declared.error.ReadError.TheVariants as input
 use Rattle.picky_convert.specs.declared.error.ConvertError.{ConvertError}
 use Rattle.picky_convert.specs.declared.error.ConvertError.TheVariants as convert

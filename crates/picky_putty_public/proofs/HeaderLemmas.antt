@@ -5,7 +5,7 @@ use Rattle.picky_text.specs.Lines.{lines}
 use Rattle.picky_putty_public.specs.PuttyPublic.{header}
 use Rattle.picky_putty_public.specs.PuttyRefusal.{after_header, of_lines, putty_meaning}
 use Rattle.picky_putty_public.proofs.MeaningLaws.{header_first, other_first}
-use Rattle.picky_putty_public.specs.declared.error.PuttyError.TheVariants as errors
+use Rattle.picky_ppk_parts.specs.declared.error.PuttyError.TheVariants as errors
 
 -- a text that begins with a header
 pub header_read : (text line : List ℕ) (more ls : List (List ℕ)) → ls ≡ lines text → ls ≡ line ∷ more

@@ -13,17 +13,19 @@ use Rattle.picky_sshpub.specs.Blob.{blob as layout, blob_of}
 use Rattle.picky_sshpub.specs.carried.Blob.{blob_spells}
 use Rattle.picky_sshpub.specs.LineRefusal.{is_short, blob_key}
 use Rattle.picky_sshpub.proofs.LineLaws.{blob_key_of, blob_key_fits}
-use Rattle.picky_putty_public.specs.declared.error.PuttyError.TheVariants as errors
+use Rattle.picky_ppk_parts.specs.declared.error.PuttyError.TheVariants as errors
 use Rattle.picky_putty_public.specs.declared.putty_public.PuttyPublicKey.{PuttyPublicKey}
 use Rattle.picky_putty_public.specs.PuttyPublic.{SaysPuttyPublic, IsPuttyPublic}
-use Rattle.picky_putty_public.specs.PuttyRefusal.{is_hardware, no_hardware_keys, of_openssh, inner_key_of, to_openssh}
+use Rattle.picky_ppk_parts.specs.PartsRefusal.{key_in_blob}
+use Rattle.picky_ppk_parts.specs.Unsupported.{no_hardware_keys}
+use Rattle.picky_putty_public.specs.PuttyRefusal.{is_hardware, of_openssh, to_openssh}
 use Rattle.picky_putty_public.specs.PuttyRefusal.{putty_meaning}
 use Rattle.picky_putty_public.proofs.MeaningLaws.{putty_meaning_of, putty_meaning_says}
 
 -- A key whose blob a key fits is that key, with its comment.
 pub openssh_of : (putty : PuttyPublicKey) (inner : SshBasePublicKey) (rest : List ℕ) → Fits layout.piece inner putty.blob rest
     → to_openssh putty ≡ Ok (record { inner_key = inner; comment = putty.comment })
-unfolding to_openssh inner_key_of
+unfolding to_openssh
 openssh_of putty inner rest fits = rw (blob_key_of putty.blob rest inner fits) refl
 
 -- a test that refuses nothing
@@ -53,11 +55,11 @@ putty_key_of text key is =
 -- A text of bytes says the blob of the key that it means.
 pub putty_key_says : (text : List ℕ) (key : SshPublicKey) → IsBytes text
     → and_then (putty_meaning text) to_openssh ≡ Ok key → IsPuttyPublic text key
-unfolding to_openssh inner_key_of
+unfolding to_openssh
 putty_key_says text key small means =
     let step = and_then_ok (putty_meaning text) to_openssh key means in
     let putty = step.0 in
-    let opened = and_then_ok (inner_key_of putty) _ key step.2 in
+    let opened = and_then_ok (key_in_blob putty.blob) _ key step.2 in
     let inner = opened.0 in
     let fits = blob_key_fits putty.blob inner (map_err_ok errors.SshPublicKey (blob_key putty.blob) inner opened.1) in
     let is : record { inner_key = inner; comment = putty.comment } ≡ key = cc opened.2 in

@@ -1,6 +1,6 @@
 -- The laws of what a text means: what it says, which is one key; and what is written is read back.
-use Rattle.std.proofs.Common.{◌≡◌, ◌<◌, ◌^◌, ◌&&◌, ℕ, List, [], ◌∷◌, ◌++◌, length, Bool, true, false}
-use Rattle.std.proofs.Common.{if◌then◌else◌, Option, Some, None, Result, Ok, Err, refl, sym, ap, ◌∙◌, subst}
+use Rattle.std.proofs.Common.{◌≡◌, ◌<◌, ◌^◌, ◌&&◌, ℕ, List, [], ◌∷◌, ◌++◌, length, true, false}
+use Rattle.std.proofs.Common.{Some, Ok, Err, refl, sym, ap, ◌∙◌, subst}
 use Rattle.std.specs.List.{concat}
 use Rattle.std.specs.Option.{ok_or}
 use Rattle.std.specs.Str.{bytes_eq}
@@ -14,7 +14,7 @@ use Rattle.picky_text.proofs.ListLaws.{all_front}
 use Rattle.picky_text.specs.Quote.{unquote}
 use Rattle.picky_sshpub.proofs.LineLaws.{some_of, chosen}
 use Rattle.picky_sshpub.specs.LineRefusal.{is_short}
-use Rattle.picky_putty_public.specs.declared.error.PuttyError.TheVariants as errors
+use Rattle.picky_ppk_parts.specs.declared.error.PuttyError.TheVariants as errors
 use Rattle.picky_putty_public.specs.declared.putty_public.PuttyPublicKey.{PuttyPublicKey}
 use Rattle.picky_putty_public.specs.PuttyPublic.{header, footer, comment_start, putty_public, SaysPuttyPublic}
 use Rattle.picky_putty_public.specs.PuttyRefusal.{quoted, body_from, of_parts, after_comment, after_header, of_lines}

@@ -1,10 +1,10 @@
 -- The order in which a PuTTY public key is refused: its text line by line and then the joined body, and its blob.
-use Rattle.std.specs.Prelude.{◌==◌, ◌&&◌, List, [], ◌∷◌, ◌++◌, ℕ, codes, Option, Some, None, Bool, true}
+use Rattle.std.specs.Prelude.{◌==◌, ◌&&◌, List, [], ◌∷◌, ◌++◌, ℕ, Option, Some, None, Bool, true}
 use Rattle.std.specs.Prelude.{false, Result, Ok, Err, if◌then◌else◌, option_and_then}
 use Rattle.std.specs.List.{list_any, before_last, after_first}
 use Rattle.std.specs.Option.{ok_or}
 use Rattle.std.specs.Str.{bytes_eq}
-use Rattle.picky_layout.specs.Outcome.{and_then, map_err}
+use Rattle.picky_layout.specs.Outcome.{and_then}
 use Rattle.picky_text.specs.Base64.{decoded}
 use Rattle.picky_text.specs.Lines.{lines}
 use Rattle.picky_text.specs.Quote.{unquote}
@@ -14,9 +14,11 @@ use Rattle.picky_sshpub.specs.declared.key.SshBasePublicKey.TheVariants as keys
 use Rattle.picky_sshpub.specs.declared.key.SshPublicKey.{SshPublicKey}
 use Rattle.picky_sshpub.specs.Blob.{blob_of}
 use Rattle.picky_sshpub.specs.Key.{public_key_of}
-use Rattle.picky_sshpub.specs.LineRefusal.{is_short, blob_key}
-use Rattle.picky_putty_public.specs.declared.error.PuttyError.{PuttyError}
-use Rattle.picky_putty_public.specs.declared.error.PuttyError.TheVariants as errors
+use Rattle.picky_sshpub.specs.LineRefusal.{is_short}
+use Rattle.picky_ppk_parts.specs.declared.error.PuttyError.{PuttyError}
+use Rattle.picky_ppk_parts.specs.declared.error.PuttyError.TheVariants as errors
+use Rattle.picky_ppk_parts.specs.PartsRefusal.{key_in_blob}
+use Rattle.picky_ppk_parts.specs.Unsupported.{no_hardware_keys}
 use Rattle.picky_putty_public.specs.declared.putty_public.PuttyPublicKey.{PuttyPublicKey}
 use Rattle.picky_putty_public.specs.PuttyPublic.{header, footer, comment_start, putty_public}
 
@@ -88,10 +90,6 @@ is_hardware (keys.Ed key) = false
 is_hardware (keys.SkEcdsaSha2NistP256 point application) = true
 is_hardware (keys.SkEd25519 key application) = true
 
--- PuTTY has no such keys
-abbrev pub no_hardware_keys : PuttyError
-no_hardware_keys = errors.NotSupported (codes "SK keys")
-
 -- PuTTY's public key for an OpenSSH one
 unfoldable pub of_openssh : SshPublicKey → Result PuttyPublicKey PuttyError
 of_openssh key =
@@ -99,21 +97,17 @@ of_openssh key =
     else if is_short (blob_of key.inner_key)
     then Ok (record { blob = blob_of key.inner_key; comment = key.comment }) else Err errors.TooLong
 
--- the key in the blob
-unfoldable pub inner_key_of : PuttyPublicKey → Result SshBasePublicKey PuttyError
-inner_key_of key = map_err errors.SshPublicKey (blob_key key.blob)
-
 -- OpenSSH's public key for PuTTY's
 unfoldable pub to_openssh : PuttyPublicKey → Result SshPublicKey PuttyError
 to_openssh key =
-    and_then (inner_key_of key) (λ inner. Ok (record { inner_key = inner; comment = key.comment }))
+    and_then (key_in_blob key.blob) (λ inner. Ok (record { inner_key = inner; comment = key.comment }))
 
 -- the key in the blob, of a kind that PuTTY has
 abbrev pub plain_key : SshBasePublicKey → Result PublicKey PuttyError
 plain_key key = if is_hardware key then Err no_hardware_keys else Ok (public_key_of key)
 
 unfoldable pub plain_key_of : PuttyPublicKey → Result PublicKey PuttyError
-plain_key_of key = and_then (inner_key_of key) plain_key
+plain_key_of key = and_then (key_in_blob key.blob) plain_key
 
 -- the key with another comment
 unfoldable pub commented : PuttyPublicKey → List ℕ → Result PuttyPublicKey PuttyError

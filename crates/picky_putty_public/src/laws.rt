@@ -12,7 +12,6 @@ ghost use Rattle.picky_putty_public.specs.declared.putty_public.PuttyPublicKey.{
 ghost use Rattle.picky_putty_public.specs.PuttyPublic.{putty_public, IsPuttyPublic, SaysPuttyPublic, SpellsPuttyPublic};
 ghost use Rattle.picky_putty_public.specs.PuttyRefusal.{putty_meaning, of_openssh, to_openssh};
 
-use crate::error::PuttyError;
 use crate::putty_public::PuttyPublicKey;
 
 /// A text means a blob and a comment exactly where it says them, and it says one of each.
@@ -57,8 +56,7 @@ pub fn written_text_means_its_key()
         → IsPuttyPublic text key }
 {}
 
-/// Two keys are equal exactly where their contents are, and so are refusals.
+/// Two keys are equal exactly where their contents are.
 pub fn equality_is_of_contents()
-    ensures key { IsEquality ⟦<PuttyPublicKey as PartialEq>⟧.eq }
-    ensures error { IsEquality ⟦<PuttyError as PartialEq>⟧.eq }
+    ensures { IsEquality ⟦<PuttyPublicKey as PartialEq>⟧.eq }
 {}

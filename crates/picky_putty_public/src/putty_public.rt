@@ -1,15 +1,15 @@
 //! A public key as PuTTYgen saves it.
 
-ghost use Rattle.std.specs.Prelude.{◌≡◌, ◌^◌, ◌<◌, ◌≤◌, ◌+◌, ◌/◌, ◌⊎◌, [], length, Ok, IfOk, OnOk, IfNone, IfSome, string_bytes};
+ghost use Rattle.std.specs.Prelude.{◌≡◌, ◌^◌, ◌<◌, ◌≤◌, ◌+◌, ◌/◌, [], length, Ok, IfOk, OnOk, IfNone, IfSome, string_bytes};
 ghost use Rattle.picky_layout.specs.Numbers.{IsBytes};
 ghost use Rattle.picky_text.specs.Lines.{HasNo};
 ghost use Rattle.picky_wire.specs.Gives.{Gives};
 ghost use Rattle.picky_putty_public.specs.PuttyPublic.{putty_public as text_of};
-ghost use Rattle.picky_putty_public.specs.PuttyRefusal.{quoted as quoted_in, after_header as after_header_of, after_comment as after_comment_of, body_from, of_parts as of_parts_of, putty_meaning, putty_text, is_hardware as is_hardware_of, of_openssh, inner_key_of, to_openssh as to_openssh_of, plain_key_of, plain_key as plain_of, no_hardware_keys as no_hardware_keys_of, commented};
+ghost use Rattle.picky_putty_public.specs.PuttyRefusal.{quoted as quoted_in, after_header as after_header_of, after_comment as after_comment_of, body_from, of_parts as of_parts_of, putty_meaning, putty_text, is_hardware as is_hardware_of, of_openssh, to_openssh as to_openssh_of, plain_key_of, plain_key as plain_of, commented};
 
-use crate::error::PuttyError;
 use picky_keys::PublicKey;
-use picky_sshpub::{SshBasePublicKey, SshPublicKey, SshPublicKeyError};
+use picky_ppk_parts::{PuttyError, blob_of_public, key_in_blob, no_hardware_keys};
+use picky_sshpub::{SshBasePublicKey, SshPublicKey};
 use picky_text::{
     Base64Error, LineEnd, LineReader, decode, encode, push_quoted, push_rows, unquoted,
 };
@@ -22,9 +22,6 @@ const FOOTER: &str = "---- END SSH2 PUBLIC KEY ----";
 
 const COMMENT_KEY: &str = "Comment: ";
 
-/// What PuTTY lacks: keys whose secret a device keeps.
-const HARDWARE_KEYS: &str = "SK keys";
-
 /// How many bytes a length of the wire can't say.
 const TOO_MANY: usize = 1 << 32;
 
@@ -36,6 +33,13 @@ pub struct PuttyPublicKey {
 }
 
 impl PuttyPublicKey {
+    /// The key of a blob, which isn't read, and a comment.
+    pub fn of_parts(blob: Bytes, comment: Text) -> PuttyPublicKey
+        ensures { result ≡ record { blob = blob; comment = comment } }
+    {
+        PuttyPublicKey { blob, comment }
+    }
+
     /// The blob and the comment that a text says.
     ///
     /// RFC 4716's file with one quoted comment line (docs/FORMATS.md, "PuTTY public key"). Refuses, in order:
@@ -108,7 +112,7 @@ impl PuttyPublicKey {
     pub fn to_openssh(&self, alloc: Global) -> Result<SshPublicKey, PuttyError>
         ensures { Gives PuttyError.NoMemory (λ key. key) result (to_openssh_of self.now) }
     {
-        match inner_key(alloc, self) {
+        match key_in_blob(alloc, &self.blob) {
             Ok(inner_key) => match self.comment.try_clone(alloc) {
                 Ok(comment) => Ok(SshPublicKey { inner_key, comment }),
                 Err(NoMemory) => Err(PuttyError::NoMemory),
@@ -146,7 +150,7 @@ impl PuttyPublicKey {
     pub fn to_inner_key(&self, alloc: Global) -> Result<PublicKey, PuttyError>
         ensures { Gives PuttyError.NoMemory (λ key. key) result (plain_key_of self.now) }
     {
-        match inner_key(alloc, self) {
+        match key_in_blob(alloc, &self.blob) {
             Ok(key) => plain_key(alloc, key),
             Err(e) => Err(e),
         }
@@ -271,10 +275,9 @@ fn putty_key(
     if is_hardware(inner_key) {
         return Err(no_hardware_keys(alloc));
     }
-    match inner_key.to_blob(alloc) {
+    match blob_of_public(alloc, inner_key) {
         Ok(blob) => Ok(PuttyPublicKey { blob, comment }),
-        Err(SshPublicKeyError::TooLong) => Err(PuttyError::TooLong),
-        Err(_) => Err(PuttyError::NoMemory),
+        Err(e) => Err(e),
     }
 }
 
@@ -289,7 +292,7 @@ fn text_room(body_len: usize, comment_len: usize) -> usize
 }
 
 /// Whether a device keeps the key's secret.
-fn is_hardware(key: &SshBasePublicKey) -> bool
+pub fn is_hardware(key: &SshBasePublicKey) -> bool
     ensures { result ≡ is_hardware_of key.now }
 {
     match key {
@@ -299,30 +302,10 @@ fn is_hardware(key: &SshBasePublicKey) -> bool
     }
 }
 
-/// The error for a key whose secret a device keeps.
-fn no_hardware_keys(alloc: Global) -> PuttyError
-    ensures { (result ≡ no_hardware_keys_of) ⊎ (result ≡ PuttyError.NoMemory) }
-{
-    match Text::new(alloc, HARDWARE_KEYS) {
-        Ok(feature) => PuttyError::NotSupported { feature },
-        Err(_) => PuttyError::NoMemory,
-    }
-}
-
-/// The key in the blob.
-#[tactic(auto, unfolding(crate::specs::PuttyRefusal::inner_key_of))]
-fn inner_key(alloc: Global, key: &PuttyPublicKey) -> Result<SshBasePublicKey, PuttyError>
-    ensures { Gives PuttyError.NoMemory (λ key. key) result (inner_key_of key.now) }
-{
-    match SshBasePublicKey::from_blob(alloc, key.blob.as_slice()) {
-        Ok(key) => Ok(key),
-        Err(SshPublicKeyError::NoMemory) => Err(PuttyError::NoMemory),
-        Err(e) => Err(PuttyError::SshPublicKey(e)),
-    }
-}
-
 /// The key without what is OpenSSH's alone.
-fn plain_key(alloc: Global, key: SshBasePublicKey) -> Result<PublicKey, PuttyError>
+///
+/// Refuses, in order: `NotSupported` (`SK keys`) for a key whose secret a device keeps.
+pub fn plain_key(alloc: Global, key: SshBasePublicKey) -> Result<PublicKey, PuttyError>
     ensures { Gives PuttyError.NoMemory (λ key. key) result (plain_of key) }
 {
     match key {

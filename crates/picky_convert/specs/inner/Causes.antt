@@ -1,7 +1,7 @@
 -- Words of this crate's private contracts: which refusals a conversion and a run can end in.
 use Rattle.std.specs.Prelude.{Bool, if◌then◌else◌}
-use Rattle.picky_putty_public.specs.declared.error.PuttyError.{PuttyError}
-use Rattle.picky_putty_public.specs.declared.error.PuttyError.TheVariants as putty
+use Rattle.picky_ppk_parts.specs.declared.error.PuttyError.{PuttyError}
+use Rattle.picky_ppk_parts.specs.declared.error.PuttyError.TheVariants as putty
 use Rattle.picky_convert.specs.declared.error.ConvertError.{ConvertError}
 use Rattle.picky_convert.specs.declared.error.ConvertError.TheVariants as errors
 use Rattle.picky_convert.specs.declared.error.Status.{Status}

@@ -1,0 +1,9 @@
+pub mod BlobLemmas
+pub mod SecretLemmas
+pub mod EdLemmas
+pub mod CountedLemmas
+pub mod AlgorithmLemmas
+pub mod MacLaws
+pub mod PartsLaws
+pub mod ReadBackLaws
+pub mod CountedLaws

@@ -1,0 +1,10 @@
+-- The reason of the number's string is that of the private bytes.
+use Rattle.std.proofs.Common.{inr, ap, sym, ◌∙◌, Err}
+use Rattle.picky_wire.specs.View.{why_of}
+use Rattle.picky_ppk_parts.proofs.SecretLemmas.{ec_key_refused}
+use Rattle.picky_ppk_parts.proofs.secret.ec_key.Goals as goal
+
+pub returns-in-Err : goal.returns-in-Err
+returns-in-Err c =
+    inr (ec_key_refused c.args.curve c.args.point c.args.private.now (why_of c.in-Err.stuck) c.in-Err.ensures.sees
+    ∙ ap Err (sym c.refusal.ensures))
