@@ -1,14 +1,17 @@
 //! A copy is made where there is memory, and is equal to its value.
 
+use crate::private_keys::{unsealed, zero_key};
+use crate::private_texts::PRIVATE_ROWS;
 use picky_convert::Key;
 use picky_keys::{EcCurve, PublicKey};
 use picky_kv::{
     Base64PpkValue, HexPpkValue, PpkArgon2MemoryValue, PpkArgon2ParallelismValue,
     PpkArgon2PassesValue, PpkCommentValue,
 };
+use picky_sshkey::{Kdf, Pem, SshBasePrivateKey};
 use picky_sshpub::SshBasePublicKey;
 use picky_wire::{Bytes, Mpint, Text, TryClone};
-use std::alloc::AllocGlobal;
+use std::alloc::{AllocGlobal, Global};
 use std::process::Abort;
 use std::test::Fail;
 
@@ -64,6 +67,28 @@ fn copies_each_kind_of_key(rt: HostRuntime) -> Result<(), Fail> {
     )?;
     copies(&rt, PublicKey::Ed { key: [7; 32] })?;
     copies(&rt, Key::Public(SshBasePublicKey::Ed { key: [7; 32] }))
+}
+
+fn base_key_of(alloc: Global, text: &str) -> Result<SshBasePrivateKey, Fail> {
+    let key = unsealed(alloc, text)?;
+    Ok(key.base_key().try_clone(alloc)?)
+}
+
+#[test]
+fn copies_each_kind_of_private_key(rt: HostRuntime) -> Result<(), Fail> {
+    for row in &PRIVATE_ROWS {
+        copies(&rt, unsealed(rt.alloc(), row.text)?)?;
+        copies(&rt, base_key_of(rt.alloc(), row.text)?)?;
+    }
+    copies(&rt, zero_key(rt.alloc(), Some("password"))?)
+}
+
+#[test]
+fn copies_the_parts_of_an_envelope(rt: HostRuntime) -> Result<(), Fail> {
+    copies(&rt, Pem::new(rt.alloc(), b"content")?)?;
+    copies(&rt, Kdf::plain(rt.alloc())?)?;
+    let Kdf { option, .. } = Kdf::plain(rt.alloc())?;
+    copies(&rt, option)
 }
 
 #[test]

@@ -51,6 +51,8 @@ mod private_keys;
 #[cfg(test)]
 mod private_texts;
 #[cfg(test)]
+mod private_views;
+#[cfg(test)]
 mod putty_comments;
 #[cfg(test)]
 mod putty_public;
@@ -64,6 +66,8 @@ mod refused_lines;
 mod runs;
 #[cfg(test)]
 mod sealed_key_refusals;
+#[cfg(test)]
+mod sealed_keys;
 #[cfg(test)]
 mod statuses;
 #[cfg(test)]

@@ -2,8 +2,9 @@
 
 use crate::ppk_fields::parsing_error;
 use picky_convert::{ConvertError, ReadError};
-use picky_kv::{KvError, PpkValueError};
+use picky_kv::{BlockError, KvError, PpkValueError};
 use picky_putty_public::PuttyError;
+use picky_sshkey::{PemError, SshPrivateKeyError};
 use picky_sshpub::SshPublicKeyError;
 use picky_suite::SignError;
 use picky_wire::{Failed, IoKind, NoMemory, SizeError, Text, WireError};
@@ -86,6 +87,91 @@ fn prints_the_errors_of_public_keys(rt: HostRuntime) -> Result<(), Fail> {
             (SshPublicKeyError::KeyError, "KeyError"),
             (SshPublicKeyError::TooLong, "TooLong"),
             (SshPublicKeyError::NoMemory, "NoMemory"),
+        ],
+    )?;
+    Ok(())
+}
+
+#[test]
+fn prints_the_errors_of_ppk_blocks(rt: HostRuntime) -> Result<(), Fail> {
+    prints(
+        &rt,
+        &[
+            (BlockError::BadBase64, "BadBase64"),
+            (BlockError::TooLong, "TooLong"),
+            (BlockError::NoMemory, "NoMemory"),
+        ],
+    )?;
+    Ok(())
+}
+
+#[test]
+fn prints_the_errors_of_private_keys(rt: HostRuntime) -> Result<(), Fail> {
+    prints(
+        &rt,
+        &[
+            (
+                SshPrivateKeyError::UnsupportedKeyType(some_text(rt.alloc())?),
+                "UnsupportedKeyType",
+            ),
+            (
+                SshPrivateKeyError::UnsupportedCipher(some_text(rt.alloc())?),
+                "UnsupportedCipher",
+            ),
+            (
+                SshPrivateKeyError::UnsupportedKdf(some_text(rt.alloc())?),
+                "UnsupportedKdf",
+            ),
+        ],
+    )?;
+    prints(
+        &rt,
+        &[
+            (SshPrivateKeyError::FromUtf8Error, "FromUtf8Error"),
+            (
+                SshPrivateKeyError::IoError(IoKind::UnexpectedEnd),
+                "IoError",
+            ),
+            (
+                SshPrivateKeyError::InvalidAuthMagicHeader,
+                "InvalidAuthMagicHeader",
+            ),
+            (
+                SshPrivateKeyError::InvalidKeysAmount(2),
+                "InvalidKeysAmount",
+            ),
+            (
+                SshPrivateKeyError::InvalidCheckNumbers(1, 2),
+                "InvalidCheckNumbers",
+            ),
+            (SshPrivateKeyError::InvalidKeyFormat, "InvalidKeyFormat"),
+            (SshPrivateKeyError::DecryptionError, "DecryptionError"),
+            (SshPrivateKeyError::HashingError, "HashingError"),
+            (SshPrivateKeyError::MissingPassphrase, "MissingPassphrase"),
+            (SshPrivateKeyError::KeyError, "KeyError"),
+            (
+                SshPrivateKeyError::PemError(PemError::BadBase64),
+                "PemError",
+            ),
+            (SshPrivateKeyError::SuiteFault, "SuiteFault"),
+            (SshPrivateKeyError::TooLong, "TooLong"),
+            (SshPrivateKeyError::NoMemory, "NoMemory"),
+            (SshPrivateKeyError::PublicKeyMismatch, "PublicKeyMismatch"),
+        ],
+    )?;
+    Ok(())
+}
+
+#[test]
+fn prints_the_errors_of_armoured_texts(rt: HostRuntime) -> Result<(), Fail> {
+    prints(
+        &rt,
+        &[
+            (PemError::HeaderNotFound, "HeaderNotFound"),
+            (PemError::FooterNotFound, "FooterNotFound"),
+            (PemError::BadBase64, "BadBase64"),
+            (PemError::TooLong, "TooLong"),
+            (PemError::NoMemory, "NoMemory"),
         ],
     )?;
     Ok(())

@@ -1,11 +1,12 @@
 //! OpenSSH private keys without a passphrase: texts of other programs, read and written.
 
 use crate::keys::key_of;
-use crate::private_texts::{PRIVATE_ROWS, PrivateRow};
-use picky_sshkey::{KdfOption, PrivateView, SshPrivateKey, parse_pem};
+use crate::private_texts::{PRIVATE_ROWS, PrivateRow, V2};
+use picky_keys::PrivateKey;
+use picky_sshkey::{Kdf, KdfOption, PrivateKeyRef, SshBasePrivateKey, SshPrivateKey, parse_pem};
 use picky_suite::PlainSuite;
 use picky_wire::{
-    Bytes, MemorySink, Part, SliceSource, SshComplexTypeDecode, SshComplexTypeEncode, Stuck, Text,
+    Bytes, MemorySink, SliceSource, SshComplexTypeDecode, SshComplexTypeEncode, Text,
 };
 use std::alloc::Global;
 use std::test::Fail;
@@ -32,6 +33,76 @@ pub fn unsealed(alloc: Global, text: &str) -> Result<SshPrivateKey, Fail> {
 pub fn written(alloc: Global, key: &SshPrivateKey) -> Result<Text, Fail> {
     let mut suite = PlainSuite::new();
     Ok(key.to_string(alloc, &mut suite)?)
+}
+
+/// The key of `ZERO_KEY`, or one with a passphrase.
+pub fn zero_key(alloc: Global, pass: Option<&str>) -> Result<SshPrivateKey, Fail> {
+    let base = SshBasePrivateKey::Ed {
+        secret: [0; 32],
+        public: [0; 32],
+    };
+    let salt = b"saltsaltsaltsalt";
+    Ok(SshPrivateKey::from_base(alloc, base, pass, "hello", salt)?)
+}
+
+/// The text's key has this comment and names this cipher.
+fn says(alloc: Global, text: &str, cipher: &str, comment: &str) -> Result<bool, Fail> {
+    let key = unsealed(alloc, text)?;
+    Ok(key.cipher_name.as_str() == cipher && key.comment.as_str() == comment)
+}
+
+/// What is written of the text's key.
+fn rewritten(alloc: Global, text: &str) -> Result<Text, Fail> {
+    let key = unsealed(alloc, text)?;
+    written(alloc, &key)
+}
+
+/// The key, read of its envelope's bytes.
+fn by_pem(alloc: Global, key: &SshPrivateKey) -> Result<SshPrivateKey, Fail> {
+    let mut suite = PlainSuite::new();
+    let pem = key.to_pem(alloc, &mut suite)?;
+    Ok(SshPrivateKey::from_pem(alloc, &mut suite, &pem, None)?)
+}
+
+fn is_kept_by_pem(alloc: Global, text: &str) -> Result<bool, Fail> {
+    let key = unsealed(alloc, text)?;
+    is_said_by_pem(alloc, &key)
+}
+
+fn is_said_by_pem(alloc: Global, key: &SshPrivateKey) -> Result<bool, Fail> {
+    Ok(by_pem(alloc, key)? == *key)
+}
+
+#[test]
+fn writes_the_text_of_picky_again(rt: HostRuntime) -> Result<(), Fail> {
+    assert_eq!(rt; rewritten(rt.alloc(), V2)?.as_str(), V2);
+    assert!(rt; says(rt.alloc(), V2, "none", "test2@picky.com")?);
+    assert!(rt; is_kept_by_pem(rt.alloc(), V2)?);
+    Ok(())
+}
+
+fn zero_text(alloc: Global) -> Result<Text, Fail> {
+    let key = zero_key(alloc, None)?;
+    written(alloc, &key)
+}
+
+/// The text is that of the key of `ZERO_KEY`.
+fn is_zero_key(alloc: Global, text: &str) -> Result<bool, Fail> {
+    let key = zero_key(alloc, None)?;
+    says_key(alloc, text, &key)
+}
+
+fn says_key(alloc: Global, text: &str, key: &SshPrivateKey) -> Result<bool, Fail> {
+    Ok(unsealed(alloc, text)? == *key)
+}
+
+#[test]
+fn writes_a_key_that_is_made(rt: HostRuntime) -> Result<(), Fail> {
+    assert_eq!(rt; zero_text(rt.alloc())?.as_str(), ZERO_KEY);
+    assert!(rt; is_zero_key(rt.alloc(), ZERO_KEY)?);
+    let unbroken = ZERO_KEY.replace(rt.alloc(), "\n", "")?;
+    assert!(rt; is_zero_key(rt.alloc(), unbroken.as_str())?);
+    Ok(())
 }
 
 /// What options the bytes say, and how these are written.
@@ -138,78 +209,79 @@ fn reads_and_writes_the_keys_of_ssh_keygen(rt: HostRuntime) -> Result<(), Fail> 
     Ok(())
 }
 
-const DEVICE_BLOB: &[u8] =
-    b"\0\0\0\x22sk-ecdsa-sha2-nistp256@openssh.com\0\0\0\x08nistp256\0\0\0\x02\x04\x05\0\0\0\x04ssh:\x01\0\0\0\x02hh\0\0\0\0more";
-
-/// A blob, the number of the field at which it is stuck, and why.
-struct StuckRow {
-    name: &'static str,
-    blob: &'static [u8],
-    field: usize,
-    why: Stuck<'static>,
+fn bare_key(alloc: Global) -> Result<SshPrivateKey, Fail> {
+    let private = PrivateKey::Ed {
+        secret: [0; 32],
+        public: [0; 32],
+    };
+    Ok(SshPrivateKey::from_private_key(alloc, private)?)
 }
 
-static STUCK_ROWS: [StuckRow; 4] = [
-    StuckRow {
-        name: "a name outside the table",
-        blob: b"\0\0\0\x07ssh-dss",
-        field: 0,
-        why: Stuck::Name(Part {
-            at: 4,
-            bytes: b"ssh-dss",
-        }),
-    },
-    StuckRow {
-        name: "an identifier that isn't UTF-8",
-        blob: b"\0\0\0\x13ecdsa-sha2-nistp256\0\0\0\x02\xc3(",
-        field: 1,
-        why: Stuck::NotUtf8,
-    },
-    StuckRow {
-        name: "a public key of three bytes",
-        blob: b"\0\0\0\x0bssh-ed25519\0\0\0\x03kkk",
-        field: 1,
-        why: Stuck::Length,
-    },
-    StuckRow {
-        name: "a secret without a copy",
-        blob: b"\0\0\0\x0bssh-ed25519\0\0\0 kkkkkkkkkkkkkkkkkkkkkkkkkkkkkkkk\0\0\0 ssssssssssssssssssssssssssssssss",
-        field: 2,
-        why: Stuck::Length,
-    },
-];
-
-/// The bytes are stuck there, for this reason.
-fn is_stuck(alloc: Global, bytes: &[u8], field: usize, why: Stuck<'_>) -> Result<bool, Fail> {
-    let blob = Bytes::new(alloc, bytes)?;
-    let is_so = PrivateView::stuck_at(blob.as_slice()) == Some(field);
-    Ok(is_so && PrivateView::read(blob.as_slice()) == Err(why))
+/// It is the other key without its comment.
+fn is_uncommented(key: &SshPrivateKey, commented: &SshPrivateKey) -> bool {
+    let is_same = key.base_key == commented.base_key && key.public_key == commented.public_key;
+    is_same
+        && key.check == commented.check
+        && key.passphrase.is_none()
+        && key.comment.as_str() == ""
 }
 
-/// The first bytes of the device's blob are stuck there.
-fn is_cut(alloc: Global, len: usize, field: usize) -> Result<bool, Fail> {
-    match DEVICE_BLOB.get(..len) {
-        Some(cut) => is_stuck(alloc, cut, field, Stuck::Short),
-        None => Ok(false),
-    }
+fn is_zero_key_uncommented(alloc: Global, key: &SshPrivateKey) -> Result<bool, Fail> {
+    let commented = zero_key(alloc, None)?;
+    Ok(is_uncommented(key, &commented))
+}
+
+fn is_made_uncommented(alloc: Global) -> Result<bool, Fail> {
+    let key = bare_key(alloc)?;
+    is_zero_key_uncommented(alloc, &key)
+}
+
+/// It isn't sealed, and shows its secret.
+fn is_plain(alloc: Global, key: &SshPrivateKey) -> Result<bool, Fail> {
+    let zeros = PrivateKeyRef::Ed {
+        secret: &[0; 32],
+        public: &[0; 32],
+    };
+    Ok(key.inner_key() == Some(zeros) && key.kdf == Kdf::plain(alloc)?)
+}
+
+fn is_made_plain(alloc: Global) -> Result<bool, Fail> {
+    let key = bare_key(alloc)?;
+    is_plain(alloc, &key)
 }
 
 #[test]
-fn sees_the_field_that_a_private_blob_is_stuck_at(rt: HostRuntime) -> Result<(), Fail> {
-    for (field, len) in [
-        (0, 37),
-        (1, 49),
-        (2, 55),
-        (3, 63),
-        (4, 64),
-        (5, 70),
-        (6, 74),
-    ] {
-        assert!(rt; is_cut(rt.alloc(), len, field)?, "field {field}");
-    }
-    for row in &STUCK_ROWS {
-        let is_so = is_stuck(rt.alloc(), row.blob, row.field, row.why)?;
-        assert!(rt; is_so, "{}", row.name);
-    }
+fn makes_a_key_without_a_passphrase_of_its_parts(rt: HostRuntime) -> Result<(), Fail> {
+    assert!(rt; is_made_uncommented(rt.alloc())?);
+    assert!(rt; is_made_plain(rt.alloc())?);
+    Ok(())
+}
+
+/// `encode` writes the content of what `to_pem` gives.
+fn is_encoded(alloc: Global, key: &SshPrivateKey) -> Result<bool, Fail> {
+    let mut suite = PlainSuite::new();
+    let mut sink = MemorySink::new(alloc, 999, 7, &[])?;
+    key.encode(alloc, &mut suite, &mut sink)?;
+    let pem = key.to_pem(alloc, &mut suite)?;
+    Ok(pem.content() == sink.written())
+}
+
+/// The text is that of what `to_pem` gives, and a last LF.
+fn is_armoured(alloc: Global, key: &SshPrivateKey) -> Result<bool, Fail> {
+    let mut suite = PlainSuite::new();
+    let pem = key.to_pem(alloc, &mut suite)?;
+    let lines = pem.to_string(alloc)?;
+    let text = written(alloc, key)?;
+    Ok(text.as_str().strip_suffix("\n") == Some(lines.as_str()))
+}
+
+fn is_made_alike(alloc: Global) -> Result<bool, Fail> {
+    let key = bare_key(alloc)?;
+    Ok(is_encoded(alloc, &key)? && is_armoured(alloc, &key)?)
+}
+
+#[test]
+fn writes_the_same_by_each_call(rt: HostRuntime) -> Result<(), Fail> {
+    assert!(rt; is_made_alike(rt.alloc())?);
     Ok(())
 }
