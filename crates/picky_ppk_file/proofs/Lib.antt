@@ -1,0 +1,11 @@
+pub mod LineSteps
+pub mod LineBytes
+pub mod FrontLaws
+pub mod FileLaws
+pub mod RangeLaws
+pub mod TextLemmas
+pub mod BackLemmas
+pub mod ReadBackLaws
+pub mod WriteLemmas
+pub mod EqualityLemmas
+pub mod WrittenLemmas

@@ -1,0 +1,4 @@
+pub mod File
+pub mod FileText
+pub mod FileRefusal
+pub mod Written

@@ -1,0 +1,10 @@
+//! PuTTY's private key files, line by line (PuTTY's manual, Appendix C, "PPK file format"): which fields a text has, and
+//! which text is written for them. What a MAC or a sealed block holds is judged by the crates above.
+#![tactic(auto)]
+
+mod file;
+pub mod laws;
+mod reading;
+mod writing;
+
+pub use file::{PpkFile, PpkSealing};
