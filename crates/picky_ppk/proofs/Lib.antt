@@ -1,0 +1,8 @@
+pub mod CheckedLaws
+pub mod KeyLaws
+pub mod MacLemmas
+pub mod OpenedLemmas
+pub mod SealedLemmas
+pub mod FreshLemmas
+pub mod SealLaws
+pub mod BindLaws

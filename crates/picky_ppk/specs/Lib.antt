@@ -1,0 +1,10 @@
+pub mod Mac
+pub mod Checked
+pub mod Keyed
+pub mod Opened
+pub mod Sealed
+pub mod Fresh
+pub mod Changed
+pub mod KeyOf
+pub mod Wrappers
+pub mod inner

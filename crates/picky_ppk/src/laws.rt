@@ -1,0 +1,71 @@
+//! The laws of this crate, each as the contract of a function that does nothing.
+
+ghost use Rattle.std.specs.Prelude.{◌≡◌, ◌⊎◌, ◌++◌, ◌<◌, ◌^◌, List, ℕ, true, false, Ok, length};
+ghost use Rattle.picky_text.specs.Lines.{IsLine};
+ghost use Rattle.picky_suite.specs.Meanings.{Meanings};
+ghost use Rattle.picky_sshkey.specs.declared.private_key.SshPrivateKey.{SshPrivateKey as OpenSshKey};
+ghost use Rattle.picky_sshkey_blob.specs.declared.key.SshBasePrivateKey.{SshBasePrivateKey as Key};
+ghost use Rattle.picky_sshkey_blob.specs.Key.{IsPrivateKey};
+ghost use Rattle.picky_wire.specs.Equality.{IsEquality};
+ghost use Rattle.picky_ppk_parts.specs.declared.config.PpkEncryptionConfig.{PpkEncryptionConfig as Config};
+ghost use Rattle.picky_ppk_parts.specs.Counted.{counted};
+ghost use Rattle.picky_ppk_parts.specs.Parts.{StandsForKey};
+ghost use Rattle.picky_ppk_file.specs.declared.file.PpkFile.{PpkFile as File};
+ghost use Rattle.picky_ppk_file.specs.File.{IsFile, version_of, is_sealed};
+ghost use Rattle.picky_ppk_file.specs.Written.{end_of, written};
+ghost use Rattle.picky_ppk.specs.Mac.{CarriesMac, covered};
+ghost use Rattle.picky_ppk.specs.Checked.{ppk_meaning};
+ghost use Rattle.picky_ppk.specs.Opened.{decrypted};
+ghost use Rattle.picky_ppk.specs.Sealed.{padding_len, encrypted};
+ghost use Rattle.picky_ppk.specs.Changed.{of_openssh};
+ghost use Rattle.picky_ppk.specs.KeyOf.{base_key_of};
+
+use crate::ppk::Ppk;
+use crate::wrappers::{PuttyBasePrivateKey, PuttyBasePublicKey, PuttyPrivateKey};
+
+/// What is written of a file that is sealed, or carries its own MAC, is read back, whatever follows it, where the comment
+/// has no LF, and in version 3 no CR at its end.
+pub fn file_is_read_back()
+    ensures { (m : Meanings) (f : File) (text more : List ℕ) → IsFile f
+        → IsLine (end_of (version_of f.sealing)) f.comment → (is_sealed f.sealing ≡ true) ⊎ CarriesMac m f
+        → written f ≡ Ok text → ppk_meaning m (text ++ more) ≡ Ok f }
+{}
+
+/// A file that is sealed and opened under the same passphrase is the same, where it carries its own MAC and its private
+/// bytes are its counted strings.
+pub fn sealed_file_is_opened()
+    ensures { (m : Meanings) (pass salt padding : List ℕ) (config : Config) (f sealed : File) → CarriesMac m f
+        → counted f.algorithm f.private_bytes ≡ Ok (length f.private_bytes) → length padding ≡ padding_len f
+        → encrypted m pass config salt padding f ≡ Ok sealed → decrypted m pass sealed ≡ Ok f }
+{}
+
+/// A key of OpenSSH's that is put into a file comes back whole, secrets with leading zeros and of all zeros too.
+pub fn openssh_key_comes_back()
+    ensures { (m : Meanings) (key : OpenSshKey) (f : File) → IsPrivateKey key.base_key → of_openssh m key ≡ Ok f
+        → (base_key_of f ≡ Ok key.base_key) × (f.comment ≡ key.comment) }
+{}
+
+/// A file that isn't sealed has a key exactly where its parts stand for it.
+pub fn key_is_where_it_stands()
+    ensures says { (f : File) (key : Key) → base_key_of f ≡ Ok key
+        → (is_sealed f.sealing ≡ false) × StandsForKey f.algorithm f.public_key f.private_bytes key }
+    ensures means { (f : File) (key : Key) → is_sealed f.sealing ≡ false
+        → StandsForKey f.algorithm f.public_key f.private_bytes key → base_key_of f ≡ Ok key }
+{}
+
+/// What a MAC covers is no front of what the MAC of another file covers, but where the algorithm, whether it is sealed, the
+/// comment, the blob and the private bytes are the same.
+pub fn mac_binds_its_fields()
+    ensures { (f g : File) (a b x y : List ℕ) → IsFile f → IsFile g → length a < 2 ^ 32 → length b < 2 ^ 32
+        → covered f a ++ x ≡ covered g b ++ y
+        → (f.algorithm ≡ g.algorithm) × (is_sealed f.sealing ≡ is_sealed g.sealing) × (f.comment ≡ g.comment)
+        × (f.public_key ≡ g.public_key) × (a ≡ b) }
+{}
+
+/// Two files are equal exactly where their fields are, and so are keys without a file.
+pub fn equality_is_of_contents()
+    ensures ppk { IsEquality ⟦<Ppk as PartialEq>⟧.eq }
+    ensures public { IsEquality ⟦<PuttyBasePublicKey as PartialEq>⟧.eq }
+    ensures base { IsEquality ⟦<PuttyBasePrivateKey as PartialEq>⟧.eq }
+    ensures private { IsEquality ⟦<PuttyPrivateKey as PartialEq>⟧.eq }
+{}

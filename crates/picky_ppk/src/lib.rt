@@ -1,0 +1,24 @@
+//! PuTTY's files (PuTTY's manual, Appendix C): private keys of versions 2 and 3, sealed under a passphrase or not, and the
+//! public keys that PuTTYgen saves.
+#![tactic(auto)]
+
+pub mod aes;
+mod changing;
+mod draft;
+mod drawing;
+mod keys;
+pub mod laws;
+mod opening;
+mod openssh;
+mod ppk;
+mod sealing;
+mod wrappers;
+
+pub use picky_ppk_file::{PpkFile, PpkSealing};
+pub use picky_ppk_parts::{
+    Argon2Flavour, Argon2Params, KeyMaterialV2, KeyMaterialV3, MAC_SIZE_V3, PpkEncryptionConfig,
+    PpkEncryptionConfigBuilder, PpkKeyAlgorithm, PpkVersion, PuttyError, flavour_of,
+};
+pub use picky_putty_public::PuttyPublicKey;
+pub use ppk::Ppk;
+pub use wrappers::{PuttyBasePrivateKey, PuttyBasePublicKey, PuttyPrivateKey};

@@ -1,0 +1,211 @@
+//! From OpenSSH's private keys and back.
+
+ghost use Rattle.std.specs.Prelude.{◌≡◌, Ok, IfOk};
+ghost use Rattle.std.specs.Option.{option_copied};
+ghost use Rattle.picky_layout.specs.Outcome.{and_then, map_err};
+ghost use Rattle.picky_wire.specs.Gives.{Gives};
+ghost use Rattle.picky_sshkey.specs.Made.{key_made};
+ghost use Rattle.picky_ppk_parts.specs.PartsRefusal.{key_in_blob as key_in_blob_of};
+ghost use Rattle.picky_putty_public.specs.PuttyRefusal.{plain_key as plain_key_of};
+ghost use Rattle.picky_ppk.specs.Mac.{CarriesMac};
+ghost use Rattle.picky_ppk.specs.Changed.{of_openssh, file_of_parts as file_of_parts_of};
+ghost use Rattle.picky_ppk.specs.KeyOf.{base_key_of, to_openssh, private_key_of, public_key_of, made_error};
+ghost use Rattle.picky_ppk.specs.KeyOf.{plain_private as plain_private_of};
+
+use crate::changing::remade;
+use crate::ppk::Ppk;
+use picky_keys::{PrivateKey, PublicKey};
+use picky_ppk_file::{PpkFile, PpkSealing};
+use picky_ppk_parts::{
+    KeyParts, PpkVersion, PuttyError, key_in_blob, no_hardware_keys, private_key_of as key_of_parts,
+};
+use picky_putty_public::{PuttyPublicKey, plain_key};
+use picky_sshkey::{SshBasePrivateKey, SshPrivateKey, SshPrivateKeyError};
+use picky_suite::Suite;
+use picky_wire::{Bytes, NoMemory, Text, TryClone};
+use std::alloc::Global;
+
+impl Ppk {
+    /// An OpenSSH key as a file of version 3 that isn't sealed, with its comment. What its envelope says is not kept.
+    ///
+    /// Refuses, in order: `NotSupported` (`SK keys`) for a key whose secret a device keeps; `TooLong`, where the blob or
+    /// the private bytes have 2^32 bytes or more.
+    #[tactic(auto, unfolding(crate::specs::Changed::of_openssh))]
+    pub fn from_openssh_private_key<S: Suite>(
+        alloc: Global,
+        suite: &S,
+        key: &SshPrivateKey,
+    ) -> Result<Ppk, PuttyError>
+        ensures gives { Gives PuttyError.NoMemory (λ ppk. ppk) result (of_openssh (S.meanings suite.now) key.now) }
+        ensures mac { IfOk result (λ ppk. CarriesMac (S.meanings suite.now) ppk) }
+    {
+        match KeyParts::of_key(alloc, &key.base_key) {
+            Ok(parts) => match key.comment.try_clone(alloc) {
+                Ok(comment) => file_of_parts(alloc, suite, comment, parts),
+                Err(NoMemory) => Err(PuttyError::NoMemory),
+            },
+            Err(e) => Err(e),
+        }
+    }
+
+    /// The key as OpenSSH's, with the file's comment. With a passphrase its envelope is sealed under it and the salt.
+    ///
+    /// Refuses, in order: `Encrypted`; what the key in the file is refused for, as `private_key`; `TooLong`, where the
+    /// passphrase has 2^32 bytes or more.
+    #[tactic(auto, unfolding(crate::specs::KeyOf::to_openssh))]
+    pub fn to_openssh_private_key(
+        &self,
+        alloc: Global,
+        passphrase: Option<&str>,
+        salt: &[u8; 16],
+    ) -> Result<SshPrivateKey, PuttyError>
+        ensures { Gives PuttyError.NoMemory (λ key. key) result (to_openssh (option_copied passphrase.entry) salt.now self.now) }
+    {
+        match base_key(alloc, self) {
+            Ok(base) => made_private(alloc, base, passphrase, self.comment(), salt),
+            Err(e) => Err(e),
+        }
+    }
+
+    /// The private key in the file. Refuses, in order: `Encrypted`; `SshPublicKey` with what is wrong with the blob;
+    /// `NotSupported` (`unsupported key algorithm`) for DSS and Ed448; `PublicAndPrivateKeyMismatch`;
+    /// `IoError(UnexpectedEnd)`; `InvalidPrivateKeyData`; `TooLong`.
+    #[tactic(auto, unfolding(crate::specs::KeyOf::private_key_of))]
+    pub fn private_key(&self, alloc: Global) -> Result<PrivateKey, PuttyError>
+        ensures { Gives PuttyError.NoMemory (λ key. key) result (private_key_of self.now) }
+    {
+        match base_key(alloc, self) {
+            Ok(base) => plain_private(alloc, base),
+            Err(e) => Err(e),
+        }
+    }
+
+    /// The public key in the file's blob, sealed or not. Refuses, in order: `SshPublicKey` with what is wrong with the
+    /// blob; `NotSupported` (`SK keys`) for a key whose secret a device keeps.
+    #[tactic(auto, unfolding(crate::specs::KeyOf::public_key_of))]
+    pub fn public_key(&self, alloc: Global) -> Result<PublicKey, PuttyError>
+        ensures { Gives PuttyError.NoMemory (λ key. key) result (public_key_of self.now) }
+    {
+        plain_in_blob(alloc, &self.file().public_key)
+    }
+
+    /// The blob, which isn't read, and the comment, as PuTTY's public key.
+    pub fn extract_putty_public_key(&self, alloc: Global) -> Result<PuttyPublicKey, PuttyError>
+        ensures { Gives PuttyError.NoMemory (λ key. key) result
+            (Ok (record { blob = self.now.public_key; comment = self.now.comment })) }
+    {
+        match self.file().public_key.try_clone(alloc) {
+            Ok(blob) => match self.file().comment.try_clone(alloc) {
+                Ok(comment) => Ok(PuttyPublicKey::of_parts(blob, comment)),
+                Err(NoMemory) => Err(PuttyError::NoMemory),
+            },
+            Err(NoMemory) => Err(PuttyError::NoMemory),
+        }
+    }
+}
+
+/// A file of version 3 that isn't sealed, of a key's parts and a comment.
+fn file_of_parts<S: Suite>(
+    alloc: Global,
+    suite: &S,
+    comment: Text,
+    parts: KeyParts,
+) -> Result<Ppk, PuttyError>
+    ensures gives { Gives PuttyError.NoMemory (λ ppk. ppk) result
+        (Ok (file_of_parts_of (S.meanings suite.now) comment parts)) }
+    ensures mac { IfOk result (λ ppk. CarriesMac (S.meanings suite.now) ppk) }
+{
+    let KeyParts {
+        algorithm,
+        blob,
+        private_bytes,
+    } = parts;
+    let file = PpkFile {
+        sealing: PpkSealing::Unsealed(PpkVersion::V3),
+        algorithm,
+        comment,
+        public_key: blob,
+        private_bytes,
+        mac: Bytes::from_vec(Vec::new(alloc)),
+    };
+    remade(alloc, suite, file)
+}
+
+/// The private key in the file's blob and private bytes. Refuses, in order: `Encrypted`; what its parts are refused for.
+#[tactic(auto, unfolding(crate::specs::KeyOf::base_key_of))]
+fn base_key(alloc: Global, ppk: &Ppk) -> Result<SshBasePrivateKey, PuttyError>
+    ensures { Gives PuttyError.NoMemory (λ key. key) result (base_key_of ppk.now) }
+{
+    if ppk.is_encrypted() {
+        return Err(PuttyError::Encrypted);
+    }
+    let file = ppk.file();
+    key_of_parts(alloc, file.algorithm, &file.public_key, &file.private_bytes)
+}
+
+/// The public key in a blob. Refuses, in order: `SshPublicKey` with what is wrong with the blob; `NotSupported`
+/// (`SK keys`) for a key whose secret a device keeps.
+pub fn plain_in_blob(alloc: Global, blob: &Bytes) -> Result<PublicKey, PuttyError>
+    ensures { Gives PuttyError.NoMemory (λ key. key) result (and_then (key_in_blob_of blob.now) plain_key_of) }
+{
+    match key_in_blob(alloc, blob) {
+        Ok(key) => plain_key(alloc, key),
+        Err(e) => Err(e),
+    }
+}
+
+/// The key without what is OpenSSH's alone. Refuses, in order: `NotSupported` (`SK keys`) for a key whose secret a device
+/// keeps.
+pub fn plain_private(alloc: Global, key: SshBasePrivateKey) -> Result<PrivateKey, PuttyError>
+    ensures { Gives PuttyError.NoMemory (λ key. key) result (plain_private_of key) }
+{
+    match key {
+        SshBasePrivateKey::Rsa {
+            n,
+            e,
+            d,
+            iqmp,
+            p,
+            q,
+        } => Ok(PrivateKey::Rsa {
+            n,
+            e,
+            d,
+            iqmp,
+            p,
+            q,
+        }),
+        SshBasePrivateKey::Ec {
+            curve,
+            point,
+            secret,
+        } => Ok(PrivateKey::Ec {
+            curve,
+            point,
+            secret,
+        }),
+        SshBasePrivateKey::Ed { secret, public } => Ok(PrivateKey::Ed { secret, public }),
+        SshBasePrivateKey::SkEcdsaSha2NistP256 { .. } | SshBasePrivateKey::SkEd25519 { .. } => {
+            Err(no_hardware_keys(alloc))
+        }
+    }
+}
+
+/// The key with this comment, as OpenSSH's. Refuses, in order: `TooLong`, where the passphrase or the comment has 2^32
+/// bytes or more.
+pub fn made_private(
+    alloc: Global,
+    base: SshBasePrivateKey,
+    passphrase: Option<&str>,
+    comment: &str,
+    salt: &[u8; 16],
+) -> Result<SshPrivateKey, PuttyError>
+    ensures { Gives PuttyError.NoMemory (λ key. key) result
+        (map_err made_error (key_made base (option_copied passphrase.entry) comment.now salt.now)) }
+{
+    match SshPrivateKey::from_base(alloc, base, passphrase, comment, salt) {
+        Ok(key) => Ok(key),
+        Err(SshPrivateKeyError::NoMemory) => Err(PuttyError::NoMemory),
+        Err(_) => Err(PuttyError::TooLong),
+    }
+}
