@@ -1,0 +1,51 @@
+"""What the benches of the libraries share: strings of the wire, a program over a copy of the crates, and its runs."""
+import os
+import shutil
+import subprocess
+from pathlib import Path
+
+ROOT = Path(__file__).resolve().parents[1]
+
+
+def string(content):
+    """A string of RFC 4251, section 5."""
+    return len(content).to_bytes(4, "big") + content
+
+
+def number(magnitude):
+    """An mpint of RFC 4251, section 5, whose first byte isn't zero."""
+    return string(b"\0" + magnitude if magnitude[0] > 127 else magnitude)
+
+
+def build(folder, source, uses, key):
+    """The program of this source, built over a copy of the crates that it uses and tried on a key."""
+    lines = dict(line.split(":") for line in (ROOT / "crates.txt").read_text().splitlines()
+                 if not line.startswith("#"))
+    crates, copied, to_copy = folder / "crates", "", list(uses)
+    while to_copy:
+        name = to_copy.pop()
+        if name in lines and not (crates / name).exists():
+            shutil.copytree(ROOT / "crates" / name, crates / name, ignore=shutil.ignore_patterns("out", "must-fail"))
+            copied += f"{name}:{lines[name]}\n"
+            to_copy += lines[name].split()
+    (folder / "crates.txt").write_text(f"{copied}bench_program: {' '.join(uses)}\n")
+    program = crates / "bench_program"
+    (program / "src").mkdir(parents=True)
+    (program / "src/main.rt").write_text(source)
+    with key.open() as text:
+        built = subprocess.run(["rt", "run"], cwd=program, stdin=text, capture_output=True, text=True)
+    if built.returncode != 0:
+        raise SystemExit(built.stdout + built.stderr)
+    return program / "out/bench_program"
+
+
+def timed(program, text, words):
+    """The numbers of the lines that the program prints on a text with so many arguments, its peak memory in KiB, and
+    the processor time of the whole process in seconds."""
+    with text.open() as source:
+        child = subprocess.Popen([program, *["again"] * words], stdin=source, stdout=subprocess.PIPE, text=True)
+        printed, status = child.stdout.read().split("Name:", 1)
+        child.stdout.close()
+        _, child.returncode, usage = os.wait4(child.pid, 0)
+    peak = next(line for line in status.splitlines() if line.startswith("VmHWM:"))
+    return [int(word) for word in printed.split()], int(peak.split()[1]), usage.ru_utime + usage.ru_stime
