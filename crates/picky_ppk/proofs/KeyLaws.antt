@@ -16,6 +16,8 @@ use Rattle.picky_ppk_file.specs.declared.file.PpkFile.{PpkFile}
 use Rattle.picky_ppk_file.specs.File.{is_sealed}
 use Rattle.picky_ppk.specs.Changed.{open_file, file_of_parts, of_openssh}
 use Rattle.picky_ppk.specs.KeyOf.{base_key_of}
+use Rattle.picky_ppk.specs.Wrappers.{base_of_openssh, base_of_parts, base_to_openssh}
+use Rattle.picky_ppk.specs.declared.wrappers.PuttyBasePrivateKey.{PuttyBasePrivateKey}
 
 abbrev key_of_fields : PpkFile → SshBasePrivateKey → Type 0
 key_of_fields f key = parts_key f.algorithm f.public_key f.private_bytes ≡ Ok key
@@ -48,3 +50,15 @@ key_comes_back m key f is made =
     let both = and_then_ok (key_parts key.base_key) (λ parts. Ok (file_of_parts m key.comment parts)) f made in
     let same : file_of_parts m key.comment both.0 ≡ f = cc (both.2) in
     subst (gives_back key) same (parts_read_back key.base_key both.0 is both.1, refl)
+
+abbrev stands_for : SshBasePrivateKey → PuttyBasePrivateKey → Type 0
+stands_for key base = base_to_openssh base ≡ Ok key
+
+-- And a key whose parts are taken.
+pub base_comes_back : (key : SshBasePrivateKey) (base : PuttyBasePrivateKey) → IsPrivateKey key → base_of_openssh key ≡ Ok base
+    → base_to_openssh base ≡ Ok key
+unfolding base_of_openssh
+base_comes_back key base is made =
+    let both = and_then_ok (key_parts key) (λ parts. Ok (base_of_parts parts)) base made in
+    let same : base_of_parts both.0 ≡ base = cc (both.2) in
+    subst (stands_for key) same (parts_read_back key both.0 is both.1)

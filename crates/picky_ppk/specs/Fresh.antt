@@ -1,5 +1,5 @@
 -- A file sealed with what a generator gives: first a salt, in version 3, and then the padding.
-use Rattle.std.specs.Prelude.{List, [], ◌++◌, ℕ, zero, suc, ◌+◌, ◌^◌, nat_lt, ◌&&◌, Bool, true, not, length}
+use Rattle.std.specs.Prelude.{◌≡◌, ◌⊎◌, List, [], ◌++◌, ℕ, zero, suc, ◌+◌, ◌^◌, nat_lt, ◌&&◌, Bool, true, not, length}
 use Rattle.std.specs.Prelude.{Result, Ok, Err, if◌then◌else◌}
 use Rattle.rand_core.specs.Stream.{Stream, fill_bytes}
 use Rattle.picky_kv_words.specs.declared.choices.PpkVersionKey.{PpkVersionKey}
@@ -36,6 +36,11 @@ fresh_for config f stream =
     let salt = drawn (salt_len (version_of f.sealing) config) stream in
     let padding = drawn (padding_len f) salt.1 in
     record { salt = salt.0; padding = padding.0; left = padding.1 }
+
+-- what a generator may have left: nothing was drawn, or the salt, or all
+abbrev pub IsDrawnFrom : PpkEncryptionConfig → PpkFile → (old new : Stream) → Type 0
+IsDrawnFrom config f old new =
+    (new ≡ old) ⊎ (new ≡ (drawn (salt_len (version_of f.sealing) config) old).1) ⊎ (new ≡ (fresh_for config f old).left)
 
 -- ---- what is judged before the generator is asked
 

@@ -1,9 +1,9 @@
 //! Bytes drawn from a generator.
 
-ghost use Rattle.std.specs.Prelude.{◌≡◌, vec_len, IfOk};
+ghost use Rattle.std.specs.Prelude.{◌≡◌, vec_len, IfOk, OnErr};
 ghost use Rattle.picky_ppk_file.specs.File.{version_of};
 ghost use Rattle.picky_ppk.specs.Sealed.{padding_len};
-ghost use Rattle.picky_ppk.specs.Fresh.{drawn as drawn_of, fresh_for, salt_len as salt_len_of};
+ghost use Rattle.picky_ppk.specs.Fresh.{drawn as drawn_of, fresh_for, IsDrawnFrom, salt_len as salt_len_of};
 
 use crate::ppk::Ppk;
 use picky_ppk_parts::{PpkEncryptionConfig, PpkVersion};
@@ -29,6 +29,7 @@ pub fn fresh<R: Rng>(
         ≡ record { salt = fresh.salt.items; padding = fresh.padding.items; left = R.stream rng.new }) }
     ensures salt { IfOk result (λ fresh. vec_len fresh.salt ≡ salt_len_of (version_of ppk.now.sealing) config) }
     ensures padding { IfOk result (λ fresh. vec_len fresh.padding ≡ padding_len ppk.now) }
+    ensures in_part { OnErr result (IsDrawnFrom config ppk.now (R.stream rng.old) (R.stream rng.new)) }
 {
     let salt = drawn(alloc, rng, salt_len(ppk.version(), config))?;
     let padding = drawn(alloc, rng, ppk.padding_len())?;
@@ -50,6 +51,7 @@ fn salt_len(version: PpkVersion, config: PpkEncryptionConfig) -> usize
 fn drawn<R: Rng>(alloc: Global, rng: &mut R, len: usize) -> Result<Vec<u8>, NoMemory>
     ensures bytes { IfOk result (λ bytes. drawn_of len (R.stream rng.old) ≡ (bytes.items, R.stream rng.new)) }
     ensures len { IfOk result (λ bytes. vec_len bytes ≡ len) }
+    ensures undrawn { OnErr result (rng.new ≡ rng.old) }
 {
     if len == 0 {
         return Ok(Vec::new(alloc));

@@ -19,6 +19,8 @@ ghost use Rattle.picky_ppk.specs.Opened.{decrypted};
 ghost use Rattle.picky_ppk.specs.Sealed.{padding_len, encrypted};
 ghost use Rattle.picky_ppk.specs.Changed.{of_openssh};
 ghost use Rattle.picky_ppk.specs.KeyOf.{base_key_of};
+ghost use Rattle.picky_ppk.specs.Wrappers.{base_of_openssh, base_to_openssh};
+ghost use Rattle.picky_ppk.specs.declared.wrappers.PuttyBasePrivateKey.{PuttyBasePrivateKey as Base};
 
 use crate::ppk::Ppk;
 use crate::wrappers::{PuttyBasePrivateKey, PuttyBasePublicKey, PuttyPrivateKey};
@@ -39,10 +41,13 @@ pub fn sealed_file_is_opened()
         → encrypted m pass config salt padding f ≡ Ok sealed → decrypted m pass sealed ≡ Ok f }
 {}
 
-/// A key of OpenSSH's that is put into a file comes back whole, secrets with leading zeros and of all zeros too.
+/// A key of OpenSSH's that is put into a file, or into a key without one, comes back whole, secrets with leading zeros and
+/// of all zeros too.
 pub fn openssh_key_comes_back()
-    ensures { (m : Meanings) (key : OpenSshKey) (f : File) → IsPrivateKey key.base_key → of_openssh m key ≡ Ok f
+    ensures file { (m : Meanings) (key : OpenSshKey) (f : File) → IsPrivateKey key.base_key → of_openssh m key ≡ Ok f
         → (base_key_of f ≡ Ok key.base_key) × (f.comment ≡ key.comment) }
+    ensures base { (key : Key) (base : Base) → IsPrivateKey key → base_of_openssh key ≡ Ok base
+        → base_to_openssh base ≡ Ok key }
 {}
 
 /// A file that isn't sealed has a key exactly where its parts stand for it.

@@ -9,7 +9,7 @@ ghost use Rattle.picky_ppk_file.specs.File.{version_of};
 ghost use Rattle.picky_ppk.specs.Keyed.{can_derive, keys_under};
 ghost use Rattle.picky_ppk.specs.Mac.{mac_under};
 ghost use Rattle.picky_ppk.specs.Sealed.{padding_len, encrypted, is_sealable, not_sealable, draft_of, seal_draft};
-ghost use Rattle.picky_ppk.specs.Fresh.{fresh_for, can_draw, not_drawn, encrypted_fresh, asks_fresh};
+ghost use Rattle.picky_ppk.specs.Fresh.{IsDrawnFrom, fresh_for, can_draw, not_drawn, encrypted_fresh, asks_fresh};
 ghost use Rattle.picky_ppk.specs.Fresh.{can_derive_by as can_derive_by_of};
 ghost use Rattle.picky_ppk.specs.inner.Keys.{keys_seen};
 
@@ -81,7 +81,8 @@ impl Ppk {
         ensures suite { LeavesSuite S.meanings S.faults PuttyError.SuiteFault
             (asks_fresh passphrase.now config self.now (R.stream rng.old)) result suite.old suite.new }
 
-        // All is drawn, unless memory runs out, or nothing is.
+        // Nothing is drawn, or all is; or, where memory runs out, the salt alone may be.
+        ensures in_part { IsDrawnFrom config self.now (R.stream rng.old) (R.stream rng.new) }
         ensures drawn { can_draw passphrase.now config self.now ≡ true → result ≢ Err PuttyError.NoMemory
             → R.stream rng.new ≡ (fresh_for config self.now (R.stream rng.old)).left }
         ensures undrawn { can_draw passphrase.now config self.now ≡ false → rng.new ≡ rng.old }

@@ -1,6 +1,9 @@
--- The law of a key that is put into a file.
-use Rattle.picky_ppk.proofs.KeyLaws.{key_comes_back}
+-- The laws of a key that is put into a file, and of one without.
+use Rattle.picky_ppk.proofs.KeyLaws.{key_comes_back, base_comes_back}
 use Rattle.picky_ppk.proofs.laws.openssh_key_comes_back.Goals as goal
 
-pub returns : goal.returns
-returns c = key_comes_back
+pub returns-clause-file : goal.returns-clause-file
+returns-clause-file c = key_comes_back
+
+pub returns-clause-base : goal.returns-clause-base
+returns-clause-base c = base_comes_back
