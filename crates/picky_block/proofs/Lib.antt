@@ -2,3 +2,4 @@ pub mod GroupLemmas
 pub mod FrontLemmas
 pub mod StateLemmas
 pub mod LineLemmas
+pub mod LineBytes

@@ -1,3 +1,4 @@
 pub mod Block
 pub mod BlockRefusal
+pub mod Joined
 pub mod inner

@@ -3,8 +3,10 @@
 
 mod block;
 mod error;
+mod joined;
 pub mod laws;
 mod tail;
 
 pub use block::BlockDecoder;
 pub use error::BlockError;
+pub use joined::JoinedLines;

@@ -1,5 +1,5 @@
 -- What is written is read back: the steps.
-use Rattle.std.proofs.Common.{◌≡◌, ◌≢◌, ℕ, zero, suc, ◌+◌, ◌-◌, ◌^◌, ◌<◌, ◌==◌, ◌||◌}
+use Rattle.std.proofs.Common.{◌≡◌, ◌≢◌, ℕ, ◌+◌, ◌-◌, ◌^◌, ◌<◌, ◌==◌, ◌||◌}
 use Rattle.std.proofs.Common.{not}
 use Rattle.std.proofs.Common.{true, false, List, [], ◌∷◌, ◌++◌, length, slice_index, refl, sym, ◌∙◌}
 use Rattle.std.proofs.Common.{arith, Some, Ok}
@@ -12,7 +12,7 @@ use Rattle.std.specs.Str.Parse.{AllDigits}
 use Rattle.std.specs.List.{AllByRecursion, concat}
 use Rattle.picky_text.specs.Lines.{HasNo, lines}
 use Rattle.picky_text.specs.Lines.{IsLine, AreLines}
-use Rattle.picky_text.proofs.LineLaws.{lines_are_read_first}
+use Rattle.picky_text.proofs.LineLaws.{lines_are_read_first, one_line}
 use Rattle.picky_text.proofs.ListLaws.{all_append}
 use Rattle.picky_text.specs.Rows.{rows_of}
 use Rattle.picky_text.proofs.RowLaws.{rows_of_are_rows, rows_have_no}
@@ -70,20 +70,6 @@ first_joined_lines (line ∷ ls) more = rw (first_joined_lines ls more) refl
 
 -- ---- lines that are written are lines
 
--- a byte that stands nowhere stands at no place
-nowhere : (b : ℕ) (text : List ℕ) → 0 ≢ b → HasNo b text → (i : ℕ) → slice_index text i ≢ b
-nowhere b [] other none i = other
-nowhere b (c ∷ text) other none zero = none.0
-nowhere b (c ∷ text) other none (suc i) = nowhere b text other none.1 i
-
-zero_is_no_cr : ◌≢◌ {A = ℕ} 0 13
-zero_is_no_cr same = cc same
-
--- a text without CR and LF is a line
-plain_line : (end : LineEnd) (text : List ℕ) → HasNo 10 text → HasNo 13 text → IsLine end text
-plain_line Lf text lf cr = (lf, nowhere 13 text zero_is_no_cr cr (length text - 1))
-plain_line CrLf text lf cr = lf
-
 -- the last byte of joined texts is the last one's
 last_of_joined : (front text : List ℕ) → 0 < length text
     → slice_index (front ++ text) (length (front ++ text) - 1) ≡ slice_index text (length text - 1)
@@ -127,14 +113,16 @@ digits_have_no b (c ∷ cs) low all =
 decimal_is_line : (end : LineEnd) (n : ℕ) → n < 2 ^ 64 → IsLine end (decimal n)
 decimal_is_line end n small =
     let digits = (decimal_is_IsNumeral n small).0.1 in
-    plain_line end (decimal n) (digits_have_no 10 (decimal n) (omega arith) digits)
-    (digits_have_no 13 (decimal n) (omega arith) digits)
+    one_line end (decimal n) (
+      digits_have_no 13 (decimal n) (omega arith) digits,
+      digits_have_no 10 (decimal n) (omega arith) digits,
+    )
 
 lines_of_rows : (end : LineEnd) (rows : List (List ℕ)) → AllByRecursion (HasNo 10) rows
     → AllByRecursion (HasNo 13) rows → AreLines end rows
 lines_of_rows end [] lf cr = tt
 lines_of_rows end (row ∷ rows) lf cr =
-    (plain_line end row lf.0 cr.0, lines_of_rows end rows lf.1 cr.1)
+    (one_line end row (cr.0, lf.0), lines_of_rows end rows lf.1 cr.1)
 
 -- ---- read back
 

@@ -19,4 +19,3 @@ pub mod ReadBack
 pub mod AlgorithmField
 pub mod NumberFields
 pub mod carried
-pub mod inner

@@ -1,5 +1,4 @@
 pub mod LineSteps
-pub mod LineBytes
 pub mod FrontLaws
 pub mod FileLaws
 pub mod RangeLaws

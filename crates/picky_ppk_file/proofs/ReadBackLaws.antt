@@ -43,7 +43,7 @@ use Rattle.picky_ppk_file.specs.Written.{file_text}
 use Rattle.picky_ppk_file.specs.Written.{fits_block, written}
 use Rattle.picky_ppk_file.proofs.LineSteps.{then_ok}
 use Rattle.picky_ppk_file.proofs.FileLaws.{read_is_meant}
-use Rattle.picky_ppk_file.proofs.TextLemmas.{one_line}
+use Rattle.picky_text.proofs.LineLaws.{one_line}
 use Rattle.picky_ppk_file.proofs.BackLemmas.{lines_at, pair_back, value_back, bytes_back}
 
 -- ---- a derivation by Argon2

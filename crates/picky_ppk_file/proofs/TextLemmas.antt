@@ -1,5 +1,5 @@
 -- Lines behind lines, and how many lines a block has.
-use Rattle.std.proofs.Common.{◌≡◌, ◌≢◌, ◌+◌, ◌*◌, ◌/◌, ◌-◌, ◌≤◌, ℕ, zero, suc, List, [], ◌∷◌, ◌++◌, length, slice_index}
+use Rattle.std.proofs.Common.{◌≡◌, ◌+◌, ◌*◌, ◌/◌, ◌≤◌, ℕ, zero, suc, List, [], ◌∷◌, ◌++◌, length}
 use Rattle.std.proofs.Common.{true}
 use Rattle.std.proofs.Common.{refl, ap, ◌∙◌, arith}
 use Rattle.std.proofs.lemmas.Bool.Decides.{nat_tests}
@@ -8,10 +8,9 @@ use Rattle.std.proofs.lemmas.Grind.{flat_map-append}
 use Rattle.std.specs.Int.{div_ceil}
 use Rattle.picky_text.specs.Base64.{base64_of}
 use Rattle.picky_text.proofs.Base64Laws.{length_base64}
-use Rattle.picky_text.specs.Lines.{HasNo, IsLine, text_of, end_bytes}
+use Rattle.picky_text.specs.Lines.{text_of, end_bytes}
 use Rattle.picky_text.specs.Rows.{rows_of}
 use Rattle.picky_text.specs.declared.lines.LineEnd.{LineEnd}
-use Rattle.picky_text.specs.declared.lines.LineEnd.TheVariants.{Lf, CrLf}
 use Rattle.picky_kv.proofs.WriteLemmas.{length-rows_of}
 use Rattle.picky_ppk_file.specs.Written.{fits_block}
 
@@ -30,17 +29,6 @@ text_of-then end a b more =
 pub text_of-nil : (end : LineEnd) → text_of end [] ≡ []
 unfolding text_of
 text_of-nil end = refl
-
--- a byte that stands nowhere stands at no place
-nowhere : (b : ℕ) (text : List ℕ) → 0 ≢ b → HasNo b text → (i : ℕ) → slice_index text i ≢ b
-nowhere b [] other none i = other
-nowhere b (c ∷ text) other none zero = none.0
-nowhere b (c ∷ text) other none (suc i) = nowhere b text other none.1 i
-
--- A text without CR and LF is a line.
-pub one_line : (end : LineEnd) (text : List ℕ) → HasNo 13 text × HasNo 10 text → IsLine end text
-one_line Lf text none = (none.1, nowhere 13 text (λ same. cc same) none.0 (length text - 1))
-one_line CrLf text none = none.1
 
 rows_by_number : (bytes base64 rows : ℕ) → bytes ≤ 3145680 → base64 ≡ 4 * ((bytes + 2) / 3) → rows ≡ div_ceil base64 64
     → rows ≤ 65535

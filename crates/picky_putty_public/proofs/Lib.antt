@@ -6,7 +6,6 @@ pub mod LawLemmas
 pub mod BodyLaws
 pub mod CommentLaws
 pub mod KeyLaws
-pub mod LineBytes
 pub mod MeaningLaws
 pub mod PuttyLaws
 pub mod QuoteMarks

@@ -21,7 +21,7 @@ use Rattle.picky_putty_public.specs.PuttyRefusal.{quoted, body_from, of_parts, a
 use Rattle.picky_putty_public.specs.PuttyRefusal.{putty_meaning}
 use Rattle.picky_putty_public.proofs.CommentLaws.{quoted_of, quoted_says}
 use Rattle.picky_putty_public.proofs.BodyLaws.{same_line, line_is, body_of, body_says}
-use Rattle.picky_putty_public.proofs.LineBytes.{AreBytes, lines_are_bytes, joined_is_bytes}
+use Rattle.picky_block.proofs.LineBytes.{AreBytes, lines_are_bytes, joined_is_bytes}
 use Rattle.picky_putty_public.proofs.PuttyLaws.{putty_public_says}
 
 -- ---- a text means what it says

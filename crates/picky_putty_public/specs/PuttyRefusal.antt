@@ -49,12 +49,15 @@ body_from so_far [] = None
 body_from so_far (line ∷ more) =
     if bytes_eq line footer then Some so_far else body_from (so_far ++ line) more
 
--- the key of a body and of what is quoted
-abbrev pub of_parts : List ℕ → List ℕ → Result PuttyPublicKey PuttyError
-of_parts between body =
-    and_then (ok_or (decoded body) errors.InvalidPublicKeyData) (λ blob.
+-- the key of what is quoted and of a blob
+abbrev pub of_blob : List ℕ → List ℕ → Result PuttyPublicKey PuttyError
+of_blob between blob =
     if is_short blob && is_short (unquote between)
-    then Ok (record { blob = blob; comment = unquote between }) else Err errors.TooLong)
+    then Ok (record { blob = blob; comment = unquote between }) else Err errors.TooLong
+
+-- the key of what is quoted and of a body
+abbrev pub of_parts : List ℕ → List ℕ → Result PuttyPublicKey PuttyError
+of_parts between body = and_then (ok_or (decoded body) errors.InvalidPublicKeyData) (of_blob between)
 
 -- after the header and the comment line
 abbrev pub after_comment : List ℕ → List (List ℕ) → Result PuttyPublicKey PuttyError

@@ -4,9 +4,11 @@ ghost use Rattle.std.specs.Prelude.{◌≡◌, ◌^◌, ◌<◌, ◌≤◌, ◌+
 ghost use Rattle.picky_layout.specs.Numbers.{IsBytes};
 ghost use Rattle.picky_text.specs.Lines.{HasNo};
 ghost use Rattle.picky_wire.specs.Gives.{Gives};
+ghost use Rattle.picky_block.specs.Joined.{joined_text};
 ghost use Rattle.picky_putty_public.specs.PuttyPublic.{putty_public as text_of};
-ghost use Rattle.picky_putty_public.specs.PuttyRefusal.{quoted as quoted_in, after_header as after_header_of, after_comment as after_comment_of, body_from, of_parts as of_parts_of, putty_meaning, putty_text, is_hardware as is_hardware_of, of_openssh, to_openssh as to_openssh_of, plain_key_of, plain_key as plain_of, commented};
+ghost use Rattle.picky_putty_public.specs.PuttyRefusal.{quoted as quoted_in, after_header as after_header_of, after_comment as after_comment_of, body_from, of_blob as of_blob_of, of_parts as of_parts_of, putty_meaning, putty_text, is_hardware as is_hardware_of, of_openssh, to_openssh as to_openssh_of, plain_key_of, plain_key as plain_of, commented};
 
+use picky_block::JoinedLines;
 use picky_keys::PublicKey;
 use picky_ppk_parts::{PuttyError, blob_of_public, key_in_blob, no_hardware_keys};
 use picky_sshpub::{SshBasePublicKey, SshPublicKey};
@@ -198,46 +200,64 @@ fn after_comment(
     ensures { Gives PuttyError.NoMemory (λ key. key) result (after_comment_of between.now lines.old) }
 {
     match body(alloc, lines) {
-        Ok(Some(body)) => of_parts(alloc, between, body.as_str()),
+        Ok(Some(body)) => of_body(alloc, between, body),
         Ok(None) => Err(PuttyError::EndOfInput),
-        Err(_) => Err(PuttyError::NoMemory),
+        Err(NoMemory) => Err(PuttyError::NoMemory),
     }
 }
 
-/// The lines up to the first footer, joined.
-fn body(alloc: Global, lines: &mut LineReader<'_>) -> Result<Option<String>, AllocError>
+/// The lines up to the first footer, decoded as they come.
+fn body(alloc: Global, lines: &mut LineReader<'_>) -> Result<Option<JoinedLines>, NoMemory>
     ensures none { IfOk result (λ found. IfNone found (body_from [] lines.old ≡ None)) }
-    ensures some { IfOk result (λ found. IfSome found (λ body. body_from [] lines.old ≡ Some (string_bytes body))) }
+    ensures some { IfOk result (λ found. IfSome found (λ body. body_from [] lines.old ≡ Some (joined_text body))) }
 {
-    let mut body = String::new(alloc);
+    let mut body = JoinedLines::new(alloc);
     'lines: while let Some(line) = lines.next_line() {
         if line == FOOTER {
             return Ok(Some(body));
         }
-        body.push_str(line)?;
+        body.push(line)?;
     }
     Ok(None)
 }
 
-/// The key of a body and of what is quoted.
-fn of_parts(alloc: Global, between: &str, body: &str) -> Result<PuttyPublicKey, PuttyError>
+/// The key of what is quoted and of a body.
+fn of_body(alloc: Global, between: &str, body: JoinedLines) -> Result<PuttyPublicKey, PuttyError>
+    ensures { Gives PuttyError.NoMemory (λ key. key) result (of_parts_of between.now (joined_text body)) }
+{
+    match body.finish() {
+        Ok(Ok(blob)) => of_blob(alloc, between, blob.into_vec()),
+        Ok(Err(text)) => of_text(alloc, between, text.as_str()),
+        Err(NoMemory) => Err(PuttyError::NoMemory),
+    }
+}
+
+/// The same of a body that the decoder refused.
+fn of_text(alloc: Global, between: &str, body: &str) -> Result<PuttyPublicKey, PuttyError>
     ensures { Gives PuttyError.NoMemory (λ key. key) result (of_parts_of between.now body.now) }
 {
     match decode(alloc, body.as_bytes()) {
-        Ok(blob) => match unquoted(alloc, between) {
-            Ok(comment) => {
-                if blob.len() >= TOO_MANY || comment.len() >= TOO_MANY {
-                    return Err(PuttyError::TooLong);
-                }
-                Ok(PuttyPublicKey {
-                    blob: Bytes::from_vec(blob),
-                    comment: Text::from_string(comment),
-                })
-            }
-            Err(_) => Err(PuttyError::NoMemory),
-        },
+        Ok(blob) => of_blob(alloc, between, blob),
         Err(Base64Error::NotBase64) => Err(PuttyError::InvalidPublicKeyData),
         Err(Base64Error::NoMemory) => Err(PuttyError::NoMemory),
+    }
+}
+
+/// The key of what is quoted and of a blob.
+fn of_blob(alloc: Global, between: &str, blob: Vec<u8>) -> Result<PuttyPublicKey, PuttyError>
+    ensures { Gives PuttyError.NoMemory (λ key. key) result (of_blob_of between.now blob.items) }
+{
+    match unquoted(alloc, between) {
+        Ok(comment) => {
+            if blob.len() >= TOO_MANY || comment.len() >= TOO_MANY {
+                return Err(PuttyError::TooLong);
+            }
+            Ok(PuttyPublicKey {
+                blob: Bytes::from_vec(blob),
+                comment: Text::from_string(comment),
+            })
+        }
+        Err(_) => Err(PuttyError::NoMemory),
     }
 }
 

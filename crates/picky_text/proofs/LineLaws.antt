@@ -1,5 +1,5 @@
 -- The laws of lines: a text that is written as lines is read as them.
-use Rattle.std.proofs.Common.{◌≡◌, ◌≢◌, ℕ, ◌-◌, ◌==◌, false, List, [], ◌∷◌, ◌++◌, length, slice_index, refl}
+use Rattle.std.proofs.Common.{◌≡◌, ◌≢◌, ℕ, zero, suc, ◌-◌, ◌==◌, false, List, [], ◌∷◌, ◌++◌, length, slice_index, refl}
 use Rattle.std.proofs.Common.{sym, ◌∙◌, ap, arith}
 use Rattle.std.proofs.lemmas.Bool.{eq-eqb, ne_eqb}
 use Rattle.std.proofs.lemmas.List.{append_assoc, append-nil, length_push, get_or_push, take_at}
@@ -74,6 +74,17 @@ pub text_is_its_lines : (end : LineEnd) (ls : List (List ℕ)) → AreLines end 
 text_is_its_lines end ls are =
     ap lines (sym (append-nil (text_of end ls))) ∙ lines_are_read_first end ls are []
     ∙ append-nil ls
+
+-- a byte that stands nowhere stands at no place
+at_no_place : (b : ℕ) (text : List ℕ) → 0 ≢ b → HasNo b text → (i : ℕ) → slice_index text i ≢ b
+at_no_place b [] other none i = other
+at_no_place b (c ∷ text) other none zero = none.0
+at_no_place b (c ∷ text) other none (suc i) = at_no_place b text other none.1 i
+
+-- A text without CR and LF is a line.
+pub one_line : (end : LineEnd) (text : List ℕ) → HasNo 13 text × HasNo 10 text → IsLine end text
+one_line Lf text none = (none.1, at_no_place 13 text (λ same. cc same) none.0 (length text - 1))
+one_line CrLf text none = none.1
 
 -- what `laws` states of lines
 pub ruleset line_laws = (lines_are_read_first, text_is_its_lines)
