@@ -5,6 +5,7 @@ use Rattle.picky_kv_words.specs.declared.choices.PpkVersionKey.{PpkVersionKey}
 use Rattle.picky_kv_words.specs.declared.choices.PpkVersionKey.TheVariants.{V3}
 use Rattle.picky_suite.specs.Meanings.{Meanings}
 use Rattle.picky_sshpub.specs.LineRefusal.{is_short}
+use Rattle.picky_sshkey_blob.specs.declared.key.SshBasePrivateKey.{SshBasePrivateKey}
 use Rattle.picky_sshkey.specs.declared.private_key.SshPrivateKey.{SshPrivateKey}
 use Rattle.picky_ppk_parts.specs.declared.error.PuttyError.{PuttyError}
 use Rattle.picky_ppk_parts.specs.declared.error.PuttyError.TheVariants as errors
@@ -30,10 +31,10 @@ unfoldable pub in_version : Meanings → PpkVersionKey → PpkFile → Result Pp
 in_version m version f =
     and_then (open_file f) (λ f. Ok (with_own_mac m (record f { sealing = Unsealed version })))
 
--- the parts of a key in a file of version 3
-abbrev pub file_of_parts : Meanings → List ℕ → KeyParts → PpkFile
-file_of_parts m comment parts = with_own_mac m (record {
-  sealing = Unsealed V3;
+-- the parts of a key in a file of a version
+abbrev pub file_of_parts : Meanings → PpkVersionKey → List ℕ → KeyParts → PpkFile
+file_of_parts m version comment parts = with_own_mac m (record {
+  sealing = Unsealed version;
   algorithm = parts.algorithm;
   comment = comment;
   public_key = parts.blob;
@@ -41,6 +42,10 @@ file_of_parts m comment parts = with_own_mac m (record {
   mac = [];
 })
 
--- an OpenSSH key as such a file
+-- a key and a comment as such a file
+unfoldable pub of_base_key : Meanings → PpkVersionKey → SshBasePrivateKey → (comment : List ℕ) → Result PpkFile PuttyError
+of_base_key m version key comment = and_then (key_parts key) (λ parts. Ok (file_of_parts m version comment parts))
+
+-- an OpenSSH key as one of version 3
 unfoldable pub of_openssh : Meanings → SshPrivateKey → Result PpkFile PuttyError
-of_openssh m key = and_then (key_parts key.base_key) (λ parts. Ok (file_of_parts m key.comment parts))
+of_openssh m key = of_base_key m V3 key.base_key key.comment

@@ -2,6 +2,7 @@
 
 ghost use Rattle.std.specs.Prelude.{◌≡◌, ◌⊎◌, ◌++◌, ◌<◌, ◌^◌, List, ℕ, true, false, Ok, length};
 ghost use Rattle.picky_text.specs.Lines.{IsLine};
+ghost use Rattle.picky_kv_words.specs.declared.choices.PpkVersionKey.{PpkVersionKey as Version};
 ghost use Rattle.picky_suite.specs.Meanings.{Meanings};
 ghost use Rattle.picky_sshkey.specs.declared.private_key.SshPrivateKey.{SshPrivateKey as OpenSshKey};
 ghost use Rattle.picky_sshkey_blob.specs.declared.key.SshBasePrivateKey.{SshBasePrivateKey as Key};
@@ -17,7 +18,7 @@ ghost use Rattle.picky_ppk.specs.Mac.{CarriesMac, covered};
 ghost use Rattle.picky_ppk.specs.Checked.{ppk_meaning};
 ghost use Rattle.picky_ppk.specs.Opened.{decrypted};
 ghost use Rattle.picky_ppk.specs.Sealed.{padding_len, encrypted};
-ghost use Rattle.picky_ppk.specs.Changed.{of_openssh};
+ghost use Rattle.picky_ppk.specs.Changed.{of_base_key, of_openssh};
 ghost use Rattle.picky_ppk.specs.KeyOf.{base_key_of};
 ghost use Rattle.picky_ppk.specs.Wrappers.{base_of_openssh, base_to_openssh};
 ghost use Rattle.picky_ppk.specs.declared.wrappers.PuttyBasePrivateKey.{PuttyBasePrivateKey as Base};
@@ -41,11 +42,13 @@ pub fn sealed_file_is_opened()
         → encrypted m pass config salt padding f ≡ Ok sealed → decrypted m pass sealed ≡ Ok f }
 {}
 
-/// A key of OpenSSH's that is put into a file, or into a key without one, comes back whole, secrets with leading zeros and
-/// of all zeros too.
+/// A key of OpenSSH's that is put into a file of either version, or into a key without one, comes back whole, secrets with
+/// leading zeros and of all zeros too.
 pub fn openssh_key_comes_back()
     ensures file { (m : Meanings) (key : OpenSshKey) (f : File) → IsPrivateKey key.base_key → of_openssh m key ≡ Ok f
         → (base_key_of f ≡ Ok key.base_key) × (f.comment ≡ key.comment) }
+    ensures versions { (m : Meanings) (version : Version) (key : Key) (comment : List ℕ) (f : File) → IsPrivateKey key
+        → of_base_key m version key comment ≡ Ok f → (base_key_of f ≡ Ok key) × (f.comment ≡ comment) }
     ensures base { (key : Key) (base : Base) → IsPrivateKey key → base_of_openssh key ≡ Ok base
         → base_to_openssh base ≡ Ok key }
 {}

@@ -8,7 +8,7 @@ ghost use Rattle.picky_sshkey.specs.Made.{key_made};
 ghost use Rattle.picky_ppk_parts.specs.PartsRefusal.{key_in_blob as key_in_blob_of};
 ghost use Rattle.picky_putty_public.specs.PuttyRefusal.{plain_key as plain_key_of};
 ghost use Rattle.picky_ppk.specs.Mac.{CarriesMac};
-ghost use Rattle.picky_ppk.specs.Changed.{of_openssh, file_of_parts as file_of_parts_of};
+ghost use Rattle.picky_ppk.specs.Changed.{of_openssh, of_base_key, file_of_parts as file_of_parts_of};
 ghost use Rattle.picky_ppk.specs.KeyOf.{base_key_of, to_openssh, private_key_of, public_key_of, made_error};
 ghost use Rattle.picky_ppk.specs.KeyOf.{plain_private as plain_private_of};
 
@@ -39,13 +39,45 @@ impl Ppk {
         ensures gives { Gives PuttyError.NoMemory (λ ppk. ppk) result (of_openssh (S.meanings suite.now) key.now) }
         ensures mac { IfOk result (λ ppk. CarriesMac (S.meanings suite.now) ppk) }
     {
-        match KeyParts::of_key(alloc, &key.base_key) {
-            Ok(parts) => match key.comment.try_clone(alloc) {
-                Ok(comment) => file_of_parts(alloc, suite, comment, parts),
-                Err(NoMemory) => Err(PuttyError::NoMemory),
-            },
+        match key.comment.try_clone(alloc) {
+            Ok(comment) => {
+                Ppk::from_base_key(alloc, suite, PpkVersion::V3, &key.base_key, comment)
+            }
+            Err(NoMemory) => Err(PuttyError::NoMemory),
+        }
+    }
+
+    /// A key and a comment as a file of this version that isn't sealed. Refuses as `from_openssh_private_key`.
+    #[tactic(auto, unfolding(crate::specs::Changed::of_base_key))]
+    pub fn from_base_key<S: Suite>(
+        alloc: Global,
+        suite: &S,
+        version: PpkVersion,
+        key: &SshBasePrivateKey,
+        comment: Text,
+    ) -> Result<Ppk, PuttyError>
+        ensures gives { Gives PuttyError.NoMemory (λ ppk. ppk) result
+            (of_base_key (S.meanings suite.now) version key.now comment) }
+        ensures mac { IfOk result (λ ppk. CarriesMac (S.meanings suite.now) ppk) }
+    {
+        match KeyParts::of_key(alloc, key) {
+            Ok(parts) => file_of_parts(alloc, suite, version, comment, parts),
             Err(e) => Err(e),
         }
+    }
+
+    /// The private key in the file, as OpenSSH has it. Refuses, in order: `Encrypted`; `SshPublicKey` with what is wrong
+    /// with the blob; `NotSupported` (`unsupported key algorithm`) for DSS and Ed448; `PublicAndPrivateKeyMismatch`;
+    /// `IoError(UnexpectedEnd)`; `InvalidPrivateKeyData`; `TooLong`.
+    #[tactic(auto, unfolding(crate::specs::KeyOf::base_key_of))]
+    pub fn base_key(&self, alloc: Global) -> Result<SshBasePrivateKey, PuttyError>
+        ensures { Gives PuttyError.NoMemory (λ key. key) result (base_key_of self.now) }
+    {
+        if self.is_encrypted() {
+            return Err(PuttyError::Encrypted);
+        }
+        let file = self.file();
+        key_of_parts(alloc, file.algorithm, &file.public_key, &file.private_bytes)
     }
 
     /// The key as OpenSSH's, with the file's comment. With a passphrase its envelope is sealed under it and the salt.
@@ -61,20 +93,18 @@ impl Ppk {
     ) -> Result<SshPrivateKey, PuttyError>
         ensures { Gives PuttyError.NoMemory (λ key. key) result (to_openssh (option_copied passphrase.entry) salt.now self.now) }
     {
-        match base_key(alloc, self) {
+        match self.base_key(alloc) {
             Ok(base) => made_private(alloc, base, passphrase, self.comment(), salt),
             Err(e) => Err(e),
         }
     }
 
-    /// The private key in the file. Refuses, in order: `Encrypted`; `SshPublicKey` with what is wrong with the blob;
-    /// `NotSupported` (`unsupported key algorithm`) for DSS and Ed448; `PublicAndPrivateKeyMismatch`;
-    /// `IoError(UnexpectedEnd)`; `InvalidPrivateKeyData`; `TooLong`.
+    /// The private key in the file. Refuses as `base_key`.
     #[tactic(auto, unfolding(crate::specs::KeyOf::private_key_of))]
     pub fn private_key(&self, alloc: Global) -> Result<PrivateKey, PuttyError>
         ensures { Gives PuttyError.NoMemory (λ key. key) result (private_key_of self.now) }
     {
-        match base_key(alloc, self) {
+        match self.base_key(alloc) {
             Ok(base) => plain_private(alloc, base),
             Err(e) => Err(e),
         }
@@ -104,15 +134,16 @@ impl Ppk {
     }
 }
 
-/// A file of version 3 that isn't sealed, of a key's parts and a comment.
+/// A file of this version that isn't sealed, of a key's parts and a comment.
 fn file_of_parts<S: Suite>(
     alloc: Global,
     suite: &S,
+    version: PpkVersion,
     comment: Text,
     parts: KeyParts,
 ) -> Result<Ppk, PuttyError>
     ensures gives { Gives PuttyError.NoMemory (λ ppk. ppk) result
-        (Ok (file_of_parts_of (S.meanings suite.now) comment parts)) }
+        (Ok (file_of_parts_of (S.meanings suite.now) version comment parts)) }
     ensures mac { IfOk result (λ ppk. CarriesMac (S.meanings suite.now) ppk) }
 {
     let KeyParts {
@@ -121,7 +152,7 @@ fn file_of_parts<S: Suite>(
         private_bytes,
     } = parts;
     let file = PpkFile {
-        sealing: PpkSealing::Unsealed(PpkVersion::V3),
+        sealing: PpkSealing::Unsealed(version),
         algorithm,
         comment,
         public_key: blob,
@@ -129,18 +160,6 @@ fn file_of_parts<S: Suite>(
         mac: Bytes::from_vec(Vec::new(alloc)),
     };
     remade(alloc, suite, file)
-}
-
-/// The private key in the file's blob and private bytes. Refuses, in order: `Encrypted`; what its parts are refused for.
-#[tactic(auto, unfolding(crate::specs::KeyOf::base_key_of))]
-fn base_key(alloc: Global, ppk: &Ppk) -> Result<SshBasePrivateKey, PuttyError>
-    ensures { Gives PuttyError.NoMemory (λ key. key) result (base_key_of ppk.now) }
-{
-    if ppk.is_encrypted() {
-        return Err(PuttyError::Encrypted);
-    }
-    let file = ppk.file();
-    key_of_parts(alloc, file.algorithm, &file.public_key, &file.private_bytes)
 }
 
 /// The public key in a blob. Refuses, in order: `SshPublicKey` with what is wrong with the blob; `NotSupported`

@@ -22,8 +22,8 @@ pub const BLOCK_SIZE: usize = 16;
 pub fn encrypt<S: Suite>(
     suite: &mut S,
     message: &mut [u8],
-    key: &[u8; 32],
-    iv: &[u8; 16],
+    key: &[u8; KEY_SIZE],
+    iv: &[u8; BLOCK_SIZE],
 ) -> Result<(), PuttyError>
     ensures gives { GivesUnlessFault PuttyError.SuiteFault (λ _. message.new) result
         (sealed_message (S.meanings suite.old) key.now iv.now message.old) (is_aligned message.old)
@@ -45,8 +45,8 @@ pub fn encrypt<S: Suite>(
 pub fn decrypt<S: Suite>(
     suite: &mut S,
     message: &mut [u8],
-    key: &[u8; 32],
-    iv: &[u8; 16],
+    key: &[u8; KEY_SIZE],
+    iv: &[u8; BLOCK_SIZE],
 ) -> Result<(), PuttyError>
     ensures gives { GivesUnlessFault PuttyError.SuiteFault (λ _. message.new) result
         (opened_message (S.meanings suite.old) key.now iv.now message.old) (is_aligned message.old)

@@ -26,7 +26,7 @@ pub const MAC_SIZE_V3: usize = 32;
 #[derive(Clone, Copy)]
 pub enum Mac {
     V2([u8; 20]),
-    V3([u8; 32]),
+    V3([u8; MAC_SIZE_V3]),
 }
 
 impl Mac {
