@@ -37,9 +37,29 @@ mod meanings;
 #[cfg(test)]
 mod ppk_blocks;
 #[cfg(test)]
+mod ppk_comments;
+#[cfg(test)]
 mod ppk_fields;
 #[cfg(test)]
+mod ppk_files;
+#[cfg(test)]
+mod ppk_key_refusals;
+#[cfg(test)]
+mod ppk_limits;
+#[cfg(test)]
 mod ppk_lines;
+#[cfg(test)]
+mod ppk_refusals;
+#[cfg(test)]
+mod ppk_sealed;
+#[cfg(test)]
+mod ppk_sealing_refusals;
+#[cfg(test)]
+mod ppk_secrets;
+#[cfg(test)]
+mod ppk_texts;
+#[cfg(test)]
+mod ppk_views;
 #[cfg(test)]
 mod printed_errors;
 #[cfg(test)]

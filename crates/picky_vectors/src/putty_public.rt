@@ -71,7 +71,7 @@ fn means(alloc: Global, putty: &PuttyPublicKey, key: &SshPublicKey) -> Result<bo
     )
 }
 
-fn shown(key: &PublicKey) -> PublicKeyRef<'_> {
+pub fn shown(key: &PublicKey) -> PublicKeyRef<'_> {
     match key {
         PublicKey::Rsa { e, n } => PublicKeyRef::Rsa { e, n },
         PublicKey::Ec { curve, point } => PublicKeyRef::Ec {
