@@ -1,0 +1,440 @@
+-- No order of refusals answers a fault of the suite or want of memory, which are the code's alone.
+use Rattle.std.specs.Prelude.{◌≡◌, ◌≢◌, Bool, true, false, List, [], ◌∷◌, ℕ, Option, None, Some, Result, Ok, Err, if◌then◌else◌}
+use Rattle.std.specs.Prelude.{◌^◌, nat_lt, length, not}
+use Rattle.std.specs.Option.{ok_or}
+use Rattle.std.proofs.Common.{refl, ap, subst, ◌∙◌, inl, inr}
+use Rattle.picky_layout.specs.Flaw.{Flaw, Short, NotUtf8, Big, Flawed, Length, Magic, Name, Number, Reason}
+use Rattle.picky_layout.specs.Outcome.{and_then, map_err}
+use Rattle.picky_text.specs.Base64.{decoded}
+use Rattle.picky_text.specs.Lines.{lines}
+use Rattle.picky_suite.specs.Meanings.{Meanings}
+use Rattle.picky_keys.specs.declared.curve.EcCurve.{EcCurve}
+use Rattle.picky_keys.specs.declared.curve.EcCurve.TheVariants.{NistP256, NistP384, NistP521}
+use Rattle.picky_wire.specs.Gives.{Gives}
+use Rattle.picky_sshpub.specs.declared.error.SshPublicKeyError.{SshPublicKeyError}
+use Rattle.picky_sshpub.specs.declared.error.SshPublicKeyError.TheVariants as public
+use Rattle.picky_sshpub.specs.declared.key.SshBasePublicKey.{SshBasePublicKey}
+use Rattle.picky_sshpub.specs.declared.key.SshBasePublicKey.TheVariants as public_keys
+use Rattle.picky_sshpub.specs.declared.key.SshPublicKey.{SshPublicKey}
+use Rattle.picky_sshkey_blob.specs.declared.key.SshBasePrivateKey.{SshBasePrivateKey}
+use Rattle.picky_sshpub.specs.BlobRefusal.{read_blob}
+use Rattle.picky_sshpub.specs.LineRefusal.{blob_key, line_meaning}
+use Rattle.picky_sshpub.specs.carried.BlobLayout.{blob_own}
+use Rattle.picky_sshpub.specs.carried.SourceLine.{line_own}
+use Rattle.picky_sshkey_blob.specs.declared.error.SshPrivateKeyError.{SshPrivateKeyError}
+use Rattle.picky_sshkey.specs.PrivateRefusal.{text_key}
+use Rattle.picky_sshkey.proofs.FaultLaws.{text_no_fault}
+use Rattle.picky_sshkey.proofs.RefusalLemmas.{Refuses, err_as, if_as, map_as, ok_as, some_as, then_as}
+use Rattle.picky_kv_words.specs.Field.{Field, field_value, judged, refusal}
+use Rattle.picky_kv_words.specs.declared.error.PpkValueError.{PpkValueError}
+use Rattle.picky_kv_words.specs.declared.error.PpkValueError.TheVariants as value
+use Rattle.picky_kv_words.specs.declared.choices.PpkVersionKey.{PpkVersionKey}
+use Rattle.picky_kv_words.specs.declared.choices.PpkVersionKey.TheVariants.{V2, V3}
+use Rattle.picky_kv_words.specs.declared.choices.PpkEncryptionValue.{PpkEncryptionValue}
+use Rattle.picky_kv_words.specs.declared.choices.PpkEncryptionValue.TheVariants as encryptions
+use Rattle.picky_kv.specs.declared.error.KvError.{KvError}
+use Rattle.picky_kv.specs.declared.error.KvError.TheVariants as kv
+use Rattle.picky_kv.specs.declared.algorithm.PpkKeyAlgorithmValue.{PpkKeyAlgorithmValue}
+use Rattle.picky_kv.specs.declared.algorithm.PpkKeyAlgorithmValue.TheVariants as algorithms
+use Rattle.picky_kv.specs.Context.{need, in_context, refusal_in}
+use Rattle.picky_kv.specs.Lines.{key_and_value, first_joined, next_pair, next_block, value_alone}
+use Rattle.picky_kv.specs.NumberFields.{count_field, u32_field}
+use Rattle.picky_kv.specs.AlgorithmField.{algorithm_field}
+use Rattle.picky_kv_values.specs.ValueFields.{comment_field, base64_field, hex_field}
+use Rattle.picky_kv_words.specs.Choices.{version_row}
+use Rattle.picky_kv_words.specs.ChoiceFields.{version_field, encryption_field, flavour_field}
+use Rattle.picky_kv_words.specs.Keys.{encryption_key, comment_key, public_lines_key, private_lines_key, private_mac_key}
+use Rattle.picky_kv_words.specs.Keys.{encryption_key_row, comment_key_row, public_lines_key_row, private_lines_key_row}
+use Rattle.picky_kv_words.specs.Keys.{private_mac_key_row}
+use Rattle.picky_kv_words.specs.Argon2Keys.{key_derivation_key, argon2_memory_key, argon2_passes_key}
+use Rattle.picky_kv_words.specs.Argon2Keys.{argon2_parallelism_key, argon2_salt_key, key_derivation_key_row}
+use Rattle.picky_kv_words.specs.Argon2Keys.{argon2_memory_key_row, argon2_passes_key_row, argon2_parallelism_key_row}
+use Rattle.picky_kv_words.specs.Argon2Keys.{argon2_salt_key_row}
+use Rattle.picky_ppk_parts.specs.declared.error.PuttyError.{PuttyError}
+use Rattle.picky_ppk_parts.specs.declared.error.PuttyError.TheVariants as putty
+use Rattle.picky_ppk_parts.specs.Algorithm.{rsa_of, ec_of, ed_of, key_under, same_curve}
+use Rattle.picky_ppk_parts.specs.Counted.{counted}
+use Rattle.picky_ppk_parts.specs.PartsRefusal.{flaw_error, secret_error, key_in_blob, public_key_under, key_with_secret, parts_key}
+use Rattle.picky_ppk_parts.specs.Unsupported.{no_such_algorithm}
+use Rattle.picky_putty_public.specs.PuttyRefusal.{of_lines, of_blob, of_parts, after_comment, after_header, quoted, body_from, putty_meaning, to_openssh}
+use Rattle.picky_putty_public.specs.declared.putty_public.PuttyPublicKey.{PuttyPublicKey}
+use Rattle.picky_ppk_file.specs.declared.file.PpkFile.{PpkFile}
+use Rattle.picky_ppk_file.specs.File.{is_sealed}
+use Rattle.picky_ppk_file.specs.FileRefusal.{argon2_in, front_in, sealing_in, file_in, line_error, file_meaning}
+use Rattle.picky_ppk.specs.Changed.{open_file}
+use Rattle.picky_ppk.specs.Checked.{checked, ppk_meaning}
+use Rattle.picky_ppk.specs.Keyed.{can_derive}
+use Rattle.picky_ppk.specs.KeyOf.{base_key_of}
+use Rattle.picky_ppk.specs.Opened.{decrypted, is_openable, not_openable}
+use Rattle.picky_key_text.specs.declared.error.ReadError.{ReadError}
+use Rattle.picky_key_text.specs.declared.error.ReadError.TheVariants as errors
+use Rattle.picky_key_text.specs.declared.form.Form.{Form}
+use Rattle.picky_key_text.specs.declared.form.Form.TheVariants as forms
+use Rattle.picky_key_text.specs.Form.{form_of}
+use Rattle.picky_key_text.specs.Order.{opened, file_key, ppk_key, reading_as, reading}
+use Rattle.picky_key_text.specs.Reader.{Reader}
+use Rattle.picky_key_text.specs.Want.{WantsMemory, IsFault}
+
+-- ---- which reasons are no faults
+
+abbrev IsOwnValue : PpkValueError → Type 0
+IsOwnValue value.NoMemory = ⊥
+IsOwnValue other = Unit {0}
+
+abbrev IsOwnLine : KvError → Type 0
+IsOwnLine kv.NoMemory = ⊥
+IsOwnLine other = Unit {0}
+
+abbrev IsOwnPublic : SshPublicKeyError → Type 0
+IsOwnPublic public.NoMemory = ⊥
+IsOwnPublic other = Unit {0}
+
+-- neither the suite's nor memory's
+abbrev pub IsOwnPutty : PuttyError → Type 0
+IsOwnPutty putty.SuiteFault = ⊥
+IsOwnPutty putty.NoMemory = ⊥
+IsOwnPutty (putty.SshPublicKey e) = IsOwnPublic e
+IsOwnPutty other = Unit {0}
+
+-- Other reasons are such ones where those that come are.
+mapped_as : {E F A : Type 0} (P : F → Type 0) (f : E → F) (r : Result A E) → ((e : E) → r ≡ Err e → P (f e))
+    → Refuses P (map_err f r)
+mapped_as P f (Ok x) each e is = cc is
+mapped_as P f (Err why) each e is = err_as P (f why) (each why refl) e is
+
+either : {A : Type 0} (P : A → Type 0) (b : Bool) (x y : A) → P x → P y → P (if b then x else y)
+either P true x y first second = first
+either P false x y first second = second
+
+-- ---- the lines of a file
+
+judged_own : {A : Type 0} (is_big : A → Bool) (expected text : List ℕ) (o : Option A)
+    → Refuses IsOwnValue (judged is_big expected text o)
+judged_own is_big expected text (Some v) =
+    if_as IsOwnValue (is_big v) (Err value.TooLong) (Ok v) (err_as IsOwnValue value.TooLong tt) (ok_as IsOwnValue v)
+judged_own is_big expected text None =
+    err_as IsOwnValue (refusal expected text)
+    (either IsOwnValue (nat_lt (length text) (2 ^ 32)) (value.Parsing (record { expected = expected; actual = text }))
+    value.TooLong tt tt)
+
+refusal_own : (context : List ℕ) (e : PpkValueError) → IsOwnValue e → IsOwnLine (refusal_in context e)
+refusal_own context (value.Parsing p) own = tt
+refusal_own context value.TooLong own = tt
+refusal_own context value.NoMemory own = own
+
+context_own : {A : Type 0} (context : List ℕ) (r : Result A PpkValueError) → Refuses IsOwnValue r
+    → Refuses IsOwnLine (in_context context r)
+context_own context (Ok v) own = ok_as IsOwnLine v
+context_own context (Err e) own = err_as IsOwnLine (refusal_in context e) (refusal_own context e (own e refl))
+
+field_own : {A : Type 0} (context : List ℕ) (field : Field A) (text : List ℕ)
+    → Refuses IsOwnLine (in_context context (field_value field text))
+field_own context field text =
+    context_own context (field_value field text) (judged_own field.is_big field.expected text (field.meaning text))
+
+need_own : {A B : Type 0} (e : KvError) (o : Option A) (next : A → Result B KvError) → IsOwnLine e
+    → ((v : A) → Refuses IsOwnLine (next v)) → Refuses IsOwnLine (need e o next)
+need_own e (Some v) next own each = each v
+need_own e None next own each = err_as IsOwnLine e own
+
+pair_own : {K V : Type 0} (key : Field K) (value : Field V) (context : List ℕ) (ls : List (List ℕ))
+    → Refuses IsOwnLine (next_pair key value context ls)
+pair_own key value context [] = err_as IsOwnLine kv.EndOfInput tt
+pair_own key value context (line ∷ ls) =
+    need_own kv.InvalidKeyValueFormat (key_and_value line) _ tt (λ texts.
+    then_as IsOwnLine (in_context context (field_value key texts.0)) _ (field_own context key texts.0) (λ k.
+    then_as IsOwnLine (in_context context (field_value value texts.1)) _ (field_own context value texts.1) (λ v.
+    ok_as IsOwnLine _)))
+
+block_own : {K V : Type 0} (key : Field K) (value : Field V) (context : List ℕ) (ls : List (List ℕ))
+    → Refuses IsOwnLine (next_block key value context ls)
+block_own key value context ls =
+    then_as IsOwnLine (next_pair key count_field context ls) _ (pair_own key count_field context ls) (λ head.
+    need_own kv.EndOfInput (first_joined head.0.1 head.1) _ tt (λ block.
+    then_as IsOwnLine (in_context context (field_value value block.0)) _ (field_own context value block.0) (λ v.
+    ok_as IsOwnLine _)))
+
+pair_alone_own : {K V : Type 0} (key : Field K) (value : Field V) (context : List ℕ) (ls : List (List ℕ))
+    → Refuses IsOwnLine (value_alone (next_pair key value context ls))
+pair_alone_own key value context ls =
+    then_as IsOwnLine (next_pair key value context ls) _ (pair_own key value context ls) (λ read. ok_as IsOwnLine _)
+
+block_alone_own : {K V : Type 0} (key : Field K) (value : Field V) (context : List ℕ) (ls : List (List ℕ))
+    → Refuses IsOwnLine (value_alone (next_block key value context ls))
+block_alone_own key value context ls =
+    then_as IsOwnLine (next_block key value context ls) _ (block_own key value context ls) (λ read. ok_as IsOwnLine _)
+
+argon2_own : (ls : List (List ℕ)) → Refuses IsOwnLine (argon2_in ls)
+unfolding argon2_in
+argon2_own ls =
+    then_as IsOwnLine (value_alone (next_pair key_derivation_key flavour_field key_derivation_key_row.name ls)) _
+    (pair_alone_own key_derivation_key flavour_field key_derivation_key_row.name ls) (λ flavor.
+    then_as IsOwnLine (value_alone (next_pair argon2_memory_key u32_field argon2_memory_key_row.name flavor.1)) _
+    (pair_alone_own argon2_memory_key u32_field argon2_memory_key_row.name flavor.1) (λ memory.
+    then_as IsOwnLine (value_alone (next_pair argon2_passes_key u32_field argon2_passes_key_row.name memory.1)) _
+    (pair_alone_own argon2_passes_key u32_field argon2_passes_key_row.name memory.1) (λ passes.
+    then_as IsOwnLine (value_alone (next_pair argon2_parallelism_key u32_field argon2_parallelism_key_row.name passes.1)) _
+    (pair_alone_own argon2_parallelism_key u32_field argon2_parallelism_key_row.name passes.1) (λ lanes.
+    then_as IsOwnLine (value_alone (next_pair argon2_salt_key hex_field argon2_salt_key_row.name lanes.1)) _
+    (pair_alone_own argon2_salt_key hex_field argon2_salt_key_row.name lanes.1) (λ salt. ok_as IsOwnLine _)))))
+
+front_own : (ls : List (List ℕ)) → Refuses IsOwnLine (front_in ls)
+unfolding front_in
+front_own ls =
+    then_as IsOwnLine (next_pair version_field algorithm_field version_row.name ls) _
+    (pair_own version_field algorithm_field version_row.name ls) (λ header.
+    then_as IsOwnLine (value_alone (next_pair encryption_key encryption_field encryption_key_row.name header.1)) _
+    (pair_alone_own encryption_key encryption_field encryption_key_row.name header.1) (λ encryption.
+    then_as IsOwnLine (value_alone (next_pair comment_key comment_field comment_key_row.name encryption.1)) _
+    (pair_alone_own comment_key comment_field comment_key_row.name encryption.1) (λ comment.
+    then_as IsOwnLine (value_alone (next_block public_lines_key base64_field public_lines_key_row.name comment.1)) _
+    (block_alone_own public_lines_key base64_field public_lines_key_row.name comment.1) (λ blob. ok_as IsOwnLine _))))
+
+sealing_own : (version : PpkVersionKey) (encryption : PpkEncryptionValue) (ls : List (List ℕ))
+    → Refuses IsOwnLine (sealing_in version encryption ls)
+sealing_own V2 encryptions.None ls = ok_as IsOwnLine _
+sealing_own V3 encryptions.None ls = ok_as IsOwnLine _
+sealing_own V2 encryptions.Aes256Cbc ls = ok_as IsOwnLine _
+sealing_own V3 encryptions.Aes256Cbc ls =
+    then_as IsOwnLine (argon2_in ls) _ (argon2_own ls) (λ params. ok_as IsOwnLine _)
+
+file_own : (ls : List (List ℕ)) → Refuses IsOwnLine (file_in ls)
+unfolding file_in
+file_own ls =
+    then_as IsOwnLine (front_in ls) _ (front_own ls) (λ front.
+    then_as IsOwnLine (sealing_in front.0.version front.0.encryption front.1) _
+    (sealing_own front.0.version front.0.encryption front.1) (λ sealing.
+    then_as IsOwnLine (value_alone (next_block private_lines_key base64_field private_lines_key_row.name sealing.1)) _
+    (block_alone_own private_lines_key base64_field private_lines_key_row.name sealing.1) (λ block.
+    then_as IsOwnLine (value_alone (next_pair private_mac_key hex_field private_mac_key_row.name block.1)) _
+    (pair_alone_own private_mac_key hex_field private_mac_key_row.name block.1) (λ mac. ok_as IsOwnLine _))))
+
+line_error_own : (e : KvError) → IsOwnLine e → IsOwnPutty (line_error e)
+line_error_own kv.EndOfInput own = tt
+line_error_own kv.InvalidKeyValueFormat own = tt
+line_error_own (kv.InvalidInput context expected actual) own = tt
+line_error_own kv.TooManyLines own = tt
+line_error_own kv.TooLong own = tt
+line_error_own kv.NoMemory own = own
+
+file_meaning_own : (text : List ℕ) → Refuses IsOwnPutty (file_meaning text)
+unfolding file_meaning
+file_meaning_own text =
+    then_as IsOwnPutty (map_err line_error (file_in (lines text))) _
+    (mapped_as IsOwnPutty line_error (file_in (lines text)) (λ e is. line_error_own e (file_own (lines text) e is)))
+    (λ found. ok_as IsOwnPutty _)
+
+ppk_meaning_own : (m : Meanings) (text : List ℕ) → Refuses IsOwnPutty (ppk_meaning m text)
+unfolding ppk_meaning checked
+ppk_meaning_own m text =
+    then_as IsOwnPutty (file_meaning text) (checked m) (file_meaning_own text) (λ f.
+    if_as IsOwnPutty (is_sealed f.sealing) _ _ (ok_as IsOwnPutty f)
+    (if_as IsOwnPutty _ _ _ (ok_as IsOwnPutty f) (err_as IsOwnPutty putty.MacValidation tt)))
+
+-- ---- the keys in it
+
+public_own : (e : SshPublicKeyError) → (e ≡ public.NoMemory → ⊥) → IsOwnPublic e
+public_own public.NoMemory other = other refl
+public_own e other = tt
+
+blob_key_own : (blob : List ℕ) → Refuses IsOwnPublic (blob_key blob)
+unfolding blob_key
+blob_key_own blob =
+    then_as IsOwnPublic (read_blob blob) _ (λ e is. public_own e (blob_own blob e is).1) (λ found. ok_as IsOwnPublic _)
+
+key_in_blob_own : (blob : List ℕ) → Refuses IsOwnPutty (key_in_blob blob)
+key_in_blob_own blob = mapped_as IsOwnPutty putty.SshPublicKey (blob_key blob) (blob_key_own blob)
+
+rsa_own : (key : SshBasePublicKey) → Refuses IsOwnPutty (rsa_of key)
+rsa_own (public_keys.Rsa e n) = ok_as IsOwnPutty _
+rsa_own key = err_as IsOwnPutty putty.PublicAndPrivateKeyMismatch tt
+
+ec_own : (curve : EcCurve) (key : SshBasePublicKey) → Refuses IsOwnPutty (ec_of curve key)
+ec_own curve (public_keys.Ec other point) =
+    if_as IsOwnPutty (same_curve curve other) _ _ (ok_as IsOwnPutty _) (err_as IsOwnPutty putty.PublicAndPrivateKeyMismatch tt)
+ec_own curve key = err_as IsOwnPutty putty.PublicAndPrivateKeyMismatch tt
+
+ed_own : (key : SshBasePublicKey) → Refuses IsOwnPutty (ed_of key)
+ed_own (public_keys.Ed key) = ok_as IsOwnPutty _
+ed_own key = err_as IsOwnPutty putty.PublicAndPrivateKeyMismatch tt
+
+key_under_own : (algorithm : PpkKeyAlgorithmValue) (key : SshBasePublicKey) → Refuses IsOwnPutty (key_under algorithm key)
+key_under_own algorithms.Rsa key = rsa_own key
+key_under_own algorithms.Dss key = err_as IsOwnPutty no_such_algorithm tt
+key_under_own algorithms.EcdsaSha2Nistp256 key = ec_own NistP256 key
+key_under_own algorithms.EcdsaSha2Nistp384 key = ec_own NistP384 key
+key_under_own algorithms.EcdsaSha2Nistp521 key = ec_own NistP521 key
+key_under_own algorithms.Ed25519 key = ed_own key
+key_under_own algorithms.Ed448 key = err_as IsOwnPutty no_such_algorithm tt
+
+flaw_own : (flaw : Flaw) → IsOwnPutty (flaw_error flaw)
+flaw_own Short = tt
+flaw_own NotUtf8 = tt
+flaw_own Big = tt
+
+secret_own : (reason : Reason) → IsOwnPutty (secret_error reason)
+secret_own (i, Flawed flaw) = flaw_own flaw
+secret_own (i, Length) = tt
+secret_own (i, Magic) = tt
+secret_own (i, Name name) = tt
+secret_own (i, Number n) = tt
+
+base_key_own : (f : PpkFile) → Refuses IsOwnPutty (base_key_of f)
+unfolding base_key_of parts_key public_key_under key_with_secret
+base_key_own f =
+    then_as IsOwnPutty (open_file f) _
+    (if_as IsOwnPutty (is_sealed f.sealing) _ _ (err_as IsOwnPutty putty.Encrypted tt) (ok_as IsOwnPutty f)) (λ f.
+    then_as IsOwnPutty (public_key_under f.algorithm f.public_key) _
+    (then_as IsOwnPutty (key_in_blob f.public_key) (key_under f.algorithm) (key_in_blob_own f.public_key)
+    (key_under_own f.algorithm))
+    (λ public. map_as IsOwnPutty secret_error _ secret_own))
+
+-- ---- a sealed file
+
+not_openable_own : (pass : List ℕ) (f : PpkFile) → IsOwnPutty (not_openable pass f)
+not_openable_own pass f =
+    either IsOwnPutty (not (is_sealed f.sealing)) putty.AlreadyDecrypted
+    (if not (can_derive f.sealing pass) then putty.Argon2 else putty.Aes) tt
+    (either IsOwnPutty (not (can_derive f.sealing pass)) putty.Argon2 putty.Aes tt tt)
+
+counted_own : (algorithm : PpkKeyAlgorithmValue) (private : List ℕ) → Refuses IsOwnPutty (counted algorithm private)
+unfolding counted
+counted_own algorithm private =
+    then_as IsOwnPutty _ _ (map_as IsOwnPutty flaw_error _ flaw_own) (λ found. ok_as IsOwnPutty _)
+
+decrypted_own : (m : Meanings) (pass : List ℕ) (f : PpkFile) → Refuses IsOwnPutty (decrypted m pass f)
+unfolding decrypted
+decrypted_own m pass f =
+    if_as IsOwnPutty (is_openable pass f) _ _
+    (if_as IsOwnPutty _ _ _
+    (then_as IsOwnPutty _ _ (counted_own f.algorithm _) (λ n. ok_as IsOwnPutty _))
+    (err_as IsOwnPutty putty.MacValidation tt))
+    (err_as IsOwnPutty (not_openable pass f) (not_openable_own pass f))
+
+opened_own : (r : Reader) (f : PpkFile) → Refuses IsOwnPutty (opened r f)
+opened_own r f =
+    if_as IsOwnPutty (is_sealed f.sealing) _ _
+    (then_as IsOwnPutty (ok_or r.pass putty.Encrypted) _ (some_as IsOwnPutty r.pass putty.Encrypted tt)
+    (λ pass. decrypted_own r.meanings pass f))
+    (ok_as IsOwnPutty f)
+
+ppk_key_own : (r : Reader) (text : List ℕ) → Refuses IsOwnPutty (ppk_key r text)
+unfolding ppk_key
+ppk_key_own r text =
+    then_as IsOwnPutty (ppk_meaning r.meanings text) _ (ppk_meaning_own r.meanings text) (λ f.
+    then_as IsOwnPutty (opened r f) file_key (opened_own r f) (λ g.
+    then_as IsOwnPutty (base_key_of g) _ (base_key_own g) (λ key. ok_as IsOwnPutty _)))
+
+-- ---- a public key
+
+of_blob_own : (between blob : List ℕ) → Refuses IsOwnPutty (of_blob between blob)
+of_blob_own between blob = if_as IsOwnPutty _ _ _ (ok_as IsOwnPutty _) (err_as IsOwnPutty putty.TooLong tt)
+
+of_parts_own : (between body : List ℕ) → Refuses IsOwnPutty (of_parts between body)
+of_parts_own between body =
+    then_as IsOwnPutty (ok_or (decoded body) putty.InvalidPublicKeyData) (of_blob between)
+    (some_as IsOwnPutty (decoded body) putty.InvalidPublicKeyData tt) (of_blob_own between)
+
+after_comment_own : (between : List ℕ) (ls : List (List ℕ)) → Refuses IsOwnPutty (after_comment between ls)
+after_comment_own between ls =
+    then_as IsOwnPutty (ok_or (body_from [] ls) putty.EndOfInput) (of_parts between)
+    (some_as IsOwnPutty (body_from [] ls) putty.EndOfInput tt) (of_parts_own between)
+
+after_header_own : (ls : List (List ℕ)) → Refuses IsOwnPutty (after_header ls)
+after_header_own [] = err_as IsOwnPutty putty.EndOfInput tt
+after_header_own (line ∷ more) =
+    then_as IsOwnPutty (ok_or (quoted line) putty.InvalidPublicKeyComment) _
+    (some_as IsOwnPutty (quoted line) putty.InvalidPublicKeyComment tt) (λ between. after_comment_own between more)
+
+of_lines_own : (ls : List (List ℕ)) → Refuses IsOwnPutty (of_lines ls)
+of_lines_own [] = err_as IsOwnPutty putty.EndOfInput tt
+of_lines_own (line ∷ more) =
+    if_as IsOwnPutty _ _ _ (after_header_own more) (err_as IsOwnPutty putty.InvalidPublicKeyContainer tt)
+
+to_openssh_own : (key : PuttyPublicKey) → Refuses IsOwnPutty (to_openssh key)
+unfolding to_openssh
+to_openssh_own key =
+    then_as IsOwnPutty (key_in_blob key.blob) _ (key_in_blob_own key.blob) (λ inner. ok_as IsOwnPutty _)
+
+putty_meaning_own : (text : List ℕ) → Refuses IsOwnPutty (putty_meaning text)
+unfolding putty_meaning
+putty_meaning_own text = of_lines_own (lines text)
+
+putty_public_own : (text : List ℕ) → Refuses IsOwnPutty (and_then (putty_meaning text) to_openssh)
+putty_public_own text = then_as IsOwnPutty (putty_meaning text) to_openssh (putty_meaning_own text) to_openssh_own
+
+-- ---- any text
+
+-- neither the suite's nor memory's
+abbrev pub IsOwn : ReadError → Type 0
+IsOwn e = (IsFault e → ⊥) × (WantsMemory e → ⊥)
+
+putty_wants : (e : PuttyError) → IsOwnPutty e → WantsMemory (errors.Putty e) → ⊥
+putty_wants e own (inl memory) = subst IsOwnPutty memory own
+putty_wants e own (inr memory) = subst IsOwnPutty memory own
+
+putty_own : (e : PuttyError) → IsOwnPutty e → IsOwn (errors.Putty e)
+putty_own e own = (λ fault. subst IsOwnPutty fault own, putty_wants e own)
+
+public_line_own : (e : SshPublicKeyError) → e ≢ public.NoMemory → IsOwn (errors.Public e)
+public_line_own e other = (λ fault. fault, other)
+
+private_wants : (m : Meanings) (given : Option (List ℕ)) (text : List ℕ) (e : SshPrivateKeyError)
+    → text_key m given text ≡ Err e → WantsMemory (errors.Private e) → ⊥
+private_wants m given text e is (inl memory) = (text_no_fault m given text).1 (is ∙ ap Err memory)
+private_wants m given text e is (inr memory) = (text_no_fault m given text).2 (is ∙ ap Err memory)
+
+private_own : (m : Meanings) (given : Option (List ℕ)) (text : List ℕ) (e : SshPrivateKeyError)
+    → text_key m given text ≡ Err e → IsOwn (errors.Private e)
+private_own m given text e is =
+    (λ fault. (text_no_fault m given text).0 (is ∙ ap Err fault), private_wants m given text e is)
+
+reading_as_own : (form : Form) (r : Reader) (text : List ℕ) → Refuses IsOwn (reading_as form r text)
+reading_as_own forms.Envelope r text =
+    then_as IsOwn (map_err errors.Private (text_key r.meanings r.pass text)) _
+    (mapped_as IsOwn errors.Private (text_key r.meanings r.pass text) (private_own r.meanings r.pass text))
+    (λ key. ok_as IsOwn _)
+reading_as_own forms.Ppk r text =
+    mapped_as IsOwn errors.Putty (ppk_key r text) (λ e is. putty_own e (ppk_key_own r text e is))
+reading_as_own forms.PuttyPublic r text =
+    then_as IsOwn (map_err errors.Putty (and_then (putty_meaning text) to_openssh)) _
+    (mapped_as IsOwn errors.Putty (and_then (putty_meaning text) to_openssh) (λ e is. putty_own e (putty_public_own text e is)))
+    (λ key. ok_as IsOwn _)
+reading_as_own forms.PublicLine r text =
+    then_as IsOwn (map_err errors.Public (line_meaning text)) _
+    (mapped_as IsOwn errors.Public (line_meaning text) (λ e is. public_line_own e (line_own text e is).1))
+    (λ key. ok_as IsOwn _)
+
+-- No text is refused for a fault of the suite or for want of memory.
+pub reading_own : (r : Reader) (text : List ℕ) (e : ReadError) → reading r text ≡ Err e → IsOwn e
+unfolding reading
+reading_own r text e is = reading_as_own (form_of text) r text e is
+
+-- ---- what a call gives of such an order is no fault
+
+gives_own : {X A : Type 0} (view : X → A) (result : Result X PuttyError) (says : Result A PuttyError)
+    → Refuses IsOwnPutty says → Gives putty.NoMemory view result says → result ≢ Err putty.SuiteFault
+gives_own view (Ok x) says own gives is = cc is
+gives_own view (Err e) says own (inl want) is =
+    let both : putty.NoMemory ≡ putty.SuiteFault = cc (want, is) in cc both
+gives_own view (Err e) says own (inr refused) is =
+    let same : e ≡ putty.SuiteFault = cc is in own putty.SuiteFault (refused ∙ ap Err same)
+
+-- a file's text, a file's key, a public key's text, and its key
+pub ppk_no_fault : {X : Type 0} (view : X → PpkFile) (result : Result X PuttyError) (m : Meanings) (text : List ℕ)
+    → Gives putty.NoMemory view result (ppk_meaning m text) → result ≢ Err putty.SuiteFault
+ppk_no_fault view result m text gives = gives_own view result _ (ppk_meaning_own m text) gives
+
+pub base_key_no_fault : {X : Type 0} (view : X → SshBasePrivateKey) (result : Result X PuttyError) (f : PpkFile)
+    → Gives putty.NoMemory view result (base_key_of f) → result ≢ Err putty.SuiteFault
+base_key_no_fault view result f gives = gives_own view result _ (base_key_own f) gives
+
+pub public_no_fault : {X : Type 0} (view : X → PuttyPublicKey) (result : Result X PuttyError) (text : List ℕ)
+    → Gives putty.NoMemory view result (putty_meaning text) → result ≢ Err putty.SuiteFault
+public_no_fault view result text gives = gives_own view result _ (putty_meaning_own text) gives
+
+pub openssh_no_fault : {X : Type 0} (view : X → SshPublicKey) (result : Result X PuttyError) (key : PuttyPublicKey)
+    → Gives putty.NoMemory view result (to_openssh key) → result ≢ Err putty.SuiteFault
+openssh_no_fault view result key gives = gives_own view result _ (to_openssh_own key) gives
+
+pub ruleset no_fault = (ppk_no_fault, base_key_no_fault, public_no_fault, openssh_no_fault)

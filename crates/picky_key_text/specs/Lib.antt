@@ -1,0 +1,9 @@
+pub mod Form
+pub mod Key
+pub mod Reader
+pub mod PpkText
+pub mod Reads
+pub mod Order
+pub mod Kept
+pub mod Want
+pub mod inner

@@ -1,0 +1,23 @@
+//! Why a key text means nothing.
+
+use picky_ppk::PuttyError;
+use picky_sshkey::SshPrivateKeyError;
+use picky_sshpub::SshPublicKeyError;
+use thiserror::Error;
+
+/// Why a key text means nothing.
+#[derive(Debug, Drop, PartialEq, Eq, Error)]
+pub enum ReadError {
+    /// As OpenSSH's private key it says none.
+    #[error("Private")]
+    Private(SshPrivateKeyError),
+    /// As a public key line it says no key.
+    #[error("Public")]
+    Public(SshPublicKeyError),
+    /// As PuTTY's private or public key it says none.
+    #[error("Putty")]
+    Putty(PuttyError),
+    /// Memory ran out.
+    #[error("NoMemory")]
+    NoMemory,
+}
