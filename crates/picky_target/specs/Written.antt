@@ -1,0 +1,41 @@
+-- What is written of a meaning, or the first reason why nothing is, and whether a suite is asked.
+use Rattle.std.specs.Prelude.{◌&&◌, Bool, true, false, List, ℕ, Result, Ok, Err, is_some}
+use Rattle.picky_layout.specs.Outcome.{and_then}
+use Rattle.picky_suite.specs.Meanings.{Meanings}
+use Rattle.picky_sshkey_blob.specs.declared.error.SshPrivateKeyError.TheVariants as private
+use Rattle.picky_ppk_parts.specs.declared.error.PuttyError.TheVariants as putty
+use Rattle.picky_key_text.specs.declared.meaning.Meaning.{Meaning}
+use Rattle.picky_target.specs.declared.error.ConvertError.{ConvertError}
+use Rattle.picky_target.specs.declared.error.ConvertError.TheVariants as errors
+use Rattle.picky_target.specs.declared.target.Target.{Target}
+use Rattle.picky_target.specs.declared.target.Target.TheVariants as targets
+use Rattle.picky_target.specs.Output.{Output}
+use Rattle.picky_target.specs.Judged.{judged}
+use Rattle.picky_target.specs.Texts.{text_for}
+
+-- the text, or the first reason why there is none
+unfoldable pub written : Meanings → Output → Target → Meaning → Result (List ℕ) ConvertError
+written m out target meaning = and_then (judged out target meaning) (λ _. Ok (text_for m out target meaning))
+
+-- the target keeps the secret; what it writes is sealed where there is a passphrase
+abbrev pub keeps_secret : Target → Bool
+keeps_secret targets.OpenSsh = true
+keeps_secret (targets.Ppk version config) = true
+keeps_secret targets.OpenSshPublic = false
+keeps_secret targets.PuttyPublic = false
+
+abbrev pub is_sealed : Output → Target → Bool
+is_sealed out target = keeps_secret target && is_some out.pass
+
+-- the suite is asked, since the text is sealed and nothing was refused before
+abbrev pub goes_on : Result (Unit {0}) ConvertError → Bool
+goes_on (Ok _) = true
+goes_on (Err e) = false
+
+unfoldable pub writing_asks : Output → Target → Meaning → Bool
+writing_asks out target meaning = is_sealed out target && goes_on (judged out target meaning)
+
+-- the suite's fault, in the words of the target; public targets ask none
+abbrev pub fault_of : Target → ConvertError
+fault_of targets.OpenSsh = errors.Private private.SuiteFault
+fault_of target = errors.Putty putty.SuiteFault

@@ -1,0 +1,3 @@
+pub mod Public
+pub mod Envelope
+pub mod File

@@ -1,0 +1,119 @@
+-- What is written of a private key as PuTTY's file, step by step as the code judges it.
+use Rattle.std.specs.Prelude.{◌+◌, ◌++◌, ◌&&◌, Bool, true, false, not, List, ℕ, Option, None, Some, Result, Ok, Err}
+use Rattle.std.specs.Prelude.{length, nat_le, replicate, take, drop, if◌then◌else◌}
+use Rattle.picky_layout.specs.Outcome.{and_then, map_err}
+use Rattle.picky_kv_words.specs.declared.choices.PpkVersionKey.{PpkVersionKey}
+use Rattle.picky_suite.specs.Meanings.{Meanings}
+use Rattle.picky_sshpub.specs.LineRefusal.{is_short}
+use Rattle.picky_sshkey_blob.specs.declared.key.SshBasePrivateKey.{SshBasePrivateKey}
+use Rattle.picky_sshkey_blob.specs.Key.{public_part}
+use Rattle.picky_ppk_parts.specs.declared.config.PpkEncryptionConfig.{PpkEncryptionConfig}
+use Rattle.picky_ppk_parts.specs.declared.error.PuttyError.TheVariants as putty
+use Rattle.picky_ppk_parts.specs.Unsupported.{no_hardware_keys}
+use Rattle.picky_ppk_file.specs.declared.file.PpkFile.{PpkFile}
+use Rattle.picky_ppk_file.specs.File.{version_of}
+use Rattle.picky_ppk_file.specs.Written.{written as file_written}
+use Rattle.picky_putty_public.specs.PuttyRefusal.{is_hardware}
+use Rattle.picky_ppk.specs.Changed.{of_base_key}
+use Rattle.picky_ppk.specs.Sealed.{draft_of, encrypted}
+use Rattle.picky_target.specs.declared.error.ConvertError.{ConvertError}
+use Rattle.picky_target.specs.declared.error.ConvertError.TheVariants as errors
+use Rattle.picky_target.specs.declared.target.Target.TheVariants as targets
+use Rattle.picky_target.specs.Drafts.{salt_len, padding_len}
+use Rattle.picky_target.specs.Output.{Output}
+use Rattle.picky_target.specs.Judged.{carries_comment, derives_under, mac_len}
+use Rattle.picky_target.specs.inner.Public.{putty_refusal}
+
+-- the text of a file
+abbrev pub text_of_file : PpkFile → Result (List ℕ) ConvertError
+text_of_file f = map_err putty_refusal (file_written f)
+
+-- the file that isn't sealed
+abbrev pub plain_of : Meanings → PpkVersionKey → SshBasePrivateKey → (comment : List ℕ) → Result PpkFile ConvertError
+plain_of m version key comment = map_err putty_refusal (of_base_key m version key comment)
+
+abbrev pub plain_written : Meanings → PpkVersionKey → SshBasePrivateKey → (comment : List ℕ) → Result (List ℕ) ConvertError
+plain_written m version key comment = and_then (plain_of m version key comment) text_of_file
+
+-- the salt and the padding that sealing takes
+abbrev pub drawn : (pass fresh : List ℕ) → PpkVersionKey → PpkEncryptionConfig → SshBasePrivateKey
+    → Result (List ℕ × List ℕ) ConvertError
+drawn pass fresh version config key =
+    if derives_under (targets.Ppk version config) pass
+    then (if nat_le (salt_len version config + padding_len key) (length fresh)
+    then Ok (take (salt_len version config) fresh, take (padding_len key) (drop (salt_len version config) fresh))
+    else Err errors.FreshTooShort)
+    else Err (errors.Putty putty.Argon2)
+
+-- a text is judged, and not kept
+abbrev pub judged_text : PpkFile → Result (Unit {0}) ConvertError
+judged_text f = and_then (text_of_file f) (λ _. Ok tt)
+
+-- the draft of a file as it is measured: zeros stand for its MAC
+abbrev pub zeroed : PpkFile → PpkFile
+zeroed f = record f { mac = replicate (mac_len (version_of f.sealing)) 0 }
+
+abbrev pub measured : PpkEncryptionConfig → (salt padding : List ℕ) → PpkFile → Result (Unit {0}) ConvertError
+measured config salt padding f =
+    if is_short (f.private_bytes ++ padding) then judged_text (zeroed (draft_of config salt padding f)) else Err errors.TooLong
+
+-- the file before it is sealed, where the sealed one has room
+abbrev pub plain_drafted : Meanings → PpkVersionKey → PpkEncryptionConfig → SshBasePrivateKey → (comment salt padding : List ℕ)
+    → Result PpkFile ConvertError
+plain_drafted m version config key comment salt padding =
+    and_then (plain_of m version key comment) (λ f. and_then (measured config salt padding f) (λ _. Ok f))
+
+-- that file, with its salt and padding: all that is judged before the suite is asked
+pub record Sealable : Type 0 where
+  pub salt : List ℕ
+  pub padding : List ℕ
+  pub plain : PpkFile
+
+abbrev pub sealable : Meanings → (pass fresh : List ℕ) → PpkVersionKey → PpkEncryptionConfig → SshBasePrivateKey
+    → (comment : List ℕ) → Result Sealable ConvertError
+sealable m pass fresh version config key comment =
+    and_then (drawn pass fresh version config key) (λ d.
+    and_then (plain_drafted m version config key comment d.0 d.1) (λ f.
+    Ok (record { salt = d.0; padding = d.1; plain = f })))
+
+abbrev pub sealed_text : Meanings → (pass : List ℕ) → PpkEncryptionConfig → Sealable → Result (List ℕ) ConvertError
+sealed_text m pass config s =
+    and_then (map_err putty_refusal (encrypted m pass config s.salt s.padding s.plain)) text_of_file
+
+abbrev pub sealed_written : Meanings → (pass fresh : List ℕ) → PpkVersionKey → PpkEncryptionConfig → SshBasePrivateKey
+    → (comment : List ℕ) → Result (List ℕ) ConvertError
+sealed_written m pass fresh version config key comment =
+    and_then (sealable m pass fresh version config key comment) (sealed_text m pass config)
+
+abbrev pub is_sealable : Result Sealable ConvertError → Bool
+is_sealable (Ok s) = true
+is_sealable (Err e) = false
+
+abbrev pub sealed_asks : Meanings → (pass fresh : List ℕ) → PpkVersionKey → PpkEncryptionConfig → SshBasePrivateKey
+    → (comment : List ℕ) → Bool
+sealed_asks m pass fresh version config key comment = is_sealable (sealable m pass fresh version config key comment)
+
+-- ---- sealed or not
+
+abbrev pub text_under : Meanings → Option (List ℕ) → (fresh : List ℕ) → PpkVersionKey → PpkEncryptionConfig → SshBasePrivateKey
+    → (comment : List ℕ) → Result (List ℕ) ConvertError
+text_under m None fresh version config key comment = plain_written m version key comment
+text_under m (Some pass) fresh version config key comment = sealed_written m pass fresh version config key comment
+
+abbrev pub asks_under : Meanings → Option (List ℕ) → (fresh : List ℕ) → PpkVersionKey → PpkEncryptionConfig → SshBasePrivateKey
+    → (comment : List ℕ) → Bool
+asks_under m None fresh version config key comment = false
+asks_under m (Some pass) fresh version config key comment = sealed_asks m pass fresh version config key comment
+
+-- a key that PuTTY has, and a comment that the version can hold, come first
+abbrev pub ppk_written : Meanings → Output → PpkVersionKey → PpkEncryptionConfig → SshBasePrivateKey → (comment : List ℕ)
+    → Result (List ℕ) ConvertError
+ppk_written m out version config key comment =
+    if is_hardware (public_part key) then Err (errors.Putty no_hardware_keys)
+    else if carries_comment (targets.Ppk version config) comment
+    then text_under m out.pass out.fresh version config key comment else Err errors.CommentNotCarried
+
+abbrev pub ppk_asks : Meanings → Output → PpkVersionKey → PpkEncryptionConfig → SshBasePrivateKey → (comment : List ℕ) → Bool
+ppk_asks m out version config key comment =
+    not (is_hardware (public_part key)) && carries_comment (targets.Ppk version config) comment
+    && asks_under m out.pass out.fresh version config key comment

@@ -1,0 +1,139 @@
+//! A key written as OpenSSH's private key.
+
+ghost use Rattle.std.specs.Prelude.{◌≡◌, IfOk, IfErr, Ok, Err, take};
+ghost use Rattle.std.specs.Option.{option_copied};
+ghost use Rattle.picky_suite.specs.Asked.{GivesAsked, LeavesSuite};
+ghost use Rattle.picky_wire.specs.Count.{Rose};
+ghost use Rattle.picky_wire.specs.Gives.{Gives};
+ghost use Rattle.picky_sshkey.specs.Made.{made_option};
+ghost use Rattle.picky_sshkey.specs.Written.{text_writing_asks};
+ghost use Rattle.picky_target.specs.inner.Envelope.{salt_judged, envelope_refusal as envelope_refusal_of, made as made_of, drafted as drafted_of, text_of_key as text_of_key_of, envelope_written, envelope_asks};
+
+use crate::comment::carries_comment;
+use crate::error::ConvertError;
+use crate::target::Target;
+use picky_sshkey::{SshBasePrivateKey, SshPrivateKey, SshPrivateKeyError};
+use picky_suite::{Suite, bcrypt_ok};
+use picky_wire::Text;
+use std::alloc::Global;
+
+/// How many fresh bytes a salt takes.
+const SALT_LEN: usize = 16;
+
+/// How often bcrypt is run.
+const ROUNDS: u32 = 16;
+
+/// OpenSSH's text of a key and a comment, sealed where there is a passphrase.
+#[tactic(auto, using(crate::proofs::EnvelopeLemmas::drafted_no_fault))]
+pub fn write_envelope<S: Suite>(
+    alloc: Global,
+    suite: &mut S,
+    key: SshBasePrivateKey,
+    comment: &str,
+    pass: Option<&str>,
+    fresh: &[u8],
+) -> Result<Text, ConvertError>
+    ensures gives { GivesAsked ConvertError.NoMemory (ConvertError.Private SshPrivateKeyError.SuiteFault) (λ text. text) result
+        (envelope_written (S.meanings suite.old) (record { pass = option_copied pass.entry; fresh = fresh.now }) key comment.now)
+        (envelope_asks (record { pass = option_copied pass.entry; fresh = fresh.now }) key comment.now)
+        (Rose (S.faults suite.old) (S.faults suite.new)) }
+    ensures suite { LeavesSuite S.meanings S.faults (ConvertError.Private SshPrivateKeyError.SuiteFault)
+        (envelope_asks (record { pass = option_copied pass.entry; fresh = fresh.now }) key comment.now) result
+        suite.old suite.new }
+{
+    match drafted(alloc, key, comment, pass, fresh) {
+        Ok(key) => text_of_key(alloc, suite, &key),
+        Err(e) => Err(e),
+    }
+}
+
+/// OpenSSH's key. Refuses, in order: `CommentNotCarried`; where it is to be sealed `Private(HashingError)` and
+/// `FreshTooShort`; `TooLong`.
+fn drafted(
+    alloc: Global,
+    key: SshBasePrivateKey,
+    comment: &str,
+    pass: Option<&str>,
+    fresh: &[u8],
+) -> Result<SshPrivateKey, ConvertError>
+    ensures { Gives ConvertError.NoMemory (λ key. key) result
+        (drafted_of (record { pass = option_copied pass.entry; fresh = fresh.now }) key comment.now) }
+{
+    if !carries_comment(Target::OpenSsh, comment) {
+        return Err(ConvertError::CommentNotCarried);
+    }
+    match salt_under(pass, fresh) {
+        Ok(salt) => made(alloc, key, comment, pass, &salt),
+        Err(e) => Err(e),
+    }
+}
+
+/// The salt of an envelope; one that isn't sealed has none, whatever it is given. Refuses, in order: `Private(HashingError)`,
+/// `FreshTooShort`.
+fn salt_under(pass: Option<&str>, fresh: &[u8]) -> Result<[u8; SALT_LEN], ConvertError>
+    ensures ok { IfOk result (λ salt. (salt_judged (option_copied pass.entry) fresh.now ≡ Ok tt)
+        × (made_option (option_copied pass.entry) salt ≡ made_option (option_copied pass.entry) (take 16 fresh.now))) }
+    ensures err { IfErr result (λ e. salt_judged (option_copied pass.entry) fresh.now ≡ Err e) }
+{
+    let mut salt = [0; SALT_LEN];
+    match pass {
+        Some(pass) => {
+            if !bcrypt_ok(pass.len(), SALT_LEN, ROUNDS) {
+                return Err(ConvertError::Private(SshPrivateKeyError::HashingError));
+            }
+            if fresh.len() < SALT_LEN {
+                return Err(ConvertError::FreshTooShort);
+            }
+            let (front, _) = fresh.split_at(SALT_LEN);
+            salt.copy_from_slice(front);
+            Ok(salt)
+        }
+        None => Ok(salt),
+    }
+}
+
+/// The key of these parts. Refuses, in order: `TooLong`.
+fn made(
+    alloc: Global,
+    key: SshBasePrivateKey,
+    comment: &str,
+    pass: Option<&str>,
+    salt: &[u8; SALT_LEN],
+) -> Result<SshPrivateKey, ConvertError>
+    ensures { Gives ConvertError.NoMemory (λ key. key) result
+        (made_of (option_copied pass.entry) key comment.now salt.now) }
+{
+    match SshPrivateKey::from_base(alloc, key, pass, comment, salt) {
+        Ok(key) => Ok(key),
+        Err(e) => Err(envelope_refusal(e)),
+    }
+}
+
+/// The text of a key, sealed where it has a passphrase.
+fn text_of_key<S: Suite>(
+    alloc: Global,
+    suite: &mut S,
+    key: &SshPrivateKey,
+) -> Result<Text, ConvertError>
+    ensures gives { GivesAsked ConvertError.NoMemory (ConvertError.Private SshPrivateKeyError.SuiteFault) (λ text. text) result
+        (text_of_key_of (S.meanings suite.old) key.now) (text_writing_asks key.now)
+        (Rose (S.faults suite.old) (S.faults suite.new)) }
+    ensures suite { LeavesSuite S.meanings S.faults (ConvertError.Private SshPrivateKeyError.SuiteFault)
+        (text_writing_asks key.now) result suite.old suite.new }
+{
+    match key.to_string(alloc, suite) {
+        Ok(text) => Ok(text),
+        Err(e) => Err(envelope_refusal(e)),
+    }
+}
+
+/// A refusal of OpenSSH's key as the conversion's: what is too long is the text.
+fn envelope_refusal(e: SshPrivateKeyError) -> ConvertError
+    ensures { result ≡ envelope_refusal_of e }
+{
+    match e {
+        SshPrivateKeyError::NoMemory => ConvertError::NoMemory,
+        SshPrivateKeyError::TooLong => ConvertError::TooLong,
+        e => ConvertError::Private(e),
+    }
+}

@@ -1,0 +1,38 @@
+//! Why a key text is not converted.
+
+use picky_key_text::ReadError;
+use picky_ppk::PuttyError;
+use picky_sshkey::SshPrivateKeyError;
+use thiserror::Error;
+
+/// Why a key text is not converted.
+#[derive(Debug, Drop, PartialEq, Eq, Error)]
+pub enum ConvertError {
+    /// The key text means nothing.
+    #[error("Input")]
+    Input(ReadError),
+    /// The target keeps a secret, and the key is a public one.
+    #[error("NoPrivateKey")]
+    NoPrivateKey,
+    /// The target can't hold the comment.
+    #[error("CommentNotCarried")]
+    CommentNotCarried,
+    /// OpenSSH's private key can't be sealed so.
+    #[error("Private")]
+    Private(SshPrivateKeyError),
+    /// PuTTY's format can't hold the key, or it can't be sealed so.
+    #[error("Putty")]
+    Putty(PuttyError),
+    /// Sealing takes more fresh bytes than there are.
+    #[error("FreshTooShort")]
+    FreshTooShort,
+    /// What is to be written has more bytes than a length of the wire can say.
+    #[error("TooLong")]
+    TooLong,
+    /// A block of PuTTY's file has more lines than its count can say.
+    #[error("TooManyLines")]
+    TooManyLines,
+    /// Memory ran out.
+    #[error("NoMemory")]
+    NoMemory,
+}

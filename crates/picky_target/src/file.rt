@@ -1,0 +1,368 @@
+//! A key written as PuTTY's private key file.
+
+ghost use Rattle.std.specs.Prelude.{◌≡◌, ◌<◌, ◌^◌, IfOk, length, nat_le, replicate, slice_index};
+ghost use Rattle.std.specs.Option.{option_copied};
+ghost use Rattle.picky_layout.specs.Mpint.{mpint_of};
+ghost use Rattle.picky_kv_words.specs.declared.choices.PpkVersionKey.TheVariants.{V3};
+ghost use Rattle.picky_suite.specs.Asked.{GivesAsked, LeavesSuite};
+ghost use Rattle.picky_wire.specs.Count.{Rose};
+ghost use Rattle.picky_wire.specs.Gives.{Gives};
+ghost use Rattle.picky_sshkey_blob.specs.Key.{public_part};
+ghost use Rattle.picky_ppk_parts.specs.Secret.{secret_bytes};
+ghost use Rattle.picky_ppk_file.specs.File.{version_of};
+ghost use Rattle.picky_putty_public.specs.PuttyRefusal.{is_hardware as is_hardware_of};
+ghost use Rattle.picky_ppk.specs.Sealed.{draft_of, is_sealable, padding_len as missing_len};
+ghost use Rattle.picky_target.specs.Drafts.{padding_len as padding_len_of, plain_file as plain_file_of, salt_len as salt_len_of};
+ghost use Rattle.picky_target.specs.Judged.{derives_under, mac_len};
+ghost use Rattle.picky_target.specs.inner.File.{drawn, judged_text, measured, plain_drafted, plain_written, sealed_text as sealed_text_of};
+ghost use Rattle.picky_target.specs.inner.File.{sealed_written, sealed_asks, text_of_file as text_of_file_of, ppk_written, ppk_asks};
+
+use crate::comment::carries_comment;
+use crate::error::ConvertError;
+use crate::public::{no_such_kind, putty_refusal};
+use crate::target::Target;
+use picky_ppk::{Ppk, PpkEncryptionConfig, PpkFile, PpkVersion, PuttyError, file_draft};
+use picky_sshkey::SshBasePrivateKey;
+use picky_suite::{Suite, argon2_ok};
+use picky_wire::{Bytes, Mpint, NoMemory, Text};
+use std::alloc::Global;
+
+/// How many bytes a length of the wire can't say.
+const TOO_MANY: usize = 1 << 32;
+
+/// How many bytes a block of the cipher has.
+const BLOCK_LEN: usize = 16;
+
+/// PuTTY's file of a key and a comment in a version, sealed where there is a passphrase.
+pub fn write_file<S: Suite>(
+    alloc: Global,
+    suite: &mut S,
+    version: PpkVersion,
+    config: PpkEncryptionConfig,
+    key: &SshBasePrivateKey,
+    comment: Text,
+    pass: Option<&str>,
+    fresh: &[u8],
+) -> Result<Text, ConvertError>
+    ensures gives { GivesAsked ConvertError.NoMemory (ConvertError.Putty PuttyError.SuiteFault) (λ text. text) result
+        (ppk_written (S.meanings suite.old) (record { pass = option_copied pass.entry; fresh = fresh.now }) version config key.now comment)
+        (ppk_asks (S.meanings suite.old) (record { pass = option_copied pass.entry; fresh = fresh.now }) version config key.now comment)
+        (Rose (S.faults suite.old) (S.faults suite.new)) }
+    ensures suite { LeavesSuite S.meanings S.faults (ConvertError.Putty PuttyError.SuiteFault)
+        (ppk_asks (S.meanings suite.old) (record { pass = option_copied pass.entry; fresh = fresh.now }) version config key.now comment) result
+        suite.old suite.new }
+{
+    if is_hardware(key) {
+        return Err(no_such_kind(alloc));
+    }
+    if !carries_comment(Target::Ppk(version, config), comment.as_str()) {
+        return Err(ConvertError::CommentNotCarried);
+    }
+    match pass {
+        Some(pass) => write_sealed(alloc, suite, version, config, key, comment, pass, fresh),
+        None => write_plain(alloc, suite, version, key, comment),
+    }
+}
+
+/// Whether a device keeps the key's secret.
+fn is_hardware(key: &SshBasePrivateKey) -> bool
+    ensures { result ≡ is_hardware_of (public_part key.now) }
+{
+    match key {
+        SshBasePrivateKey::Rsa { .. }
+        | SshBasePrivateKey::Ec { .. }
+        | SshBasePrivateKey::Ed { .. } => false,
+        SshBasePrivateKey::SkEcdsaSha2NistP256 { .. } | SshBasePrivateKey::SkEd25519 { .. } => true,
+    }
+}
+
+/// The file that isn't sealed.
+fn write_plain<S: Suite>(
+    alloc: Global,
+    suite: &S,
+    version: PpkVersion,
+    key: &SshBasePrivateKey,
+    comment: Text,
+) -> Result<Text, ConvertError>
+    ensures { Gives ConvertError.NoMemory (λ text. text) result (plain_written (S.meanings suite.now) version key.now comment) }
+{
+    match Ppk::from_base_key(alloc, suite, version, key, comment) {
+        Ok(ppk) => text_of_file(alloc, &ppk),
+        Err(e) => Err(putty_refusal(e)),
+    }
+}
+
+/// The text of a file.
+fn text_of_file(alloc: Global, ppk: &Ppk) -> Result<Text, ConvertError>
+    ensures { Gives ConvertError.NoMemory (λ text. text) result (text_of_file_of ppk.now) }
+{
+    match ppk.to_string(alloc) {
+        Ok(text) => Ok(text),
+        Err(e) => Err(putty_refusal(e)),
+    }
+}
+
+/// The file that is sealed: what sealing takes is judged first, then what is to be written, and then the suite is asked.
+#[tactic(auto, using(crate::proofs::FaultLemmas::sealing_faults, crate::proofs::FileLemmas::sealing_steps))]
+fn write_sealed<S: Suite>(
+    alloc: Global,
+    suite: &mut S,
+    version: PpkVersion,
+    config: PpkEncryptionConfig,
+    key: &SshBasePrivateKey,
+    comment: Text,
+    pass: &str,
+    fresh: &[u8],
+) -> Result<Text, ConvertError>
+    ensures gives { GivesAsked ConvertError.NoMemory (ConvertError.Putty PuttyError.SuiteFault) (λ text. text) result
+        (sealed_written (S.meanings suite.old) pass.now fresh.now version config key.now comment)
+        (sealed_asks (S.meanings suite.old) pass.now fresh.now version config key.now comment)
+        (Rose (S.faults suite.old) (S.faults suite.new)) }
+    ensures suite { LeavesSuite S.meanings S.faults (ConvertError.Putty PuttyError.SuiteFault)
+        (sealed_asks (S.meanings suite.old) pass.now fresh.now version config key.now comment) result suite.old suite.new }
+{
+    let fresh = match drawn_under(alloc, version, config, key, pass, fresh) {
+        Ok(fresh) => fresh,
+        Err(e) => return Err(e),
+    };
+    match plain_file(alloc, suite, version, config, key, comment, &fresh) {
+        Ok(ppk) => sealed_text(alloc, suite, &ppk, config, pass, &fresh),
+        Err(e) => Err(e),
+    }
+}
+
+/// The text of a file that is sealed.
+#[tactic(auto, using(crate::proofs::FaultLemmas::text_no_fault))]
+fn sealed_text<S: Suite>(
+    alloc: Global,
+    suite: &mut S,
+    ppk: &Ppk,
+    config: PpkEncryptionConfig,
+    pass: &str,
+    fresh: &Drawn<'_>,
+) -> Result<Text, ConvertError>
+    requires padding { length fresh.now.padding.now ≡ missing_len ppk.now }
+    requires salt { version_of ppk.now.sealing ≡ V3 → length fresh.now.salt.now ≡ config.argon2_salt_size }
+    ensures gives { GivesAsked ConvertError.NoMemory (ConvertError.Putty PuttyError.SuiteFault) (λ text. text) result
+        (sealed_text_of (S.meanings suite.old) pass.now config
+        (record { salt = fresh.now.salt.now; padding = fresh.now.padding.now; plain = ppk.now }))
+        (is_sealable pass.now ppk.now (draft_of config fresh.now.salt.now fresh.now.padding.now ppk.now))
+        (Rose (S.faults suite.old) (S.faults suite.new)) }
+    ensures suite { LeavesSuite S.meanings S.faults (ConvertError.Putty PuttyError.SuiteFault)
+        (is_sealable pass.now ppk.now (draft_of config fresh.now.salt.now fresh.now.padding.now ppk.now)) result
+        suite.old suite.new }
+{
+    match ppk.encrypt(alloc, suite, pass, config, fresh.salt, fresh.padding) {
+        Ok(sealed) => text_of_file(alloc, &sealed),
+        Err(e) => Err(putty_refusal(e)),
+    }
+}
+
+/// The fresh bytes that sealing takes.
+#[derive(Drop)]
+struct Drawn<'a> {
+    salt: &'a [u8],
+    padding: &'a [u8],
+}
+
+/// The salt and the padding. Refuses, in order: `Putty(Argon2)`, `FreshTooShort`.
+fn drawn_under<'a>(
+    alloc: Global,
+    version: PpkVersion,
+    config: PpkEncryptionConfig,
+    key: &SshBasePrivateKey,
+    pass: &str,
+    fresh: &'a [u8],
+) -> Result<Drawn<'a>, ConvertError>
+    ensures gives { Gives ConvertError.NoMemory (λ d. (d.salt.now, d.padding.now)) result (drawn pass.now fresh.now version config key.now) }
+    ensures salt { IfOk result (λ d. length d.salt.now ≡ salt_len_of version config) }
+    ensures padding { IfOk result (λ d. length d.padding.now ≡ padding_len_of key.now) }
+{
+    if !can_derive(version, config, pass) {
+        return Err(ConvertError::Putty(PuttyError::Argon2));
+    }
+    let padding_len = match padding_len(alloc, key) {
+        Ok(len) => len,
+        Err(NoMemory) => return Err(ConvertError::NoMemory),
+    };
+    let salt_len = salt_len(version, config);
+    if fresh.len() < salt_len + padding_len {
+        return Err(ConvertError::FreshTooShort);
+    }
+    let (salt, more) = fresh.split_at(salt_len);
+    let (padding, _) = more.split_at(padding_len);
+    Ok(Drawn { salt, padding })
+}
+
+/// Whether Argon2 can be run, where it is.
+fn can_derive(version: PpkVersion, config: PpkEncryptionConfig, pass: &str) -> bool
+    ensures { result ≡ derives_under (Target.Ppk version config) pass.now }
+{
+    match version {
+        PpkVersion::V2 => true,
+        PpkVersion::V3 => argon2_ok(
+            config.argon2_memory,
+            config.argon2_passes,
+            config.argon2_parallelism,
+            pass.len(),
+            config.argon2_salt_size as usize,
+        ),
+    }
+}
+
+/// How many fresh bytes the salt takes.
+fn salt_len(version: PpkVersion, config: PpkEncryptionConfig) -> usize
+    ensures len { result ≡ salt_len_of version config }
+    ensures short { result < 2 ^ 32 }
+{
+    match version {
+        PpkVersion::V2 => 0,
+        PpkVersion::V3 => config.argon2_salt_size as usize,
+    }
+}
+
+/// How many fresh bytes the padding takes.
+fn padding_len(alloc: Global, key: &SshBasePrivateKey) -> Result<usize, NoMemory>
+    ensures len { IfOk result (λ n. n ≡ padding_len_of key.now) }
+    ensures few { IfOk result (λ n. n < 16) }
+{
+    let len = secret_len(alloc, key)?;
+    Ok((BLOCK_LEN - len % BLOCK_LEN) % BLOCK_LEN)
+}
+
+/// How many bytes the private bytes have without padding.
+#[tactic(auto, unfolding(picky_ppk_parts::specs::Secret::secret_bytes))]
+fn secret_len(alloc: Global, key: &SshBasePrivateKey) -> Result<usize, NoMemory>
+    ensures { IfOk result (λ n. n ≡ length (secret_bytes key.now)) }
+{
+    match key {
+        SshBasePrivateKey::Rsa { d, p, q, iqmp, .. } => {
+            Ok(mpint_len(d) + mpint_len(p) + mpint_len(q) + mpint_len(iqmp))
+        }
+        SshBasePrivateKey::Ec { secret, .. } => Ok(mpint_len(secret)),
+        SshBasePrivateKey::Ed { secret, .. } => match Mpint::from_be(alloc, secret) {
+            Ok(number) => Ok(mpint_len(&number)),
+            Err(_) => Err(NoMemory),
+        },
+        SshBasePrivateKey::SkEcdsaSha2NistP256 { .. } | SshBasePrivateKey::SkEd25519 { .. } => {
+            Ok(0)
+        }
+    }
+}
+
+/// How many bytes a number's field has.
+#[tactic(auto, using(crate::proofs::SizeLemmas::number_lengths))]
+fn mpint_len(number: &Mpint) -> usize
+    ensures len { result ≡ length (mpint_of number.now) }
+    ensures short { result < 2 ^ 33 }
+{
+    let bytes = number.bytes();
+    if is_high(bytes) {
+        bytes.len() + 5
+    } else {
+        bytes.len() + 4
+    }
+}
+
+/// Whether a zero byte stands before a number's bytes, since the first of them is 128 or more.
+fn is_high(bytes: &[u8]) -> bool
+    ensures { result ≡ nat_le 128 (slice_index bytes.now 0) }
+{
+    match bytes.first() {
+        Some(first) => *first >= 128,
+        None => false,
+    }
+}
+
+/// The file before it is sealed, where the sealed one isn't too long, or has too many lines.
+#[tactic(auto, using(crate::proofs::FileLemmas::made_is_plain))]
+fn plain_file<S: Suite>(
+    alloc: Global,
+    suite: &S,
+    version: PpkVersion,
+    config: PpkEncryptionConfig,
+    key: &SshBasePrivateKey,
+    comment: Text,
+    fresh: &Drawn<'_>,
+) -> Result<Ppk, ConvertError>
+    requires salt { version ≡ V3 → length fresh.now.salt.now ≡ config.argon2_salt_size }
+    requires padding { length fresh.now.padding.now < 16 }
+    ensures gives { Gives ConvertError.NoMemory (λ ppk. ppk) result
+        (plain_drafted (S.meanings suite.now) version config key.now comment fresh.now.salt.now fresh.now.padding.now) }
+    ensures file { IfOk result (λ ppk. plain_file_of (S.meanings suite.now) version key.now comment ≡ ppk) }
+{
+    match Ppk::from_base_key(alloc, suite, version, key, comment) {
+        Ok(ppk) => match measure(alloc, &ppk, config, fresh) {
+            Ok(()) => Ok(ppk),
+            Err(e) => Err(e),
+        },
+        Err(e) => Err(putty_refusal(e)),
+    }
+}
+
+/// Judges the sealed file's lengths and lines, by the file as it is before it is sealed. Refuses, in order: `TooLong`,
+/// `TooManyLines`.
+fn measure(
+    alloc: Global,
+    ppk: &Ppk,
+    config: PpkEncryptionConfig,
+    fresh: &Drawn<'_>,
+) -> Result<(), ConvertError>
+    requires salt { version_of ppk.now.sealing ≡ V3 → length fresh.now.salt.now ≡ config.argon2_salt_size }
+    requires padding { length fresh.now.padding.now < 16 }
+    ensures { Gives ConvertError.NoMemory (λ _. tt) result
+        (measured config fresh.now.salt.now fresh.now.padding.now ppk.now) }
+{
+    let file = ppk.file();
+    if file.private_bytes.as_slice().len() + fresh.padding.len() >= TOO_MANY {
+        return Err(ConvertError::TooLong);
+    }
+    match file_draft(alloc, file, config, fresh.salt, fresh.padding) {
+        Ok(draft) => match with_zero_mac(alloc, draft) {
+            Ok(draft) => judge_text(alloc, &draft),
+            Err(NoMemory) => Err(ConvertError::NoMemory),
+        },
+        Err(NoMemory) => Err(ConvertError::NoMemory),
+    }
+}
+
+/// The file with zeros for its MAC.
+fn with_zero_mac(alloc: Global, file: PpkFile) -> Result<PpkFile, NoMemory>
+    ensures { IfOk result (λ zeroed. zeroed ≡ record file { mac = replicate (mac_len (version_of file.sealing)) 0 }) }
+{
+    let mac: &[u8] = match file.sealing.version() {
+        PpkVersion::V2 => &[0; 20],
+        PpkVersion::V3 => &[0; 32],
+    };
+    match Bytes::new(alloc, mac) {
+        Ok(mac) => {
+            let PpkFile {
+                sealing,
+                algorithm,
+                comment,
+                public_key,
+                private_bytes,
+                ..
+            } = file;
+            Ok(PpkFile {
+                sealing,
+                algorithm,
+                comment,
+                public_key,
+                private_bytes,
+                mac,
+            })
+        }
+        Err(_) => Err(NoMemory),
+    }
+}
+
+/// Judges the text of a file. Refuses, in order: `TooLong`, `TooManyLines`.
+fn judge_text(alloc: Global, file: &PpkFile) -> Result<(), ConvertError>
+    ensures { Gives ConvertError.NoMemory (λ _. tt) result (judged_text file.now) }
+{
+    match file.to_string(alloc) {
+        Ok(_) => Ok(()),
+        Err(e) => Err(putty_refusal(e)),
+    }
+}

@@ -1,0 +1,50 @@
+//! The laws of what a target carries and of what is written, each as the contract of a function that does nothing.
+
+ghost use Rattle.std.specs.Prelude.{◌≡◌, List, ℕ, Ok, Err};
+ghost use Rattle.std.specs.Option.{IfSome};
+ghost use Rattle.std.specs.Str.{IsUtf8};
+ghost use Rattle.picky_layout.specs.Numbers.{IsBytes};
+ghost use Rattle.picky_suite.specs.Meanings.{Meanings};
+ghost use Rattle.picky_wire.specs.Equality.{IsEquality};
+ghost use Rattle.picky_key_text.specs.declared.meaning.Meaning.{Meaning as Meant};
+ghost use Rattle.picky_key_text.specs.Kept.{IsKept};
+ghost use Rattle.picky_key_text.specs.Reads.{Reads};
+ghost use Rattle.picky_target.specs.declared.error.ConvertError.{ConvertError as Refused};
+ghost use Rattle.picky_target.specs.declared.target.Target.{Target as To};
+ghost use Rattle.picky_target.specs.Carried.{Carries, Holds, Place};
+ghost use Rattle.picky_target.specs.Judged.{judged, refusal};
+ghost use Rattle.picky_target.specs.Output.{Output};
+ghost use Rattle.picky_target.specs.ReadBack.{IsTarget, kept, under};
+ghost use Rattle.picky_target.specs.Texts.{Spells, text_for};
+
+use crate::error::ConvertError;
+use crate::target::Target;
+
+/// A target takes a meaning exactly where it carries it, and its refusal is that of a place that doesn't hold.
+pub fn targets_take_what_they_carry()
+    ensures carries { (out : Output) (to : To) (m : Meant) → judged out to m ≡ Ok tt → Carries out to m }
+    ensures takes { (out : Output) (to : To) (m : Meant) → Carries out to m → judged out to m ≡ Ok tt }
+    ensures refuses { (out : Output) (to : To) (m : Meant) (e : Refused) → judged out to m ≡ Err e
+        → (place : Place) × (e ≡ refusal to place) × (Holds out to m place → ⊥) }
+{}
+
+/// A meaning that a target carries has one text there.
+pub fn text_is_the_one_spelling()
+    ensures spells { (s : Meanings) (out : Output) (to : To) (m : Meant) → Spells s out to m (text_for s out to m) }
+    ensures one { (s : Meanings) (out : Output) (to : To) (m : Meant) (text : List ℕ) → Spells s out to m text
+        → text ≡ text_for s out to m }
+{}
+
+/// A text that spells what its target carries means, under the passphrase that it is sealed with, what the target keeps of it:
+/// the key or its public part, and the comment. Every value of `Target` has numbers as `IsTarget` says.
+pub fn text_is_read_back()
+    ensures { (s : Meanings) (out : Output) (to : To) (m : Meant) (text : List ℕ) → IsTarget to → IsKept m
+        → IsBytes out.fresh → IfSome out.pass IsUtf8 → Carries out to m → Spells s out to m text
+        → Reads (under s out.pass) text (kept to m) }
+{}
+
+/// Two targets are equal exactly where their contents are, and so are refusals.
+pub fn equality_is_of_contents()
+    ensures target { IsEquality ⟦<Target as PartialEq>⟧.eq }
+    ensures error { IsEquality ⟦<ConvertError as PartialEq>⟧.eq }
+{}

@@ -1,0 +1,15 @@
+//! The texts that a key and a comment are written as, target by target.
+#![tactic(auto)]
+
+mod comment;
+mod envelope;
+mod error;
+mod file;
+pub mod laws;
+mod public;
+mod target;
+mod writing;
+
+pub use error::ConvertError;
+pub use target::Target;
+pub use writing::write_text;

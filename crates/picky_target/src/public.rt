@@ -1,0 +1,76 @@
+//! A public key written as a line, and as PuTTY's public key.
+
+ghost use Rattle.std.specs.Prelude.{◌≡◌, ◌⊎◌};
+ghost use Rattle.picky_wire.specs.Gives.{Gives};
+ghost use Rattle.picky_ppk_parts.specs.Unsupported.{no_hardware_keys as no_hardware_keys_of};
+ghost use Rattle.picky_target.specs.inner.Public.{line_written, putty_written, putty_refusal as putty_refusal_of, text_of_putty as text_of_putty_of};
+
+use crate::comment::carries_comment;
+use crate::error::ConvertError;
+use crate::target::Target;
+use picky_ppk::{PuttyError, PuttyPublicKey};
+use picky_ppk_parts::no_hardware_keys;
+use picky_putty_public::is_hardware;
+use picky_sshpub::{SshPublicKey, SshPublicKeyError};
+use picky_wire::Text;
+use std::alloc::Global;
+
+/// The public key line.
+#[tactic(auto, unfolding(picky_sshpub::specs::LineRefusal::line_text))]
+pub fn write_line(alloc: Global, key: &SshPublicKey) -> Result<Text, ConvertError>
+    ensures { Gives ConvertError.NoMemory (λ text. text) result (line_written key.now) }
+{
+    if !carries_comment(Target::OpenSshPublic, key.comment.as_str()) {
+        return Err(ConvertError::CommentNotCarried);
+    }
+    match key.to_string(alloc) {
+        Ok(text) => Ok(text),
+        Err(SshPublicKeyError::TooLong) => Err(ConvertError::TooLong),
+        Err(_) => Err(ConvertError::NoMemory),
+    }
+}
+
+/// PuTTY's text.
+pub fn write_putty(alloc: Global, key: SshPublicKey) -> Result<Text, ConvertError>
+    ensures { Gives ConvertError.NoMemory (λ text. text) result (putty_written key) }
+{
+    if is_hardware(&key.inner_key) {
+        return Err(no_such_kind(alloc));
+    }
+    if !carries_comment(Target::PuttyPublic, key.comment.as_str()) {
+        return Err(ConvertError::CommentNotCarried);
+    }
+    text_of_putty(alloc, key)
+}
+
+/// The text of PuTTY's key for this one.
+fn text_of_putty(alloc: Global, key: SshPublicKey) -> Result<Text, ConvertError>
+    ensures { Gives ConvertError.NoMemory (λ text. text) result (text_of_putty_of key) }
+{
+    match PuttyPublicKey::take_openssh(alloc, key) {
+        Ok(putty) => match putty.to_string(alloc) {
+            Ok(text) => Ok(text),
+            Err(e) => Err(putty_refusal(e)),
+        },
+        Err(e) => Err(putty_refusal(e)),
+    }
+}
+
+/// The refusal of a key whose secret a device keeps.
+pub fn no_such_kind(alloc: Global) -> ConvertError
+    ensures { (result ≡ ConvertError.Putty no_hardware_keys_of) ⊎ (result ≡ ConvertError.NoMemory) }
+{
+    putty_refusal(no_hardware_keys(alloc))
+}
+
+/// A refusal of PuTTY's key or file as the conversion's: what is too long, or has too many lines, is the text.
+pub fn putty_refusal(e: PuttyError) -> ConvertError
+    ensures { result ≡ putty_refusal_of e }
+{
+    match e {
+        PuttyError::NoMemory => ConvertError::NoMemory,
+        PuttyError::TooLong => ConvertError::TooLong,
+        PuttyError::TooManyLines => ConvertError::TooManyLines,
+        e => ConvertError::Putty(e),
+    }
+}
