@@ -9,7 +9,6 @@ pub mod FileWritten
 pub mod WrittenLemmas
 pub mod PlaceLemmas
 pub mod FormLaws
-pub mod Utf8Lemmas
 pub mod ByteLemmas
 pub mod EnvelopeBack
 pub mod FileBack
