@@ -1,6 +1,7 @@
 pub mod CountedLemmas
 pub mod PpkLemmas
-pub mod RefusalLemmas
-pub mod Utf8Lemmas
-pub mod ReadingLemmas
-pub mod KeptLemmas
+pub mod FileRefusalLemmas
+pub mod RefusalLaws
+pub mod Utf8Laws
+pub mod ReadingLaws
+pub mod KeptLaws

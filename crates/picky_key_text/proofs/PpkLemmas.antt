@@ -35,7 +35,8 @@ use Rattle.picky_key_text.specs.Key.{private_meaning}
 use Rattle.picky_key_text.specs.Order.{opened, file_key, ppk_key}
 use Rattle.picky_key_text.specs.PpkText.{CanOpen, IsUnsealed, AreOpened, IsPpkText}
 use Rattle.picky_key_text.specs.Reader.{Reader}
-use Rattle.picky_key_text.proofs.CountedLemmas.{standing_is_counted, uncut_stands, counted_stands}
+use Rattle.picky_ppk_parts.proofs.CountedLaws.{standing_is_counted}
+use Rattle.picky_key_text.proofs.CountedLemmas.{uncut_stands, counted_stands}
 
 -- ---- tests
 

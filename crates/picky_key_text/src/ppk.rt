@@ -18,7 +18,7 @@ use std::alloc::Global;
 
 /// The key and the comment of a file's text. Refuses, in order: what `Ppk::from_str` refuses; where it is sealed
 /// `Encrypted` without a passphrase, and what `Ppk::decrypt` refuses; what `Ppk::base_key` refuses.
-#[tactic(auto, unfolding(crate::specs::Order::ppk_key, crate::specs::Order::ppk_asks), using(crate::proofs::ReadingLemmas::file_texts, crate::proofs::RefusalLemmas::no_fault))]
+#[tactic(auto, unfolding(crate::specs::Order::ppk_key, crate::specs::Order::ppk_asks), using(crate::proofs::ReadingLaws::file_texts, crate::proofs::RefusalLaws::no_fault))]
 pub fn ppk_key<S: Suite>(
     alloc: Global,
     suite: &mut S,
@@ -79,7 +79,7 @@ fn opened<S: Suite>(
 }
 
 /// The key of a file that isn't sealed, and the comment.
-#[tactic(auto, using(crate::proofs::RefusalLemmas::no_fault))]
+#[tactic(auto, using(crate::proofs::RefusalLaws::no_fault))]
 fn key_of(alloc: Global, ppk: &Ppk) -> Result<Meaning, PuttyError>
     ensures gives { Gives PuttyError.NoMemory (λ meaning. meaning) result (file_key ppk.now) }
     ensures no_fault { result ≢ Err PuttyError.SuiteFault }

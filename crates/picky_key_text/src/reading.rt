@@ -102,7 +102,7 @@ fn read_as<S: Suite>(
 }
 
 /// The public key that PuTTY's text says.
-#[tactic(auto, using(crate::proofs::RefusalLemmas::no_fault))]
+#[tactic(auto, using(crate::proofs::RefusalLaws::no_fault))]
 fn putty_public_key(alloc: Global, input: &str) -> Result<SshPublicKey, PuttyError>
     ensures gives { Gives PuttyError.NoMemory (λ key. key) result (and_then (putty_meaning input.now) to_openssh) }
     ensures no_fault { result ≢ Err PuttyError.SuiteFault }

@@ -136,6 +136,16 @@ fields_counted algorithm public key front rest named spells =
     let are = fields_are_strings public key front spells in
     ap (λ a. counted a (front ++ rest)) named ∙ front_counted (algorithm_of public) are.0 front rest are.1
 
+-- Private bytes that stand for a key have their counted strings.
+pub standing_is_counted : (algorithm : PpkKeyAlgorithmValue) (blob private : List ℕ) (key : SshBasePrivateKey)
+    → StandsForKey algorithm blob private key → (n : ℕ) × (counted algorithm private ≡ Ok n)
+standing_is_counted algorithm blob private key stands =
+    let rest = stands.private_begins.0 in
+    let fits = stands.private_begins.1 in (
+      length fits.0,
+      ap (counted algorithm) fits.2 ∙ fields_counted algorithm stands.public key fits.0 rest stands.named fits.1,
+    )
+
 -- The key stays the same where its private bytes are cut after the counted strings, whatever follows then.
 pub cut_stands : (algorithm : PpkKeyAlgorithmValue) (blob private more : List ℕ) (key : SshBasePrivateKey) (n : ℕ)
     → StandsForKey algorithm blob private key → counted algorithm private ≡ Ok n

@@ -1,5 +1,5 @@
 -- The lemma on what a meaning keeps.
-use Rattle.picky_key_text.proofs.KeptLemmas.{meaning_is_kept}
+use Rattle.picky_key_text.proofs.KeptLaws.{meaning_is_kept}
 use Rattle.picky_key_text.proofs.laws.meaning_keeps_its_ranges.Goals as goal
 
 pub returns : goal.returns

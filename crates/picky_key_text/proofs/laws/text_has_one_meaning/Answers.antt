@@ -1,5 +1,5 @@
 -- The lemmas on the meaning of a text.
-use Rattle.picky_key_text.proofs.ReadingLemmas.{reading_says, reading_of, one_meaning}
+use Rattle.picky_key_text.proofs.ReadingLaws.{reading_says, reading_of, one_meaning}
 use Rattle.picky_key_text.proofs.laws.text_has_one_meaning.Goals as goal
 
 pub returns-clause-says : goal.returns-clause-says

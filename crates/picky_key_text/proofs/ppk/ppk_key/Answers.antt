@@ -1,6 +1,6 @@
 -- The suite is asked of the text as of its file.
 use Rattle.std.specs.Option.{option_copied}
-use Rattle.picky_key_text.proofs.ReadingLemmas.{file_leaves}
+use Rattle.picky_key_text.proofs.ReadingLaws.{file_leaves}
 use Rattle.picky_key_text.proofs.ppk.ppk_key.Goals as goal
 
 pub returns-in-Ok-clause-suite : goal.returns-in-Ok-clause-suite

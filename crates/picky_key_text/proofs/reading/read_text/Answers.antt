@@ -2,7 +2,7 @@
 use Rattle.std.specs.Option.{option_copied}
 use Rattle.picky_wire.specs.Count.{Rose}
 use Rattle.picky_key_text.specs.Order.{asks, fault_of}
-use Rattle.picky_key_text.proofs.ReadingLemmas.{given_means, given_meaning, text_gives, text_leaves}
+use Rattle.picky_key_text.proofs.ReadingLaws.{given_means, given_meaning, text_gives, text_leaves}
 use Rattle.picky_key_text.proofs.reading.read_text.Goals as goal
 
 pub returns-clause-gives : goal.returns-clause-gives

@@ -55,8 +55,8 @@ use Rattle.picky_key_text.specs.Order.{reading}
 use Rattle.picky_key_text.specs.PpkText.{IsUnsealed, AreOpened, IsPpkText}
 use Rattle.picky_key_text.specs.Reader.{Reader}
 use Rattle.picky_key_text.specs.Reads.{Means}
-use Rattle.picky_key_text.proofs.ReadingLemmas.{reading_says}
-use Rattle.picky_key_text.proofs.Utf8Lemmas.{utf8_is_bytes, cut_at_ascii, AreUtf8, lines_are_utf8, unquote_is_utf8}
+use Rattle.picky_key_text.proofs.ReadingLaws.{reading_says}
+use Rattle.picky_key_text.proofs.Utf8Laws.{utf8_is_bytes, cut_at_ascii, AreUtf8, lines_are_utf8, unquote_is_utf8}
 
 -- ---- a key that stands in bytes
 
