@@ -1,109 +1,70 @@
--- The conversion: what each target carries, what is written for it, and the order in which it refuses.
-use Rattle.std.specs.Prelude.{◌≡◌, ◌==◌, ◌&&◌, ◌<◌, ◌^◌, not, length, Bool, true, false, List, ℕ, Result, Ok}
-use Rattle.std.specs.Prelude.{Err, if◌then◌else◌}
-use Rattle.std.specs.List.{list_any}
-use Rattle.std.specs.Str.{bytes_eq, trim_end}
+-- The conversion: what is written for what a key text means, the order in which it is refused, and when a suite is asked.
+use Rattle.std.specs.Prelude.{◌≡◌, ◌⊎◌, ◌||◌, List, ℕ, Bool, false, Result, Ok, Err}
 use Rattle.picky_layout.specs.Outcome.{and_then, map_err}
-use Rattle.picky_text.specs.Lines.{HasNo}
-use Rattle.picky_text.specs.Words.{ends_line}
-use Rattle.picky_sshpub.specs.Blob.{blob_of}
-use Rattle.picky_sshpub.specs.Line.{line_of}
-use Rattle.picky_sshpub.specs.LineRefusal.{is_short}
-use Rattle.picky_putty_public.specs.PuttyPublic.{SpellsPuttyPublic, IsPuttyPublic, putty_public}
-use Rattle.picky_ppk_parts.specs.Unsupported.{no_hardware_keys}
-use Rattle.picky_putty_public.specs.PuttyRefusal.{is_hardware}
-use Rattle.picky_convert.specs.declared.error.ConvertError.{ConvertError}
-use Rattle.picky_convert.specs.declared.error.ConvertError.TheVariants as errors
-use Rattle.picky_convert.specs.declared.meaning.Key.{Key}
-use Rattle.picky_convert.specs.declared.meaning.Meaning.{Meaning}
-use Rattle.picky_convert.specs.declared.conversion.Target.{Target}
-use Rattle.picky_convert.specs.declared.conversion.Target.TheVariants as targets
-use Rattle.picky_convert.specs.Reading.{public_part, public_key, public_meaning, Reads, reading}
-
--- ---- what a target carries
-
--- a line carries a comment without CR, LF and white space at its end
-pub record LineCarries (comment : List ℕ) : Type 0 where
-  pub no_cr : HasNo 13 comment
-  pub no_lf : HasNo 10 comment
-  pub trimmed : trim_end comment ≡ comment
-
--- PuTTY has no key whose secret a device keeps, and its comment line ends at LF
-pub record PuttyCarries (meaning : Meaning) : Type 0 where
-  pub kind : is_hardware (public_part meaning.key) ≡ false
-  pub no_lf : HasNo 10 meaning.comment
-
-abbrev pub Carries : Target → Meaning → Type 0
-Carries targets.OpenSshPublic meaning = LineCarries meaning.comment
-Carries targets.PuttyPublic meaning = PuttyCarries meaning
-
--- ---- what is written
-
--- the text spells the public part of the key, in its canonical blob, and the comment
-abbrev pub Spells : Target → Meaning → List ℕ → Type 0
-Spells targets.OpenSshPublic meaning text = text ≡ line_of (public_key meaning)
-Spells targets.PuttyPublic meaning text =
-    SpellsPuttyPublic (blob_of (public_part meaning.key)) meaning.comment text
-
--- the same, as a function
-abbrev pub text_for : Target → Meaning → List ℕ
-text_for targets.OpenSshPublic meaning = line_of (public_key meaning)
-text_for targets.PuttyPublic meaning =
-    putty_public (blob_of (public_part meaning.key)) meaning.comment
-
--- the written text means the public part of the key and the comment
-abbrev pub ReadsBack : Target → Meaning → List ℕ → Type 0
-ReadsBack targets.OpenSshPublic meaning text = Reads text (public_meaning (public_key meaning))
-ReadsBack targets.PuttyPublic meaning text = IsPuttyPublic text (public_key meaning)
-
--- a length of the wire can say the lengths of what is written
-abbrev pub HasRoom : Target → Meaning → Type 0
-HasRoom targets.OpenSshPublic meaning = length (text_for targets.OpenSshPublic meaning) < 2 ^ 32
-HasRoom targets.PuttyPublic meaning =
-    (length (blob_of (public_part meaning.key)) < 2 ^ 32)
-    × (length (text_for targets.PuttyPublic meaning) < 2 ^ 32)
-
--- the same, as a test
-abbrev pub has_room : Target → Meaning → Bool
-has_room targets.OpenSshPublic meaning = is_short (text_for targets.OpenSshPublic meaning)
-has_room targets.PuttyPublic meaning =
-    is_short (blob_of (public_part meaning.key)) && is_short (text_for targets.PuttyPublic meaning)
-
--- ---- the order of refusals
-
--- the target has keys of this kind
-abbrev pub has_kind : Target → Key → Bool
-has_kind targets.OpenSshPublic key = true
-has_kind targets.PuttyPublic key = not (is_hardware (public_part key))
-
-abbrev pub carries_comment : Target → List ℕ → Bool
-carries_comment targets.OpenSshPublic comment =
-    not (list_any ends_line comment) && bytes_eq (trim_end comment) comment
-carries_comment targets.PuttyPublic comment = not (list_any (λ b. b == 10) comment)
-
--- the text of a meaning, or the first reason why the target has none
-unfoldable pub written_text : Target → Meaning → Result (List ℕ) ConvertError
-written_text target meaning =
-    if has_kind target meaning.key
-    then if carries_comment target meaning.comment
-    then if has_room target meaning
-    then Ok (text_for target meaning)
-    else Err errors.TooLong
-    else Err errors.CommentNotCarried
-    else Err (errors.Putty no_hardware_keys)
+use Rattle.picky_suite.specs.Failures.{IsAskedFault}
+use Rattle.picky_suite.specs.Meanings.{Meanings}
+use Rattle.picky_wire.specs.Count.{Rose}
+use Rattle.picky_key_text.specs.declared.error.ReadError.{ReadError}
+use Rattle.picky_key_text.specs.declared.meaning.Meaning.{Meaning}
+use Rattle.picky_key_text.specs.Order.{asks, fault_of as input_fault, reading}
+use Rattle.picky_key_text.specs.Reads.{Reads}
+use Rattle.picky_target.specs.declared.error.ConvertError.{ConvertError}
+use Rattle.picky_target.specs.declared.error.ConvertError.TheVariants as errors
+use Rattle.picky_target.specs.declared.target.Target.{Target}
+use Rattle.picky_target.specs.Carried.{Carries}
+use Rattle.picky_target.specs.ReadBack.{kept}
+use Rattle.picky_target.specs.Texts.{Spells}
+use Rattle.picky_target.specs.Written.{fault_of as output_fault, written, writing_asks}
+use Rattle.picky_convert.specs.Outside.{Outside, reader, reader_back}
+use Rattle.picky_convert.specs.Want.{IsFault}
 
 -- the text that is written for a key text, or the first reason why none is
-unfoldable pub conversion : Target → List ℕ → Result (List ℕ) ConvertError
-conversion target text = and_then (map_err errors.Input (reading text)) (written_text target)
+unfoldable pub conversion : Outside → Target → List ℕ → Result (List ℕ) ConvertError
+conversion o target input =
+    and_then (map_err errors.Input (reading (reader o) input)) (written o.meanings o.output target)
 
--- ---- what a conversion's text is
+-- ---- a conversion's text
 
 -- the text is the one that spells the one thing that the key text means, and it is read back
-pub record IsConversion (target : Target) (input text : List ℕ) : Type 0 where
+pub record IsConversion (o : Outside) (target : Target) (input text : List ℕ) : Type 0 where
   pub meaning : Meaning
-  pub reads : Reads input meaning
-  pub one : (other : Meaning) → Reads input other → other ≡ meaning
-  pub carries : Carries target meaning
-  pub spells : Spells target meaning text
-  pub only : (other : List ℕ) → Spells target meaning other → other ≡ text
-  pub read_back : ReadsBack target meaning text
+  pub reads : Reads (reader o) input meaning
+  pub one : (other : Meaning) → Reads (reader o) input other → other ≡ meaning
+  pub carries : Carries o.output target meaning
+  pub spells : Spells o.meanings o.output target meaning text
+  pub only : (other : List ℕ) → Spells o.meanings o.output target meaning other → other ≡ text
+  pub read_back : Reads (reader_back o) text (kept target meaning)
+
+-- ---- the suite
+
+-- it is asked to seal what a key text means
+abbrev pub asks_for : Outside → Target → Result Meaning ReadError → Bool
+asks_for o target (Ok meaning) = writing_asks o.output target meaning
+asks_for o target (Err e) = false
+
+unfoldable pub asks_to_write : Outside → Target → List ℕ → Bool
+asks_to_write o target input = asks_for o target (reading (reader o) input)
+
+-- it is asked to open the key text, or to seal what is written
+unfoldable pub converting_asks : Outside → Target → List ℕ → Bool
+converting_asks o target input = asks o.pass_in input || asks_to_write o target input
+
+-- the refusal is its fault: in reading the key text or in writing, where it was asked and counted one
+abbrev pub IsFaultOf : Outside → Target → List ℕ → ConvertError → Type 0 → Type 0
+IsFaultOf o target input e rose =
+    ((e ≡ errors.Input (input_fault input)) × IsAskedFault (asks o.pass_in input) rose)
+    ⊎ ((e ≡ output_fault target) × IsAskedFault (asks_to_write o target input) rose)
+
+-- what a conversion answers: its text, or the first reason; in its place want of memory may come, or the suite's fault
+abbrev pub Answers : {X : Type 0} → (X → List ℕ) → Outside → Target → List ℕ → Type 0 → Result X ConvertError → Type 0
+Answers view o target input rose (Ok text) = conversion o target input ≡ Ok (view text)
+Answers view o target input rose (Err e) =
+    (e ≡ errors.NoMemory) ⊎ IsFaultOf o target input e rose ⊎ (conversion o target input ≡ Err e)
+
+-- what the suite's calls mean stays; the count rises exactly where a fault is answered; a suite that isn't asked is as it was
+pub record LeavesAskedSuite {S A : Type 0} (meanings : S → Meanings) (faults : S → ℕ) (asked : Bool)
+    (result : Result A ConvertError) (old new : S) : Type 0 where
+  pub kept : meanings new ≡ meanings old
+  pub counted : (e : ConvertError) → result ≡ Err e → IsFault e → Rose (faults old) (faults new)
+  pub calm : ((e : ConvertError) → result ≡ Err e → IsFault e → ⊥) → faults new ≡ faults old
+  pub unasked : asked ≡ false → new ≡ old

@@ -1,8 +1,9 @@
-pub mod Reading
-pub mod Fingerprint
-pub mod Convert
-pub mod Command
+pub mod Outside
 pub mod Want
-pub mod Report
+pub mod Convert
+pub mod Chain
+pub mod Fingerprint
+pub mod Command
 pub mod Run
+pub mod Report
 pub mod inner

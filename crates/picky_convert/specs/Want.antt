@@ -1,13 +1,23 @@
--- Which errors say that memory ran out, and what a run answers then.
+-- Which refusals say, at some depth, that memory ran out, and which that the suite failed.
 use Rattle.std.specs.Prelude.{◌≡◌, ◌⊎◌}
 use Rattle.picky_sshpub.specs.declared.error.SshPublicKeyError.TheVariants as public
+use Rattle.picky_pem.specs.declared.error.PemError.TheVariants as pem
+use Rattle.picky_sshkey_blob.specs.declared.error.SshPrivateKeyError.TheVariants as private
 use Rattle.picky_ppk_parts.specs.declared.error.PuttyError.TheVariants as putty
-use Rattle.picky_convert.specs.declared.error.ReadError.TheVariants as input
-use Rattle.picky_convert.specs.declared.error.ConvertError.{ConvertError}
-use Rattle.picky_convert.specs.declared.error.ConvertError.TheVariants as convert
+use Rattle.picky_key_text.specs.Want.{WantsMemory as ReadWantsMemory, IsFault as IsReadFault}
+use Rattle.picky_target.specs.declared.error.ConvertError.{ConvertError}
+use Rattle.picky_target.specs.declared.error.ConvertError.TheVariants as convert
 
--- the error says at some depth that memory ran out
+-- memory ran out
 abbrev pub WantsMemory : ConvertError → Type 0
-WantsMemory (convert.Input e) = (e ≡ input.NoMemory) ⊎ (e ≡ input.Public public.NoMemory)
+WantsMemory (convert.Input e) = ReadWantsMemory e
+WantsMemory (convert.Private e) = (e ≡ private.NoMemory) ⊎ (e ≡ private.PemError pem.NoMemory)
 WantsMemory (convert.Putty e) = (e ≡ putty.NoMemory) ⊎ (e ≡ putty.SshPublicKey public.NoMemory)
 WantsMemory e = e ≡ convert.NoMemory
+
+-- the suite failed
+abbrev pub IsFault : ConvertError → Type 0
+IsFault (convert.Input e) = IsReadFault e
+IsFault (convert.Private e) = e ≡ private.SuiteFault
+IsFault (convert.Putty e) = e ≡ putty.SuiteFault
+IsFault e = ⊥

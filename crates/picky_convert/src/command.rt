@@ -1,20 +1,35 @@
 //! The commands.
 
 ghost use Rattle.std.specs.Prelude.{◌≡◌, ◌≤◌, length, string_bytes, MatchOption};
+ghost use Rattle.std.specs.Option.{option_copied};
 ghost use Rattle.std.specs.Str.{IsUtf8};
-ghost use Rattle.picky_wire.specs.Gives.{Gives};
-ghost use Rattle.picky_convert.specs.inner.Causes.{refusal_status};
-ghost use Rattle.picky_convert.specs.Command.{answer, command_of as command_named, command_of_word};
-ghost use Rattle.picky_convert.specs.Run.{input_limit, outcome};
+ghost use Rattle.picky_suite.specs.Asked.{GivesAsked, LeavesSuite};
+ghost use Rattle.picky_wire.specs.Count.{Rose};
+ghost use Rattle.picky_ppk_parts.specs.Config.{default_config};
+ghost use Rattle.picky_key_text.specs.Order.{asks};
+ghost use Rattle.picky_target.specs.Output.{Output};
+ghost use Rattle.picky_convert.specs.Command.{AnswersTo, answering_asks, command_of as command_named, command_of_word};
+ghost use Rattle.picky_convert.specs.Convert.{LeavesAskedSuite};
+ghost use Rattle.picky_convert.specs.Run.{input_limit, outcome, outcome_asks};
+ghost use Rattle.picky_convert.specs.inner.Causes.{outside, refusal_status};
 
-use crate::conversion::{Target, convert, public_key};
-use crate::error::{ConvertError, ReadError, Status};
+use crate::conversion::{convert, input_refusal};
+use crate::error::Status;
 use crate::fingerprint::fingerprint_text;
-use crate::meaning::read_text;
+use picky_key_text::{ReadError, public_key, read_text};
+use picky_ppk::{PpkEncryptionConfig, PpkVersion, PuttyError};
+use picky_sshkey::SshPrivateKeyError;
 use picky_suite::Suite;
-use picky_wire::Text;
+use picky_target::{ConvertError, Target};
+use picky_wire::{NoMemory, Text};
 use std::alloc::Global;
 use std::str;
+
+const OPENSSH: &str = "openssh";
+
+const PPK2: &str = "ppk2";
+
+const PPK3: &str = "ppk3";
 
 const SSH_PUB: &str = "ssh-pub";
 
@@ -23,10 +38,18 @@ const PUTTY_PUB: &str = "putty-pub";
 const FINGERPRINT: &str = "fingerprint";
 
 /// What a command line names.
-#[derive(Debug, Drop, PartialEq, Eq)]
+#[derive(Clone, Copy, Debug, PartialEq, Eq)]
 pub enum Command {
     Convert(Target),
     Fingerprint,
+}
+
+/// What a run is given beside its words and its streams.
+#[derive(Clone, Copy)]
+pub struct Given<'a> {
+    pub pass_in: Option<&'a str>,
+    pub pass_out: Option<&'a str>,
+    pub fresh: &'a [u8],
 }
 
 /// The command that the words name.
@@ -40,10 +63,19 @@ pub fn command_of(words: &[Text]) -> Option<Command>
 }
 
 /// The command of one word.
-#[tactic(auto, unfolding(crate::specs::Command::ssh_pub, crate::specs::Command::putty_pub, crate::specs::Command::fingerprint))]
+#[tactic(auto, unfolding(crate::specs::Command::openssh, crate::specs::Command::ppk2, crate::specs::Command::ppk3, crate::specs::Command::ssh_pub, crate::specs::Command::putty_pub, crate::specs::Command::fingerprint))]
 fn command_of_text(word: &str) -> Option<Command>
     ensures { result ≡ command_of_word word.now }
 {
+    if word == OPENSSH {
+        return Some(Command::Convert(Target::OpenSsh));
+    }
+    if word == PPK2 {
+        return Some(Command::Convert(file_of(PpkVersion::V2)));
+    }
+    if word == PPK3 {
+        return Some(Command::Convert(file_of(PpkVersion::V3)));
+    }
     if word == SSH_PUB {
         return Some(Command::Convert(Target::OpenSshPublic));
     }
@@ -56,20 +88,31 @@ fn command_of_text(word: &str) -> Option<Command>
     None
 }
 
+/// PuTTY's file in a version, sealed with the default configuration.
+fn file_of(version: PpkVersion) -> Target
+    ensures { result ≡ Target.Ppk version default_config }
+{
+    Target::Ppk(version, PpkEncryptionConfig::default())
+}
+
 /// The text that the command writes for these bytes, or the status that says why it writes none.
 #[tactic(auto, using(crate::proofs::OutcomeLemmas::outcomes))]
 pub fn perform<S: Suite>(
     alloc: Global,
-    command: &Command,
+    command: Command,
+    given: Given<'_>,
     suite: &mut S,
     input: &[u8],
 ) -> Result<String, Status>
     requires { length input.now ≤ input_limit }
-    ensures gives { Gives Status.NoMemory string_bytes result (outcome command.now input.now) }
-    ensures unused { suite.new ≡ suite.old }
+    ensures gives { GivesAsked Status.NoMemory Status.OutsideFault string_bytes result
+        (outcome (outside (S.meanings suite.old) given.entry) command input.now)
+        (outcome_asks (outside (S.meanings suite.old) given.entry) command input.now) (Rose (S.faults suite.old) (S.faults suite.new)) }
+    ensures suite { LeavesSuite S.meanings S.faults Status.OutsideFault
+        (outcome_asks (outside (S.meanings suite.old) given.entry) command input.now) result suite.old suite.new }
 {
     match as_text(input) {
-        Some(text) => match answer_to(alloc, command, suite, text) {
+        Some(text) => match answer_to(alloc, command, given, suite, text) {
             Ok(text) => Ok(text),
             Err(e) => Err(status_of(e)),
         },
@@ -78,12 +121,15 @@ pub fn perform<S: Suite>(
 }
 
 /// The status of a command that refuses.
-#[tactic(auto, using(crate::proofs::OutcomeLemmas::other_status))]
 fn status_of(e: ConvertError) -> Status
     ensures { result ≡ refusal_status e }
 {
     match e {
         ConvertError::NoMemory => Status::NoMemory,
+        ConvertError::Input(ReadError::Private(SshPrivateKeyError::SuiteFault))
+        | ConvertError::Input(ReadError::Putty(PuttyError::SuiteFault))
+        | ConvertError::Private(SshPrivateKeyError::SuiteFault)
+        | ConvertError::Putty(PuttyError::SuiteFault) => Status::OutsideFault,
         e => Status::Refused(e),
     }
 }
@@ -98,33 +144,52 @@ fn as_text(bytes: &[u8]) -> Option<&str>
 /// The text that the command writes for a key text.
 fn answer_to<S: Suite>(
     alloc: Global,
-    command: &Command,
+    command: Command,
+    given: Given<'_>,
     suite: &mut S,
     text: &str,
 ) -> Result<String, ConvertError>
-    ensures gives { Gives ConvertError.NoMemory string_bytes result (answer command.now text.now) }
-    ensures unused { suite.new ≡ suite.old }
+    ensures gives { AnswersTo string_bytes (outside (S.meanings suite.old) given.entry) command text.now
+        (Rose (S.faults suite.old) (S.faults suite.new)) result }
+    ensures suite { LeavesAskedSuite S.meanings S.faults
+        (answering_asks (outside (S.meanings suite.old) given.entry) command text.now) result suite.old suite.new }
 {
+    let Given {
+        pass_in,
+        pass_out,
+        fresh,
+    } = given;
     match command {
-        Command::Convert(target) => match convert(alloc, suite, text, target) {
-            Ok(text) => Ok(text.into_string()),
-            Err(e) => Err(e),
-        },
-        Command::Fingerprint => fingerprint(alloc, suite, text),
+        Command::Convert(target) => {
+            match convert(alloc, suite, text, pass_in, &target, pass_out, fresh) {
+                Ok(text) => Ok(text.into_string()),
+                Err(e) => Err(e),
+            }
+        }
+        Command::Fingerprint => fingerprint(alloc, suite, text, pass_in),
     }
 }
 
 /// The fingerprints of the key that a text means.
-fn fingerprint<S: Suite>(alloc: Global, suite: &mut S, text: &str) -> Result<String, ConvertError>
-    ensures gives { Gives ConvertError.NoMemory string_bytes result (answer Command.Fingerprint text.now) }
-    ensures unused { suite.new ≡ suite.old }
+fn fingerprint<S: Suite>(
+    alloc: Global,
+    suite: &mut S,
+    text: &str,
+    pass_in: Option<&str>,
+) -> Result<String, ConvertError>
+    ensures gives { (output : Output) → AnswersTo string_bytes
+        (record { meanings = S.meanings suite.old; pass_in = option_copied pass_in.entry; output = output }) Command.Fingerprint text.now
+        (Rose (S.faults suite.old) (S.faults suite.new)) result }
+    ensures suite { LeavesAskedSuite S.meanings S.faults (asks (option_copied pass_in.entry) text.now) result suite.old suite.new }
 {
-    match read_text(alloc, suite, text) {
-        Ok(meaning) => match fingerprint_text(alloc, &public_key(meaning)) {
-            Ok(text) => Ok(text),
-            Err(_) => Err(ConvertError::NoMemory),
+    match read_text(alloc, suite, text, pass_in) {
+        Ok(meaning) => match public_key(alloc, meaning) {
+            Ok(key) => match fingerprint_text(alloc, &key) {
+                Ok(text) => Ok(text),
+                Err(_) => Err(ConvertError::NoMemory),
+            },
+            Err(NoMemory) => Err(ConvertError::NoMemory),
         },
-        Err(ReadError::NoMemory) => Err(ConvertError::NoMemory),
-        Err(e) => Err(ConvertError::Input(e)),
+        Err(e) => Err(input_refusal(e)),
     }
 }

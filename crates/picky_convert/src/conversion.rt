@@ -1,144 +1,132 @@
 //! The conversion of a key text.
 
-ghost use Rattle.std.specs.Prelude.{◌≡◌, ◌==◌, ◌⊎◌, Err, IfOk, IsOk};
-ghost use Rattle.std.specs.List.{list_any};
-ghost use Rattle.picky_text.specs.Words.{ends_line};
-ghost use Rattle.picky_wire.specs.Gives.{Gives};
-ghost use Rattle.picky_convert.specs.Reading.{public_key as public_key_of, public_meaning, Reads};
-ghost use Rattle.picky_convert.specs.Convert.{Carries, HasRoom, carries_comment, conversion, written_text, IsConversion};
-ghost use Rattle.picky_convert.specs.inner.Causes.{putty_refusal as putty_refusal_of};
+ghost use Rattle.std.specs.Prelude.{◌≡◌, ◌⊎◌, Err, IfOk, IsOk};
+ghost use Rattle.std.specs.Option.{IfSome, option_copied};
+ghost use Rattle.std.specs.Str.{IsUtf8};
+ghost use Rattle.picky_suite.specs.Meanings.{Meanings};
+ghost use Rattle.picky_wire.specs.Count.{Rose};
+ghost use Rattle.picky_key_text.specs.declared.meaning.Meaning.{Meaning as Meant};
+ghost use Rattle.picky_key_text.specs.Reads.{Reads};
+ghost use Rattle.picky_target.specs.Carried.{Carries};
+ghost use Rattle.picky_target.specs.ReadBack.{IsConfig, IsTarget};
+ghost use Rattle.picky_convert.specs.Chain.{IsGiven};
+ghost use Rattle.picky_convert.specs.Outside.{outside_of, reader};
+ghost use Rattle.picky_convert.specs.Convert.{Answers, IsConversion, IsFaultOf, LeavesAskedSuite, converting_asks};
+ghost use Rattle.picky_convert.specs.inner.Causes.{input_refusal as input_refusal_of};
 
-use crate::error::{ConvertError, ReadError};
-use crate::meaning::{Key, Meaning, read_text};
-use memchr::{memchr, memchr2};
-use picky_putty_public::{PuttyError, PuttyPublicKey};
-use picky_sshpub::{SshPublicKey, SshPublicKeyError};
+use picky_key_text::{ReadError, read_text};
+use picky_ppk::PpkEncryptionConfig;
 use picky_suite::Suite;
+use picky_target::{ConvertError, Target, write_text};
 use picky_wire::Text;
 use std::alloc::Global;
 
-/// What a key text is converted to.
-#[derive(Debug, Drop, PartialEq, Eq)]
-pub enum Target {
-    OpenSshPublic,
-    PuttyPublic,
-}
-
-/// The text of the target for the key and the comment that a text means.
+/// The text of the target for the key and the comment that a text means: the key text is read under one passphrase, and what
+/// is written is sealed under the other, where there is one and the target keeps the secret, with the fresh bytes.
 ///
-/// `OpenSshPublic` is a public key line and `PuttyPublic` PuTTY's text of a public key (docs/FORMATS.md).
-/// Refuses, in order: `Input`; `Putty(NotSupported)`, where PuTTY has no such key; `CommentNotCarried`;
-/// `TooLong`, where the blob or the text has 2^32 bytes or more.
-#[tactic(auto, unfolding(crate::specs::Convert::conversion))]
+/// Refuses, in order: `Input` as `read_text`; and as `write_text` `NoPrivateKey`, `Putty(NotSupported)`, `CommentNotCarried`,
+/// `Private(HashingError)`, `Putty(Argon2)`, `FreshTooShort`, `TooLong`, `TooManyLines`, `Private(SuiteFault)`,
+/// `Putty(SuiteFault)`.
 pub fn convert<S: Suite>(
     alloc: Global,
     suite: &mut S,
     input: &str,
+    pass_in: Option<&str>,
     target: &Target,
+    pass_out: Option<&str>,
+    fresh: &[u8],
 ) -> Result<Text, ConvertError>
-    ensures gives { Gives ConvertError.NoMemory (λ text. text) result (conversion target.now input.now) }
-    ensures converts { IfOk result (λ text. IsConversion target.now input.now text) }
-    ensures complete { (meaning : Meaning) → Reads input.now meaning → Carries target.now meaning
-        → HasRoom target.now meaning → IsOk result ⊎ (result ≡ Err ConvertError.NoMemory) }
-    ensures unused { suite.new ≡ suite.old }
+    ensures gives { Answers (λ text. text) (outside_of (S.meanings suite.old) pass_in.entry pass_out.entry fresh.now)
+        target.now input.now (Rose (S.faults suite.old) (S.faults suite.new)) result }
+    ensures suite { LeavesAskedSuite S.meanings S.faults
+        (converting_asks (outside_of (S.meanings suite.old) pass_in.entry pass_out.entry fresh.now) target.now input.now)
+        result suite.old suite.new }
+
+    // A text is the one spelling of the one meaning, and is read back.
+    ensures converts { IfOk result (λ text.
+        IsConversion (outside_of (S.meanings suite.old) pass_in.entry pass_out.entry fresh.now) target.now input.now text) }
+    ensures complete { (meaning : Meant)
+        → Reads (reader (outside_of (S.meanings suite.old) pass_in.entry pass_out.entry fresh.now)) input.now meaning
+        → Carries (record { pass = option_copied pass_out.entry; fresh = fresh.now }) target.now meaning
+        → IsOk result ⊎ (result ≡ Err ConvertError.NoMemory) ⊎ ((e : ConvertError) × (result ≡ Err e)
+        × IsFaultOf (outside_of (S.meanings suite.old) pass_in.entry pass_out.entry fresh.now) target.now input.now e (Rose (S.faults suite.old) (S.faults suite.new))) }
 {
-    match read_text(alloc, suite, input) {
-        Ok(meaning) => write_text(alloc, target, meaning),
-        Err(ReadError::NoMemory) => Err(ConvertError::NoMemory),
-        Err(e) => Err(ConvertError::Input(e)),
+    is_given(pass_in, pass_out, fresh);
+    is_target(*target);
+    answer(alloc, suite, input, pass_in, *target, pass_out, fresh)
+}
+
+/// The conversion, by its order alone.
+fn answer<S: Suite>(
+    alloc: Global,
+    suite: &mut S,
+    input: &str,
+    pass_in: Option<&str>,
+    target: Target,
+    pass_out: Option<&str>,
+    fresh: &[u8],
+) -> Result<Text, ConvertError>
+    ensures gives { Answers (λ text. text) (outside_of (S.meanings suite.old) pass_in.entry pass_out.entry fresh.now)
+        target input.now (Rose (S.faults suite.old) (S.faults suite.new)) result }
+    ensures suite { LeavesAskedSuite S.meanings S.faults
+        (converting_asks (outside_of (S.meanings suite.old) pass_in.entry pass_out.entry fresh.now) target input.now)
+        result suite.old suite.new }
+{
+    match read_text(alloc, suite, input, pass_in) {
+        Ok(meaning) => write_text(alloc, suite, target, meaning, pass_out, fresh),
+        Err(e) => Err(input_refusal(e)),
     }
 }
 
-/// The text of the target for a meaning.
-fn write_text(alloc: Global, target: &Target, meaning: Meaning) -> Result<Text, ConvertError>
-    ensures { Gives ConvertError.NoMemory (λ text. text) result (written_text target.now meaning) }
-{
-    let key = public_key(meaning);
-    match target {
-        Target::OpenSshPublic => write_line(alloc, &key),
-        Target::PuttyPublic => write_putty(alloc, key),
-    }
-}
-
-/// The public part of the key, with the comment.
-pub fn public_key(meaning: Meaning) -> SshPublicKey
-    ensures { result ≡ public_key_of meaning }
-{
-    let Meaning { key, comment } = meaning;
-    match key {
-        Key::Public(inner_key) => SshPublicKey { inner_key, comment },
-    }
-}
-
-/// The public key line.
-#[tactic(auto, unfolding(crate::specs::Convert::written_text, picky_sshpub::specs::LineRefusal::line_text))]
-fn write_line(alloc: Global, key: &SshPublicKey) -> Result<Text, ConvertError>
-    ensures { Gives ConvertError.NoMemory (λ text. text) result (written_text Target.OpenSshPublic (public_meaning key.now)) }
-{
-    if !line_carries(key.comment.as_str()) {
-        return Err(ConvertError::CommentNotCarried);
-    }
-    match key.to_string(alloc) {
-        Ok(text) => Ok(text),
-        Err(SshPublicKeyError::TooLong) => Err(ConvertError::TooLong),
-        Err(_) => Err(ConvertError::NoMemory),
-    }
-}
-
-/// PuTTY's text.
-fn write_putty(alloc: Global, key: SshPublicKey) -> Result<Text, ConvertError>
-    ensures { Gives ConvertError.NoMemory (λ text. text) result (written_text Target.PuttyPublic (public_meaning key)) }
-{
-    let lf = has_lf(key.comment.as_str());
-    match PuttyPublicKey::take_openssh(alloc, key) {
-        Ok(putty) => {
-            if lf {
-                return Err(ConvertError::CommentNotCarried);
-            }
-            match putty.to_string(alloc) {
-                Ok(text) => Ok(text),
-                Err(PuttyError::TooLong) => Err(ConvertError::TooLong),
-                Err(_) => Err(ConvertError::NoMemory),
-            }
-        }
-        Err(e) => Err(putty_refusal(e, lf)),
-    }
-}
-
-/// The refusal of a key that PuTTY lacks, or whose blob is too long; a comment with LF is judged between.
-#[tactic(auto, using(crate::proofs::PuttyLemmas::other_refusal))]
-fn putty_refusal(e: PuttyError, lf: bool) -> ConvertError
-    ensures { result ≡ putty_refusal_of e lf }
+/// A refusal of the key text as the conversion's, where want of memory is the outer want.
+pub fn input_refusal(e: ReadError) -> ConvertError
+    ensures { result ≡ input_refusal_of e }
 {
     match e {
-        PuttyError::NoMemory => ConvertError::NoMemory,
-        PuttyError::TooLong => {
-            if lf {
-                return ConvertError::CommentNotCarried;
-            }
-            ConvertError::TooLong
-        }
-        e => ConvertError::Putty(e),
+        ReadError::NoMemory => ConvertError::NoMemory,
+        e => ConvertError::Input(e),
     }
 }
 
-/// Whether a line carries the comment.
-fn line_carries(comment: &str) -> bool
-    ensures { result ≡ carries_comment Target.OpenSshPublic comment.now }
+/// Does nothing: what is given has the ranges of its types.
+pub fn is_given(pass_in: Option<&str>, pass_out: Option<&str>, fresh: &[u8])
+    ensures { (m : Meanings) → IsGiven (outside_of m pass_in.entry pass_out.entry fresh.now) }
 {
-    !has_line_end(comment) && comment.trim_end() == comment
+    is_text_where_given(pass_in);
+    is_text_where_given(pass_out);
+    let _ = fresh;
 }
 
-#[tactic(auto, using(crate::proofs::SearchLemmas::found_is_any))]
-fn has_line_end(text: &str) -> bool
-    ensures { result ≡ list_any ends_line text.now }
+/// Does nothing: a target's numbers have the ranges of their types.
+pub fn is_target(target: Target)
+    ensures { IsTarget target }
 {
-    memchr2(b'\r', b'\n', text.as_bytes()).is_some()
+    match target {
+        Target::Ppk(_, config) => is_config(config),
+        Target::OpenSsh | Target::OpenSshPublic | Target::PuttyPublic => {}
+    }
 }
 
-#[tactic(auto, using(crate::proofs::SearchLemmas::found_is_any))]
-fn has_lf(text: &str) -> bool
-    ensures { result ≡ list_any (λ b. b == 10) text.now }
+/// Does nothing: so have a configuration's.
+fn is_config(config: PpkEncryptionConfig)
+    ensures { IsConfig config }
 {
-    memchr(b'\n', text.as_bytes()).is_some()
+    let _ = config;
+}
+
+/// Does nothing: a passphrase is a text.
+fn is_text_where_given(pass: Option<&str>)
+    ensures { IfSome (option_copied pass.entry) IsUtf8 }
+{
+    match pass {
+        Some(pass) => is_text(pass),
+        None => {}
+    }
+}
+
+/// Does nothing: a text is one.
+fn is_text(text: &str)
+    ensures { IsUtf8 text.now }
+{
+    let _ = text;
 }

@@ -1,41 +1,8 @@
-//! Why a key text is not converted, and how a run ends.
+//! How a run ends.
 
 ghost use Rattle.std.specs.Prelude.{◌≡◌};
 
-use picky_putty_public::PuttyError;
-use picky_sshpub::SshPublicKeyError;
-use thiserror::Error;
-
-/// Why a key text means nothing.
-#[derive(Debug, Drop, PartialEq, Eq, Error)]
-pub enum ReadError {
-    /// As a public key line it says no key.
-    #[error("Public")]
-    Public(SshPublicKeyError),
-    /// Memory ran out.
-    #[error("NoMemory")]
-    NoMemory,
-}
-
-/// Why a key text is not converted.
-#[derive(Debug, Drop, PartialEq, Eq, Error)]
-pub enum ConvertError {
-    /// The key text means nothing.
-    #[error("Input")]
-    Input(ReadError),
-    /// The target can't hold the comment.
-    #[error("CommentNotCarried")]
-    CommentNotCarried,
-    /// PuTTY's format can't hold the key.
-    #[error("Putty")]
-    Putty(PuttyError),
-    /// What is to be written has more bytes than a length of the wire can say.
-    #[error("TooLong")]
-    TooLong,
-    /// Memory ran out.
-    #[error("NoMemory")]
-    NoMemory,
-}
+use picky_target::ConvertError;
 
 /// How a run ends.
 #[derive(Debug, Drop, PartialEq, Eq)]
@@ -50,6 +17,8 @@ pub enum Status {
     ReadFault,
     /// `out` failed.
     WriteFault,
+    /// The suite failed, which was asked to open the key text or to seal what is written.
+    OutsideFault,
     /// Memory ran out.
     NoMemory,
     /// The source has more than 16,777,216 bytes.
@@ -61,7 +30,7 @@ pub enum Status {
 impl Status {
     ghost use Rattle.picky_convert.specs.Report.{exit_code as exit_code_of};
 
-    /// The number with which the program ends: 0 for Done, and 5 is kept for a device that fails.
+    /// The number with which the program ends: 0 for Done.
     pub fn exit_code(&self) -> u8
         ensures { result ≡ exit_code_of self.now }
     {
@@ -71,6 +40,7 @@ impl Status {
             Status::Usage => 2,
             Status::ReadFault => 3,
             Status::WriteFault => 4,
+            Status::OutsideFault => 5,
             Status::NoMemory => 6,
             Status::InputTooLong => 7,
             Status::InputNotUtf8 => 8,

@@ -7,12 +7,12 @@ mod error;
 mod fingerprint;
 mod input;
 pub mod laws;
-mod meaning;
 mod program;
 mod reports;
 
-pub use conversion::{Target, convert};
-pub use error::{ConvertError, ReadError, Status};
-pub use meaning::{Key, Meaning, read_text};
+pub use conversion::convert;
+pub use error::Status;
+pub use picky_key_text::{Key, Meaning, ReadError, read_text};
+pub use picky_target::{ConvertError, Target};
 pub use program::run;
-pub use reports::report;
+pub use reports::{StatusWord, word};

@@ -1,32 +1,40 @@
 //! The run of the program over a source and two sinks.
 
-ghost use Rattle.std.specs.Prelude.{◌≡◌, ◌≢◌, ◌⊎◌, ◌<◌, ◌+◌, ◌++◌, ℕ, List, [], length, take, drop, Option, Some, None, Ok, Err, IfOk, OnOk, IfErr, string_bytes};
+ghost use Rattle.std.specs.Prelude.{◌≡◌, ◌≢◌, ◌⊎◌, ◌<◌, ◌+◌, ◌++◌, ℕ, List, [], true, false, length, take, drop, Option, Some, None, Ok, Err, IfOk, OnOk, IfErr, string_bytes};
+ghost use Rattle.picky_convert.specs.Outside.{outside_of};
 ghost use Rattle.std.specs.Str.{IsUtf8};
 ghost use Rattle.picky_wire.specs.Count.{Rose};
 ghost use Rattle.picky_wire.specs.Takes.{Calm};
 ghost use Rattle.picky_convert.specs.Command.{Names};
-ghost use Rattle.picky_convert.specs.Want.{WantsMemory};
+ghost use Rattle.picky_convert.specs.Want.{IsFault, WantsMemory};
 ghost use Rattle.picky_convert.specs.Report.{report as report_of};
-ghost use Rattle.picky_convert.specs.Run.{input_limit, outcome, CanRefuse, Explains, IsValid, ReadsToEnd, Says, TakesInput, WritesAnswer, WritesPrefix};
-ghost use Rattle.picky_convert.specs.inner.Causes.{CanCome};
+ghost use Rattle.picky_convert.specs.Run.{input_limit, outcome, outcome_asks, CanAsk, CanRefuse, Explains, IsValid, ReadsToEnd, Says, TakesInput, WritesAnswer, WritesPrefix};
+ghost use Rattle.picky_convert.specs.inner.Causes.{outside, CanCome};
 
-use crate::command::{Command, command_of, perform};
-use crate::error::{ConvertError, Status};
+use crate::command::{Command, Given, command_of, perform};
+use crate::conversion::is_given;
+use crate::error::Status;
 use crate::input::{InputError, read_input};
-use crate::reports::report;
+use crate::reports::word;
 use picky_suite::Suite;
-use picky_wire::{Sink, Source, Text, write_all};
+use picky_target::ConvertError;
+use picky_wire::{Piece, Sink, Source, Text, write_all, write_pieces};
 use std::alloc::Global;
 
 /// Does what the words say with the key text that the source gives, onto `out`, and says on `err` how it ended.
 ///
-/// The one word is `ssh-pub`, a public key line; `putty-pub`, PuTTY's text of a public key; `fingerprint`,
-/// the MD5, SHA-1 and SHA-256 digests of the key's blob. Refuses, in order: `Usage`, `ReadFault`,
-/// `InputTooLong`, `InputNotUtf8`, `Refused` (of `fingerprint` with `Input` alone), `WriteFault`. What a
-/// fault of `err` cuts off of its line is left out.
+/// The one word is `openssh`, OpenSSH's private key; `ppk2` or `ppk3`, PuTTY's private key file of version 2 or 3, sealed with
+/// the default configuration; `ssh-pub`, a public key line; `putty-pub`, PuTTY's text of a public key; `fingerprint`, the MD5,
+/// SHA-1 and SHA-256 digests of the key's blob. The key text is read under one passphrase, and the first three are sealed under
+/// the other, where there is one, with the fresh bytes. Refuses, in order: `Usage`, `ReadFault`, `InputTooLong`,
+/// `InputNotUtf8`, `Refused` (of `fingerprint` with `Input` alone) or, in place of the suite's fault, `OutsideFault`,
+/// `WriteFault`. What a fault of `err` cuts off of its line is left out.
 pub fn run<S: Suite, I: Source, O: Sink, E: Sink>(
     alloc: Global,
     words: &[Text],
+    pass_in: Option<&str>,
+    pass_out: Option<&str>,
+    fresh: &[u8],
     suite: &mut S,
     source: &mut I,
     out: &mut O,
@@ -35,14 +43,14 @@ pub fn run<S: Suite, I: Source, O: Sink, E: Sink>(
     // What Done means.
     ensures done { (c : Command) → Names words.now c → result ≡ Status.Done
         → I.tells source.old → O.tells out.old
-        → WritesAnswer c (I.left source.old) (O.written out.old) (O.written out.new) }
+        → WritesAnswer (outside_of (S.meanings suite.old) pass_in.entry pass_out.entry fresh.now) c (I.left source.old) (O.written out.old) (O.written out.new) }
 
     // Whether or not the source tells its bytes, what is written is the answer to some.
     ensures answers { (c : Command) → Names words.now c → result ≡ Status.Done → O.tells out.old
-        → (input : List ℕ) × WritesAnswer c input (O.written out.old) (O.written out.new) }
+        → (input : List ℕ) × WritesAnswer (outside_of (S.meanings suite.old) pass_in.entry pass_out.entry fresh.now) c input (O.written out.old) (O.written out.new) }
     ensures answers_in_front { (c : Command) → Names words.now c → result ≡ Status.WriteFault
         → O.tells out.old
-        → (input : List ℕ) × WritesPrefix c input (O.written out.old) (O.written out.new) }
+        → (input : List ℕ) × WritesPrefix (outside_of (S.meanings suite.old) pass_in.entry pass_out.entry fresh.now) c input (O.written out.old) (O.written out.new) }
 
     // When each other status comes.
     ensures usage { result ≡ Status.Usage → (c : Command) → Names words.now c → ⊥ }
@@ -55,34 +63,44 @@ pub fn run<S: Suite, I: Source, O: Sink, E: Sink>(
         → IsUtf8 (I.left source.old) → ⊥ }
     ensures refused { (c : Command) → Names words.now c → (e : ConvertError)
         → result ≡ Status.Refused e → I.tells source.old
-        → outcome c (I.left source.old) ≡ Err (Status.Refused e) }
+        → outcome (outside_of (S.meanings suite.old) pass_in.entry pass_out.entry fresh.now) c (I.left source.old) ≡ Err (Status.Refused e) }
     ensures refusal { (c : Command) → Names words.now c → (e : ConvertError)
-        → result ≡ Status.Refused e → CanRefuse c e }
+        → result ≡ Status.Refused e → CanRefuse (outside_of (S.meanings suite.old) pass_in.entry pass_out.entry fresh.now) c e }
     ensures refused_is_no_want { (e : ConvertError) → result ≡ Status.Refused e
-        → WantsMemory e → ⊥ }
+        → (WantsMemory e → ⊥) × (IsFault e → ⊥) }
+    ensures outside_fault_only_if_counted { result ≡ Status.OutsideFault
+        → Rose (S.faults suite.old) (S.faults suite.new) }
+    ensures outside_fault_only_if_asked { (c : Command) → Names words.now c → result ≡ Status.OutsideFault
+        → I.tells source.old → outcome_asks (outside_of (S.meanings suite.old) pass_in.entry pass_out.entry fresh.now) c (I.left source.old) ≡ true }
+    ensures outside_fault_of_some { (c : Command) → Names words.now c → result ≡ Status.OutsideFault → CanAsk (outside_of (S.meanings suite.old) pass_in.entry pass_out.entry fresh.now) c }
     ensures in_order { (c : Command) → Names words.now c → result ≢ Status.Done
         → result ≢ Status.WriteFault → result ≢ Status.Usage → I.tells source.old
-        → Explains result (outcome c (I.left source.old)) }
+        → Explains result (outcome (outside_of (S.meanings suite.old) pass_in.entry pass_out.entry fresh.now) c (I.left source.old)) }
     ensures write_fault_only_if_counted { result ≡ Status.WriteFault
         → Rose (O.faults out.old) (O.faults out.new) }
 
     // A count is as it was but for the one fault that is answered; so Done moved neither.
     ensures source_calm { result ≢ Status.ReadFault → I.faults source.new ≡ I.faults source.old }
     ensures out_calm { result ≢ Status.WriteFault → O.faults out.new ≡ O.faults out.old }
+    ensures suite_calm { result ≢ Status.OutsideFault → S.faults suite.new ≡ S.faults suite.old }
 
     // Where nothing was counted, the status is the one that the bytes have, or memory ran out.
     ensures exact { (c : Command) → Names words.now c → I.tells source.old
         → (Rose (I.faults source.old) (I.faults source.new) → ⊥)
-        → (status : Status) → outcome c (I.left source.old) ≡ Err status
+        → (Rose (S.faults suite.old) (S.faults suite.new) → ⊥)
+        → (status : Status) → outcome (outside_of (S.meanings suite.old) pass_in.entry pass_out.entry fresh.now) c (I.left source.old) ≡ Err status
         → (result ≡ status) ⊎ (result ≡ Status.NoMemory) }
     ensures complete { (c : Command) → Names words.now c → I.tells source.old
-        → IsValid c (I.left source.old)
+        → IsValid (outside_of (S.meanings suite.old) pass_in.entry pass_out.entry fresh.now) c (I.left source.old)
         → (Rose (I.faults source.old) (I.faults source.new) → ⊥)
         → (Rose (O.faults out.old) (O.faults out.new) → ⊥)
+        → (Rose (S.faults suite.old) (S.faults suite.new) → ⊥)
         → (result ≡ Status.Done) ⊎ (result ≡ Status.NoMemory) }
 
     // What is left and what is written; a source and a sink that tell go on telling.
-    ensures unused { suite.new ≡ suite.old }
+    ensures suite_kept { S.meanings suite.new ≡ S.meanings suite.old }
+    ensures suite_unasked { (c : Command) → Names words.now c → I.tells source.old
+        → outcome_asks (outside_of (S.meanings suite.old) pass_in.entry pass_out.entry fresh.now) c (I.left source.old) ≡ false → suite.new ≡ suite.old }
     ensures source_tells { I.tells source.old → I.tells source.new }
     ensures out_tells { O.tells out.old → O.tells out.new }
     ensures end { ReadsToEnd result → I.tells source.old → I.left source.new ≡ [] }
@@ -91,16 +109,22 @@ pub fn run<S: Suite, I: Source, O: Sink, E: Sink>(
         → I.left source.new ≡ drop (input_limit + 1) (I.left source.old) }
     ensures cut { result ≡ Status.ReadFault → I.tells source.old
         → length (I.left source.old) < input_limit + 1 + length (I.left source.new) }
-    ensures unread { result ≡ Status.Usage → source.new ≡ source.old }
+    ensures unread { result ≡ Status.Usage → (source.new ≡ source.old) × (suite.new ≡ suite.old) }
     ensures unwritten { result ≢ Status.Done → result ≢ Status.WriteFault → out.new ≡ out.old }
     ensures prefix { (c : Command) → Names words.now c → result ≡ Status.WriteFault
         → I.tells source.old → O.tells out.old
-        → WritesPrefix c (I.left source.old) (O.written out.old) (O.written out.new) }
+        → WritesPrefix (outside_of (S.meanings suite.old) pass_in.entry pass_out.entry fresh.now) c (I.left source.old) (O.written out.old) (O.written out.new) }
     ensures quiet { result ≡ Status.Done → err.new ≡ err.old }
     ensures said { result ≢ Status.Done
         → Says E.tells E.written E.faults (report_of result) err.old err.new }
 {
-    let status = attempt(alloc, words, suite, source, out);
+    is_given(pass_in, pass_out, fresh);
+    let given = Given {
+        pass_in,
+        pass_out,
+        fresh,
+    };
+    let status = attempt(alloc, words, given, suite, source, out);
     tell(&status, err);
     status
 }
@@ -109,24 +133,32 @@ pub fn run<S: Suite, I: Source, O: Sink, E: Sink>(
 fn attempt<S: Suite, I: Source, O: Sink>(
     alloc: Global,
     words: &[Text],
+    given: Given<'_>,
     suite: &mut S,
     source: &mut I,
     out: &mut O,
 ) -> Status
-    ensures usage { result ≡ Status.Usage → ((c : Command) → Names words.now c → ⊥) × (source.new ≡ source.old) }
+    ensures usage { result ≡ Status.Usage → ((c : Command) → Names words.now c → ⊥) × (source.new ≡ source.old)
+        × (suite.new ≡ suite.old) }
     ensures command { result ≢ Status.Usage → (c : Command) × Names words.now c }
     ensures done { (c : Command) → Names words.now c → result ≡ Status.Done → I.tells source.old → (text : List ℕ)
-        × (outcome c (I.left source.old) ≡ Ok text) × (O.tells out.old → O.written out.new ≡ O.written out.old ++ text) }
+        × (outcome (outside (S.meanings suite.old) given.entry) c (I.left source.old) ≡ Ok text) × (O.tells out.old → O.written out.new ≡ O.written out.old ++ text) }
     ensures write_fault { (c : Command) → Names words.now c → result ≡ Status.WriteFault → I.tells source.old → (text : List ℕ)
-        × (outcome c (I.left source.old) ≡ Ok text)
+        × (outcome (outside (S.meanings suite.old) given.entry) c (I.left source.old) ≡ Ok text)
         × (O.tells out.old → (n : ℕ) × (O.written out.new ≡ O.written out.old ++ take n text) × (n < length text)) }
     ensures answers { (c : Command) → Names words.now c → result ≡ Status.Done → (input : List ℕ) × (text : List ℕ)
-        × (outcome c input ≡ Ok text) × (O.tells out.old → O.written out.new ≡ O.written out.old ++ text) }
+        × (outcome (outside (S.meanings suite.old) given.entry) c input ≡ Ok text) × (O.tells out.old → O.written out.new ≡ O.written out.old ++ text) }
     ensures answers_in_front { (c : Command) → Names words.now c → result ≡ Status.WriteFault → (input : List ℕ) × (text : List ℕ)
-        × (outcome c input ≡ Ok text)
+        × (outcome (outside (S.meanings suite.old) given.entry) c input ≡ Ok text)
         × (O.tells out.old → (n : ℕ) × (O.written out.new ≡ O.written out.old ++ take n text) × (n < length text)) }
     ensures write_fault_only_if_counted { result ≡ Status.WriteFault → Rose (O.faults out.old) (O.faults out.new) }
-    ensures unused { suite.new ≡ suite.old }
+    ensures suite_kept { S.meanings suite.new ≡ S.meanings suite.old }
+    ensures suite_calm { result ≢ Status.OutsideFault → S.faults suite.new ≡ S.faults suite.old }
+    ensures suite_unasked { (c : Command) → Names words.now c → I.tells source.old
+        → outcome_asks (outside (S.meanings suite.old) given.entry) c (I.left source.old) ≡ false → suite.new ≡ suite.old }
+    ensures outside_fault { (c : Command) → Names words.now c → result ≡ Status.OutsideFault → I.tells source.old
+        → outcome_asks (outside (S.meanings suite.old) given.entry) c (I.left source.old) ≡ true }
+    ensures outside_fault_of_some { (c : Command) → Names words.now c → result ≡ Status.OutsideFault → CanAsk (outside (S.meanings suite.old) given.entry) c }
     ensures source_tells { I.tells source.old → I.tells source.new }
     ensures out_tells { O.tells out.old → O.tells out.new }
     ensures end { ReadsToEnd result → I.tells source.old → I.left source.new ≡ [] }
@@ -135,11 +167,11 @@ fn attempt<S: Suite, I: Source, O: Sink>(
         → I.left source.new ≡ drop (input_limit + 1) (I.left source.old) }
     ensures cut { result ≡ Status.ReadFault → I.tells source.old
         → length (I.left source.old) < input_limit + 1 + length (I.left source.new) }
-    ensures refusal { (c : Command) → Names words.now c → (e : ConvertError) → result ≡ Status.Refused e → CanRefuse c e }
+    ensures refusal { (c : Command) → Names words.now c → (e : ConvertError) → result ≡ Status.Refused e → CanRefuse (outside (S.meanings suite.old) given.entry) c e }
     ensures known { result ≢ Status.Done → result ≢ Status.WriteFault → result ≢ Status.Usage
-        → CanCome result (Rose (I.faults source.old) (I.faults source.new)) }
+        → CanCome result (Rose (I.faults source.old) (I.faults source.new)) (Rose (S.faults suite.old) (S.faults suite.new)) }
     ensures taken { (c : Command) → Names words.now c → result ≢ Status.Done → result ≢ Status.WriteFault → result ≢ Status.Usage
-        → I.tells source.old → Explains result (outcome c (I.left source.old)) }
+        → I.tells source.old → Explains result (outcome (outside (S.meanings suite.old) given.entry) c (I.left source.old)) }
     ensures unwritten { result ≢ Status.Done → result ≢ Status.WriteFault → out.new ≡ out.old }
     ensures source_calm { result ≢ Status.ReadFault → I.faults source.new ≡ I.faults source.old }
     ensures out_calm { result ≢ Status.WriteFault → O.faults out.new ≡ O.faults out.old }
@@ -148,7 +180,7 @@ fn attempt<S: Suite, I: Source, O: Sink>(
         Some(command) => command,
         None => return Status::Usage,
     };
-    match take_text(alloc, &command, suite, source) {
+    match take_text(alloc, command, given, suite, source) {
         Ok(text) => match write_all(out, text.as_bytes()) {
             Ok(()) => Status::Done,
             Err(_) => Status::WriteFault,
@@ -160,13 +192,14 @@ fn attempt<S: Suite, I: Source, O: Sink>(
 /// The text that the command writes for the bytes of the source.
 fn take_text<S: Suite, I: Source>(
     alloc: Global,
-    command: &Command,
+    command: Command,
+    given: Given<'_>,
     suite: &mut S,
     source: &mut I,
 ) -> Result<String, Status>
     ensures tells { I.tells source.old → I.tells source.new }
-    ensures answers { IfOk result (λ text. (input : List ℕ) × (outcome command.now input ≡ Ok (string_bytes text))) }
-    ensures text { I.tells source.old → IfOk result (λ text. outcome command.now (I.left source.old) ≡ Ok (string_bytes text)) }
+    ensures answers { IfOk result (λ text. (input : List ℕ) × (outcome (outside (S.meanings suite.old) given.entry) command input ≡ Ok (string_bytes text))) }
+    ensures text { I.tells source.old → IfOk result (λ text. outcome (outside (S.meanings suite.old) given.entry) command (I.left source.old) ≡ Ok (string_bytes text)) }
     ensures end { I.tells source.old → OnOk result (I.left source.new ≡ []) }
     ensures refused_at_end { I.tells source.old → IfErr result (λ status. ReadsToEnd status → I.left source.new ≡ []) }
     ensures input { I.tells source.old → TakesInput (I.left source.old) (I.left source.new) }
@@ -174,14 +207,19 @@ fn take_text<S: Suite, I: Source>(
         → I.left source.new ≡ drop (input_limit + 1) (I.left source.old)) }
     ensures cut { I.tells source.old → IfErr result (λ status. status ≡ Status.ReadFault
         → length (I.left source.old) < input_limit + 1 + length (I.left source.new)) }
-    ensures refusal { IfErr result (λ status. (e : ConvertError) → status ≡ Status.Refused e → CanRefuse command.now e) }
-    ensures known { IfErr result (λ status. CanCome status (Rose (I.faults source.old) (I.faults source.new))) }
-    ensures refused { I.tells source.old → IfErr result (λ status. Explains status (outcome command.now (I.left source.old))) }
+    ensures refusal { IfErr result (λ status. (e : ConvertError) → status ≡ Status.Refused e → CanRefuse (outside (S.meanings suite.old) given.entry) command e) }
+    ensures known { IfErr result (λ status. CanCome status (Rose (I.faults source.old) (I.faults source.new)) (Rose (S.faults suite.old) (S.faults suite.new))) }
+    ensures refused { I.tells source.old → IfErr result (λ status. Explains status (outcome (outside (S.meanings suite.old) given.entry) command (I.left source.old))) }
     ensures calm { Calm Status.ReadFault result (I.faults source.old) (I.faults source.new) }
-    ensures unused { suite.new ≡ suite.old }
+    ensures suite_kept { S.meanings suite.new ≡ S.meanings suite.old }
+    ensures suite_calm { Calm Status.OutsideFault result (S.faults suite.old) (S.faults suite.new) }
+    ensures suite_unasked { I.tells source.old → outcome_asks (outside (S.meanings suite.old) given.entry) command (I.left source.old) ≡ false → suite.new ≡ suite.old }
+    ensures outside_fault { I.tells source.old → result ≡ Err Status.OutsideFault
+        → outcome_asks (outside (S.meanings suite.old) given.entry) command (I.left source.old) ≡ true }
+    ensures outside_fault_of_some { result ≡ Err Status.OutsideFault → CanAsk (outside (S.meanings suite.old) given.entry) command }
 {
     match read_input(alloc, source) {
-        Ok(input) => perform(alloc, command, suite, input.as_slice()),
+        Ok(input) => perform(alloc, command, given, suite, input.as_slice()),
         Err(InputError::ReadFault) => Err(Status::ReadFault),
         Err(InputError::TooLong) => Err(Status::InputTooLong),
         Err(InputError::NoMemory) => Err(Status::NoMemory),
@@ -199,10 +237,20 @@ fn tell<E: Sink>(status: &Status, err: &mut E)
         | Status::Usage
         | Status::ReadFault
         | Status::WriteFault
+        | Status::OutsideFault
         | Status::NoMemory
         | Status::InputTooLong
         | Status::InputNotUtf8 => {
-            let _ = write_all(err, report(status).as_bytes());
+            let word = word(status);
+            let _ = write_pieces(
+                err,
+                &[
+                    Piece::raw(b"keyconv: "),
+                    Piece::raw(word.path.as_bytes()),
+                    Piece::raw(word.name.as_bytes()),
+                    Piece::raw(b"\n"),
+                ],
+            );
         }
     }
 }

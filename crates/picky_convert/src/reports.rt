@@ -1,83 +1,165 @@
 //! The line that says on standard error how a run ended.
 
-ghost use Rattle.std.specs.Prelude.{◌≡◌};
-ghost use Rattle.picky_convert.specs.Report.{report as report_of};
+ghost use Rattle.std.specs.Prelude.{◌≡◌, ◌++◌, []};
+ghost use Rattle.picky_convert.specs.Report.{input_name as input_name_of, name as name_of, path as path_of, private_name as private_name_of, public_name as public_name_of, putty_name as putty_name_of, status_path, word as word_of};
 
-use crate::error::{ConvertError, ReadError, Status};
-use picky_putty_public::PuttyError;
+use crate::error::Status;
+use picky_key_text::ReadError;
+use picky_ppk::PuttyError;
+use picky_sshkey::SshPrivateKeyError;
 use picky_sshpub::SshPublicKeyError;
+use picky_target::ConvertError;
 
-/// The line of a status; Done has none that is written.
-#[tactic(auto, unfolding(crate::specs::Report::report))]
-pub fn report(status: &Status) -> &'static str
-    ensures { result.now ≡ report_of status.now }
+/// What a status says of itself: a path, which only a refusal has, and a name. The line of a status but Done is `keyconv: `,
+/// these, and LF.
+#[derive(Clone, Copy)]
+pub struct StatusWord {
+    pub path: &'static str,
+    pub name: &'static str,
+}
+
+/// The word of a status; Done has an empty one.
+pub fn word(status: &Status) -> StatusWord
+    ensures word { result.path.now ++ result.name.now ≡ word_of status.now }
+    ensures path { result.path.now ≡ status_path status.now }
 {
     match status {
-        Status::Done => "keyconv: \n",
-        Status::Refused(ConvertError::Input(ReadError::Public(e))) => public_report(e),
-        Status::Refused(ConvertError::Input(ReadError::NoMemory)) =>
-            "keyconv: refused: input.NoMemory\n",
-        Status::Refused(ConvertError::CommentNotCarried) => "keyconv: refused: CommentNotCarried\n",
-        Status::Refused(ConvertError::Putty(e)) => putty_report(e),
-        Status::Refused(ConvertError::TooLong) => "keyconv: refused: TooLong\n",
-        Status::Refused(ConvertError::NoMemory) => "keyconv: refused: NoMemory\n",
-        Status::Usage => {
-            "keyconv: usage: keyconv openssh|ppk2|ppk3|ssh-pub|putty-pub|cert|tbs|fingerprint|sample\n"
-        }
-        Status::ReadFault => "keyconv: read fault\n",
-        Status::WriteFault => "keyconv: write fault\n",
-        Status::NoMemory => "keyconv: out of memory\n",
-        Status::InputTooLong => "keyconv: input too long\n",
-        Status::InputNotUtf8 => "keyconv: input not UTF-8\n",
+        Status::Done => plain(""),
+        Status::Refused(e) => StatusWord {
+            path: path(e),
+            name: name(e),
+        },
+        Status::Usage => plain(
+            "usage: keyconv openssh|ppk2|ppk3|ssh-pub|putty-pub|cert|tbs|fingerprint|sample",
+        ),
+        Status::ReadFault => plain("read fault"),
+        Status::WriteFault => plain("write fault"),
+        Status::OutsideFault => plain("outside fault"),
+        Status::NoMemory => plain("out of memory"),
+        Status::InputTooLong => plain("input too long"),
+        Status::InputNotUtf8 => plain("input not UTF-8"),
     }
 }
 
-#[tactic(auto, unfolding(crate::specs::Report::report))]
-fn public_report(e: &SshPublicKeyError) -> &'static str
-    ensures { result.now ≡ report_of (Status.Refused (ConvertError.Input (ReadError.Public e.now))) }
+/// A name without a path.
+fn plain(name: &'static str) -> StatusWord
+    ensures name { result.name.now ≡ name.now }
+    ensures path { result.path.now ≡ [] }
+{
+    StatusWord { path: "", name }
+}
+
+/// The path to a refusal.
+fn path(e: &ConvertError) -> &'static str
+    ensures { result.now ≡ path_of e.now }
 {
     match e {
-        SshPublicKeyError::IoError(_) => "keyconv: refused: input.public.IoError\n",
-        SshPublicKeyError::InvalidUtf8 => "keyconv: refused: input.public.InvalidUtf8\n",
-        SshPublicKeyError::Base64DecodeError =>
-            "keyconv: refused: input.public.Base64DecodeError\n",
-        SshPublicKeyError::UnknownKeyType => "keyconv: refused: input.public.UnknownKeyType\n",
-        SshPublicKeyError::KeyError => "keyconv: refused: input.public.KeyError\n",
-        SshPublicKeyError::TooLong => "keyconv: refused: input.public.TooLong\n",
-        SshPublicKeyError::NoMemory => "keyconv: refused: input.public.NoMemory\n",
+        ConvertError::Input(ReadError::Private(_)) => "refused: input.private.",
+        ConvertError::Input(ReadError::Public(_)) => "refused: input.public.",
+        ConvertError::Input(ReadError::Putty(_)) => "refused: input.putty.",
+        ConvertError::Input(ReadError::NoMemory) => "refused: input.",
+        ConvertError::Private(_) => "refused: output.private.",
+        ConvertError::Putty(_) => "refused: output.putty.",
+        ConvertError::NoPrivateKey
+        | ConvertError::CommentNotCarried
+        | ConvertError::FreshTooShort
+        | ConvertError::TooLong
+        | ConvertError::TooManyLines
+        | ConvertError::NoMemory => "refused: ",
     }
 }
 
-#[tactic(auto, unfolding(crate::specs::Report::report))]
-fn putty_report(e: &PuttyError) -> &'static str
-    ensures { result.now ≡ report_of (Status.Refused (ConvertError.Putty e.now)) }
+/// Its name.
+fn name(e: &ConvertError) -> &'static str
+    ensures { result.now ≡ name_of e.now }
 {
     match e {
-        PuttyError::EndOfInput => "keyconv: refused: output.putty.EndOfInput\n",
-        PuttyError::InvalidInput { .. } => "keyconv: refused: output.putty.InvalidInput\n",
-        PuttyError::InvalidKeyValueFormat =>
-            "keyconv: refused: output.putty.InvalidKeyValueFormat\n",
-        PuttyError::Aes => "keyconv: refused: output.putty.Aes\n",
-        PuttyError::Argon2 => "keyconv: refused: output.putty.Argon2\n",
-        PuttyError::MacValidation => "keyconv: refused: output.putty.MacValidation\n",
-        PuttyError::PublicAndPrivateKeyMismatch =>
-            "keyconv: refused: output.putty.PublicAndPrivateKeyMismatch\n",
-        PuttyError::InvalidPrivateKeyData =>
-            "keyconv: refused: output.putty.InvalidPrivateKeyData\n",
-        PuttyError::InvalidPublicKeyData => "keyconv: refused: output.putty.InvalidPublicKeyData\n",
-        PuttyError::InvalidPublicKeyContainer =>
-            "keyconv: refused: output.putty.InvalidPublicKeyContainer\n",
-        PuttyError::InvalidPublicKeyComment =>
-            "keyconv: refused: output.putty.InvalidPublicKeyComment\n",
-        PuttyError::AlreadyDecrypted => "keyconv: refused: output.putty.AlreadyDecrypted\n",
-        PuttyError::AlreadyEncrypted => "keyconv: refused: output.putty.AlreadyEncrypted\n",
-        PuttyError::Encrypted => "keyconv: refused: output.putty.Encrypted\n",
-        PuttyError::NotSupported { .. } => "keyconv: refused: output.putty.NotSupported\n",
-        PuttyError::SshPublicKey(_) => "keyconv: refused: output.putty.SshPublicKey\n",
-        PuttyError::IoError(_) => "keyconv: refused: output.putty.IoError\n",
-        PuttyError::SuiteFault => "keyconv: refused: output.putty.SuiteFault\n",
-        PuttyError::TooLong => "keyconv: refused: output.putty.TooLong\n",
-        PuttyError::TooManyLines => "keyconv: refused: output.putty.TooManyLines\n",
-        PuttyError::NoMemory => "keyconv: refused: output.putty.NoMemory\n",
+        ConvertError::Input(e) => input_name(e),
+        ConvertError::NoPrivateKey => "NoPrivateKey",
+        ConvertError::CommentNotCarried => "CommentNotCarried",
+        ConvertError::Private(e) => private_name(e),
+        ConvertError::Putty(e) => putty_name(e),
+        ConvertError::FreshTooShort => "FreshTooShort",
+        ConvertError::TooLong => "TooLong",
+        ConvertError::TooManyLines => "TooManyLines",
+        ConvertError::NoMemory => "NoMemory",
+    }
+}
+
+fn input_name(e: &ReadError) -> &'static str
+    ensures { result.now ≡ input_name_of e.now }
+{
+    match e {
+        ReadError::Private(e) => private_name(e),
+        ReadError::Public(e) => public_name(e),
+        ReadError::Putty(e) => putty_name(e),
+        ReadError::NoMemory => "NoMemory",
+    }
+}
+
+fn public_name(e: &SshPublicKeyError) -> &'static str
+    ensures { result.now ≡ public_name_of e.now }
+{
+    match e {
+        SshPublicKeyError::IoError(_) => "IoError",
+        SshPublicKeyError::InvalidUtf8 => "InvalidUtf8",
+        SshPublicKeyError::Base64DecodeError => "Base64DecodeError",
+        SshPublicKeyError::UnknownKeyType => "UnknownKeyType",
+        SshPublicKeyError::KeyError => "KeyError",
+        SshPublicKeyError::TooLong => "TooLong",
+        SshPublicKeyError::NoMemory => "NoMemory",
+    }
+}
+
+fn private_name(e: &SshPrivateKeyError) -> &'static str
+    ensures { result.now ≡ private_name_of e.now }
+{
+    match e {
+        SshPrivateKeyError::FromUtf8Error => "FromUtf8Error",
+        SshPrivateKeyError::IoError(_) => "IoError",
+        SshPrivateKeyError::UnsupportedKeyType(_) => "UnsupportedKeyType",
+        SshPrivateKeyError::UnsupportedCipher(_) => "UnsupportedCipher",
+        SshPrivateKeyError::UnsupportedKdf(_) => "UnsupportedKdf",
+        SshPrivateKeyError::InvalidAuthMagicHeader => "InvalidAuthMagicHeader",
+        SshPrivateKeyError::InvalidKeysAmount(_) => "InvalidKeysAmount",
+        SshPrivateKeyError::InvalidCheckNumbers(_, _) => "InvalidCheckNumbers",
+        SshPrivateKeyError::InvalidKeyFormat => "InvalidKeyFormat",
+        SshPrivateKeyError::DecryptionError => "DecryptionError",
+        SshPrivateKeyError::HashingError => "HashingError",
+        SshPrivateKeyError::MissingPassphrase => "MissingPassphrase",
+        SshPrivateKeyError::KeyError => "KeyError",
+        SshPrivateKeyError::PemError(_) => "PemError",
+        SshPrivateKeyError::SuiteFault => "SuiteFault",
+        SshPrivateKeyError::TooLong => "TooLong",
+        SshPrivateKeyError::NoMemory => "NoMemory",
+        SshPrivateKeyError::PublicKeyMismatch => "PublicKeyMismatch",
+    }
+}
+
+fn putty_name(e: &PuttyError) -> &'static str
+    ensures { result.now ≡ putty_name_of e.now }
+{
+    match e {
+        PuttyError::EndOfInput => "EndOfInput",
+        PuttyError::InvalidInput { .. } => "InvalidInput",
+        PuttyError::InvalidKeyValueFormat => "InvalidKeyValueFormat",
+        PuttyError::Aes => "Aes",
+        PuttyError::Argon2 => "Argon2",
+        PuttyError::MacValidation => "MacValidation",
+        PuttyError::PublicAndPrivateKeyMismatch => "PublicAndPrivateKeyMismatch",
+        PuttyError::InvalidPrivateKeyData => "InvalidPrivateKeyData",
+        PuttyError::InvalidPublicKeyData => "InvalidPublicKeyData",
+        PuttyError::InvalidPublicKeyContainer => "InvalidPublicKeyContainer",
+        PuttyError::InvalidPublicKeyComment => "InvalidPublicKeyComment",
+        PuttyError::AlreadyDecrypted => "AlreadyDecrypted",
+        PuttyError::AlreadyEncrypted => "AlreadyEncrypted",
+        PuttyError::Encrypted => "Encrypted",
+        PuttyError::NotSupported { .. } => "NotSupported",
+        PuttyError::SshPublicKey(_) => "SshPublicKey",
+        PuttyError::IoError(_) => "IoError",
+        PuttyError::SuiteFault => "SuiteFault",
+        PuttyError::TooLong => "TooLong",
+        PuttyError::TooManyLines => "TooManyLines",
+        PuttyError::NoMemory => "NoMemory",
     }
 }

@@ -131,7 +131,7 @@ fn writes_the_text_of_puttygen(rt: HostRuntime) -> Result<(), Fail> {
 }
 
 fn is_unwritten(alloc: Global, text: &str, target: &Target, wanted: &ConvertError) -> bool {
-    match convert(alloc, &mut PlainSuite::new(), text, target) {
+    match convert(alloc, &mut PlainSuite::new(), text, None, target, None, &[]) {
         Ok(_) => false,
         Err(why) => why == *wanted,
     }

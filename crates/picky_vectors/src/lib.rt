@@ -27,6 +27,8 @@ mod issuers;
 #[cfg(test)]
 mod key_lines;
 #[cfg(test)]
+mod key_texts;
+#[cfg(test)]
 mod keys;
 #[cfg(test)]
 mod lists;
@@ -65,6 +67,8 @@ mod printed_errors;
 #[cfg(test)]
 mod private_block_refusals;
 #[cfg(test)]
+mod private_conversions;
+#[cfg(test)]
 mod private_key_refusals;
 #[cfg(test)]
 mod private_keys;
@@ -79,11 +83,15 @@ mod putty_public;
 #[cfg(test)]
 mod putty_refusals;
 #[cfg(test)]
+mod real_files;
+#[cfg(test)]
 mod refused_inputs;
 #[cfg(test)]
 mod refused_lines;
 #[cfg(test)]
 mod runs;
+#[cfg(test)]
+mod sealed_conversions;
 #[cfg(test)]
 mod sealed_key_refusals;
 #[cfg(test)]
@@ -92,6 +100,8 @@ mod sealed_keys;
 mod statuses;
 #[cfg(test)]
 mod suites;
+#[cfg(test)]
+mod target_texts;
 #[cfg(test)]
 mod views;
 #[cfg(test)]

@@ -14,7 +14,7 @@ fn means(alloc: Global, line: &str, inner_key: SshBasePublicKey) -> Result<bool,
         key: Key::Public(inner_key),
         comment: Text::new(alloc, "k")?,
     };
-    let read = read_text(alloc, &mut PlainSuite::new(), line)?;
+    let read = read_text(alloc, &mut PlainSuite::new(), line, None)?;
     Ok(read == meaning && read.try_clone(alloc)? == meaning)
 }
 

@@ -43,7 +43,7 @@ fn changes_the_comment_as_puttygen_does(rt: HostRuntime) -> Result<(), Fail> {
 }
 
 // puttygen p256.ppk -O public, with CR LF
-const PUBLIC: &str = "---- BEGIN SSH2 PUBLIC KEY ----\r\n\
+pub const PUBLIC: &str = "---- BEGIN SSH2 PUBLIC KEY ----\r\n\
     Comment: \"a comment\"\r\n\
     AAAAE2VjZHNhLXNoYTItbmlzdHAyNTYAAAAIbmlzdHAyNTYAAABBBEnNK8hhGGvZ\r\n\
     jrP1wGQ9f9R5lpHKWcdWam3ehifGfqZu+aesi+nkcfRccckMkFl/OAhENMIgzOi3\r\n\
@@ -68,7 +68,7 @@ fn takes_the_public_key_out_as_puttygen_does(rt: HostRuntime) -> Result<(), Fail
 
 // The key of 32 zero secret and 32 zero public bytes, whose comment is `x` and CR: with row as in crate::ppk_secrets, but
 // for the comment b"x\r": row(s(b""))
-const ENDS_IN_CR: &str = "PuTTY-User-Key-File-2: ssh-ed25519\r\n\
+pub const ENDS_IN_CR: &str = "PuTTY-User-Key-File-2: ssh-ed25519\r\n\
     Encryption: none\r\n\
     Comment: x\r\r\n\
     Public-Lines: 2\r\n\

@@ -1,12 +1,23 @@
 //! A block of PuTTY's private key files has at most 65,535 lines of 64 characters.
 
+use crate::private_keys::written as envelope_of;
+use crate::runs::{Ran, ended, run_on};
+use picky_convert::Status;
 use picky_ppk::{PpkFile, PpkKeyAlgorithm, PpkSealing, PpkVersion, PuttyError};
-use picky_wire::{Bytes, Text};
+use picky_sshkey::{SshBasePrivateKey, SshPrivateKey};
+use picky_wire::{Bytes, Mpint, SliceSource, Text};
 use std::alloc::{AllocError, Global};
 use std::test::Fail;
 
 // 65,535 lines of 64 characters, 4 for 3 bytes: 65535 * 64 // 4 * 3
 const MOST: u32 = 3_145_680;
+
+/// More than the text of such a file has.
+const ROOM: usize = 5_000_000;
+
+// The lines up to the blob.
+const HEAD: &str =
+    "PuTTY-User-Key-File-3: ssh-rsa\nEncryption: none\nComment: \nPublic-Lines: 65535\n";
 
 /// A file of a blob.
 fn file_of(alloc: Global, blob: Bytes) -> PpkFile {
@@ -29,8 +40,7 @@ fn file_with(alloc: Global, len: u32) -> Result<PpkFile, AllocError> {
 /// The text begins with the lines up to the blob, and a count of 65,535.
 fn has_most_lines(alloc: Global, file: &PpkFile) -> Result<bool, Fail> {
     let text = file.to_string(alloc)?;
-    let head = "PuTTY-User-Key-File-3: ssh-rsa\nEncryption: none\nComment: \nPublic-Lines: 65535\n";
-    Ok(text.as_str().starts_with(head))
+    Ok(text.as_str().starts_with(HEAD))
 }
 
 fn is_written(alloc: Global) -> Result<bool, Fail> {
@@ -47,5 +57,49 @@ fn is_refused(alloc: Global) -> Result<bool, Fail> {
 fn writes_65535_lines_and_no_more(rt: HostRuntime) -> Result<(), Fail> {
     assert!(rt; is_written(rt.alloc())?);
     assert!(rt; is_refused(rt.alloc())?);
+    Ok(())
+}
+
+/// An RSA key whose modulus has so many bytes, the first of them 1, and whose other numbers but `e` are 1.
+fn rsa_with(alloc: Global, len: u32) -> Result<SshBasePrivateKey, Fail> {
+    Ok(SshBasePrivateKey::Rsa {
+        n: Mpint::from_vec(Vec::from_elem(alloc, 1, len as usize)?)?,
+        e: Mpint::from_be(alloc, &[1, 0, 1])?,
+        d: Mpint::from_be(alloc, &[1])?,
+        iqmp: Mpint::from_be(alloc, &[1])?,
+        p: Mpint::from_be(alloc, &[1])?,
+        q: Mpint::from_be(alloc, &[1])?,
+    })
+}
+
+/// The OpenSSH private key's text of that key.
+fn envelope_with(alloc: Global, len: u32) -> Result<Text, Fail> {
+    let base = rsa_with(alloc, len)?;
+    let key = SshPrivateKey::from_base(alloc, base, None, "", &[0; 16])?;
+    envelope_of(alloc, &key)
+}
+
+/// What a run of `ppk3` on that text answers, and what it writes.
+fn run_with(alloc: Global, len: u32) -> Result<Ran, Fail> {
+    let text = envelope_with(alloc, len)?;
+    let mut source = SliceSource::new(text.as_str().as_bytes());
+    run_on(alloc, &["ppk3"], &mut source, ROOM, 999)
+}
+
+fn is_converted(alloc: Global) -> Result<bool, Fail> {
+    let ran = run_with(alloc, MOST - 22)?;
+    Ok(ran.status == Status::Done && ran.out.written().starts_with(HEAD.as_bytes()))
+}
+
+fn is_not_converted(alloc: Global) -> Result<bool, Fail> {
+    let ran = run_with(alloc, MOST - 21)?;
+    Ok(ended(&ran, 1, b"", "keyconv: refused: TooManyLines\n"))
+}
+
+// The blob's name, e and the length of n take 11, 7 and 4 bytes.
+#[test]
+fn converts_to_65535_lines_and_no_more(rt: HostRuntime) -> Result<(), Fail> {
+    assert!(rt; is_converted(rt.alloc())?);
+    assert!(rt; is_not_converted(rt.alloc())?);
     Ok(())
 }

@@ -9,9 +9,9 @@ use std::alloc::{AllocError, Global};
 use std::test::Fail;
 
 /// A secret with 32 zero public bytes and the comment `hello`: its private line, and the MACs of both versions.
-struct SecretRow {
-    name: &'static str,
-    secret: [u8; 32],
+pub struct SecretRow {
+    pub name: &'static str,
+    pub secret: [u8; 32],
     private: &'static str,
     mac_v2: &'static str,
     mac_v3: &'static str,
@@ -20,7 +20,7 @@ struct SecretRow {
 const ZEROS: [u8; 32] = [0; 32];
 
 // 80 and 31 zeros in hex.
-const HIGH: [u8; 32] = [
+pub const HIGH: [u8; 32] = [
     128, 0, 0, 0, 0, 0, 0, 0, 0, 0, 0, 0, 0, 0, 0, 0, 0, 0, 0, 0, 0, 0, 0, 0, 0, 0, 0, 0, 0, 0, 0,
     0,
 ];
@@ -42,7 +42,7 @@ const LOW: [u8; 32] = [
 //     print(b64encode(private), hmac.new(k, covered, "sha1").hexdigest(), hmac.new(b"", covered, "sha256").hexdigest())
 // row(s(b"")), row(s(b"\0\x80" + bytes(31))), row(s(b"\1" * 31))
 // PuTTYgen reads each file, and so its MAC is good.
-static SECRET_ROWS: [SecretRow; 3] = [
+pub static SECRET_ROWS: [SecretRow; 3] = [
     SecretRow {
         name: "zeros",
         secret: ZEROS,
@@ -108,13 +108,13 @@ const HEAD: &str = ": ssh-ed25519\n\
     Private-Lines: 1\n";
 
 /// The file of the row.
-fn text_of(alloc: Global, row: &SecretRow, version: PpkVersion) -> Result<String, AllocError> {
+pub fn text_of(alloc: Global, row: &SecretRow, version: PpkVersion) -> Result<String, AllocError> {
     let body = format!(in alloc; "{HEAD}{}\n", row.private)?;
     text_with_macs(alloc, body.as_str(), version, row.mac_v2, row.mac_v3)
 }
 
 /// The key of a secret, with 32 zero public bytes.
-fn key_of(alloc: Global, secret: [u8; 32]) -> Result<SshPrivateKey, Fail> {
+pub fn key_of(alloc: Global, secret: [u8; 32]) -> Result<SshPrivateKey, Fail> {
     let base = SshBasePrivateKey::Ed {
         secret,
         public: [0; 32],

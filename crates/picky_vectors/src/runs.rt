@@ -1,7 +1,8 @@
 //! Runs of the program over streams in memory.
 
 use picky_convert::{Status, Target, convert, run};
-use picky_suite::PlainSuite;
+use picky_ppk::PpkVersion;
+use picky_suite::{PlainSuite, Suite};
 use picky_wire::{MemorySink, SliceSource, Source, Text};
 use std::alloc::Global;
 use std::process::Abort;
@@ -18,6 +19,20 @@ pub struct Ran {
     pub err: MemorySink,
 }
 
+/// What a run is given beside its words and devices.
+#[derive(Clone, Copy)]
+pub struct Given<'a> {
+    pub pass_in: Option<&'a str>,
+    pub pass_out: Option<&'a str>,
+    pub fresh: &'a [u8],
+}
+
+pub const NOTHING: Given<'static> = Given {
+    pass_in: None,
+    pass_out: None,
+    fresh: &[],
+};
+
 /// A run where `out` and `err` have so much room.
 pub fn run_on<S: Source>(
     alloc: Global,
@@ -26,6 +41,26 @@ pub fn run_on<S: Source>(
     room: usize,
     err_room: usize,
 ) -> Result<Ran, Fail> {
+    run_given(
+        alloc,
+        words,
+        NOTHING,
+        &mut PlainSuite::new(),
+        source,
+        (room, err_room),
+    )
+}
+
+/// The same with passphrases, fresh bytes and a suite.
+pub fn run_given<P: Suite, S: Source>(
+    alloc: Global,
+    words: &[&str],
+    given: Given<'_>,
+    suite: &mut P,
+    source: &mut S,
+    rooms: (usize, usize),
+) -> Result<Ran, Fail> {
+    let (room, err_room) = rooms;
     let mut texts = Vec::new(alloc);
     for word in words {
         texts.push(Text::new(alloc, word)?)?;
@@ -35,7 +70,10 @@ pub fn run_on<S: Source>(
     let status = run(
         alloc,
         texts.as_slice(),
-        &mut PlainSuite::new(),
+        given.pass_in,
+        given.pass_out,
+        given.fresh,
+        suite,
         source,
         &mut out,
         &mut err,
@@ -95,9 +133,12 @@ pub fn converts(
     target: &Target,
     text: &str,
 ) -> Result<(), Fail> {
-    let answer = convert(alloc, &mut PlainSuite::new(), line, target)?;
+    let answer = convert(alloc, &mut PlainSuite::new(), line, None, target, None, &[])?;
     assert_eq!(rt; answer.as_str(), text, "{name}");
     let command = match target {
+        Target::OpenSsh => "openssh",
+        Target::Ppk(PpkVersion::V2, _) => "ppk2",
+        Target::Ppk(PpkVersion::V3, _) => "ppk3",
         Target::OpenSshPublic => "ssh-pub",
         Target::PuttyPublic => "putty-pub",
     };

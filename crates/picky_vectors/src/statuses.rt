@@ -1,7 +1,7 @@
 //! How a run ends: its status, its line on standard error, and what devices that fail make of both.
 
 use crate::runs::{ended, run_on};
-use picky_convert::{ConvertError, ReadError, Status, report};
+use picky_convert::{ConvertError, ReadError, Status, word};
 use picky_putty_public::PuttyError;
 use picky_sshpub::SshPublicKeyError;
 use picky_wire::{MemorySource, SliceSource};
@@ -58,7 +58,7 @@ const USAGE: &str =
     "keyconv: usage: keyconv openssh|ppk2|ppk3|ssh-pub|putty-pub|cert|tbs|fingerprint|sample\n";
 
 // A status, its exit code and its line (docs/FORMATS.md, "The line on standard error").
-const REPORTS: [(Status, u8, &str); 10] = [
+const REPORTS: [(Status, u8, &str); 12] = [
     (
         Status::Usage,
         2,
@@ -66,7 +66,13 @@ const REPORTS: [(Status, u8, &str); 10] = [
     ),
     (Status::ReadFault, 3, "keyconv: read fault\n"),
     (Status::WriteFault, 4, "keyconv: write fault\n"),
+    (Status::OutsideFault, 5, "keyconv: outside fault\n"),
     (Status::NoMemory, 6, "keyconv: out of memory\n"),
+    (
+        Status::Refused(ConvertError::FreshTooShort),
+        1,
+        "keyconv: refused: FreshTooShort\n",
+    ),
     (Status::InputTooLong, 7, "keyconv: input too long\n"),
     (Status::InputNotUtf8, 8, "keyconv: input not UTF-8\n"),
     (
@@ -91,10 +97,22 @@ const REPORTS: [(Status, u8, &str); 10] = [
     ),
 ];
 
+/// The line is `keyconv: `, the status's path and name, and LF.
+fn says(status: &Status, line: &str) -> bool {
+    let word = word(status);
+    match line.strip_prefix("keyconv: ") {
+        Some(rest) => match rest.strip_prefix(word.path) {
+            Some(name) => name.strip_suffix("\n") == Some(word.name),
+            None => false,
+        },
+        None => false,
+    }
+}
+
 #[test]
 fn prints_a_line_for_each_status(rt: HostRuntime) {
     for (status, code, line) in &REPORTS {
-        assert_eq!(rt; report(status), *line);
+        assert!(rt; says(status, line), "{line}");
         assert_eq!(rt; status.exit_code(), *code, "{line}");
     }
 }

@@ -1,29 +1,44 @@
 -- The text is the outcome of all bytes that the source had.
-use Rattle.std.proofs.Common.{◌∙◌, ap, subst, length, arith, Err}
-use Rattle.std.specs.Prelude.{IfErr}
-use Rattle.picky_convert.specs.Run.{outcome, Explains}
-use Rattle.picky_convert.proofs.CauseLemmas.{answered_so, refused_so, short_enough, can_come, explained, outcome_long}
+use Rattle.std.proofs.Common.{◌∙◌, ap, subst, length, arith, true, ◌≡◌, Err}
+use Rattle.std.specs.Prelude.{IfErr, string_bytes}
+use Rattle.picky_wire.specs.Count.{Rose}
+use Rattle.picky_convert.specs.Run.{outcome, outcome_asks, Explains}
+use Rattle.picky_convert.specs.inner.Causes.{outside}
+use Rattle.picky_convert.proofs.CauseLemmas.{asked_so, can_ask, can_come, explained, outcome_long, short_enough}
 use Rattle.picky_convert.proofs.program.take_text.Goals as goal
 
 pub returns-in-Ok-clause-known : goal.returns-in-Ok-clause-known
-returns-in-Ok-clause-known g c = can_come _ c.perform.result c.args.command.now c.as_slice.result.now _ c.perform.ensures.gives
-
-pub returns-in-Ok-clause-refused : goal.returns-in-Ok-clause-refused
-returns-in-Ok-clause-refused g c = λ told.
-    let whole = c.as_slice.ensures.value ∙ c.in-Ok.ensures.whole told in
-    subst (λ input. IfErr c.perform.result (λ status. Explains status (outcome c.args.command.now input))) whole
-    (explained _ c.perform.result c.args.command.now c.as_slice.result.now c.perform.ensures.gives)
-
-pub returns-in-Err-TooLong-clause-refused : goal.returns-in-Err-TooLong-clause-refused
-returns-in-Err-TooLong-clause-refused g c = λ told. outcome_long c.args.command.now _ (c.in-Err-TooLong.ensures.too_long told (ap Err c.in-Err-TooLong.field-0-is)).0
+returns-in-Ok-clause-known g c =
+    can_come _ _ c.args.command c.as_slice.result.now _ _ c.perform.result c.perform.ensures.gives
 
 pub returns-in-Ok-clause-past_limit : goal.returns-in-Ok-clause-past_limit
 returns-in-Ok-clause-past_limit g c = λ told.
-    short_enough _ c.perform.result c.args.command.now c.as_slice.result.now _ (omega (arith, c.in-Ok.ensures.small, ap length c.as_slice.ensures.value))
-    c.perform.ensures.gives
+    short_enough _ _ c.args.command c.as_slice.result.now _ _ c.perform.result
+    (omega (arith, c.in-Ok.ensures.small, ap length c.as_slice.ensures.value)) c.perform.ensures.gives
 
-pub returns-in-Ok-clause-refusal : goal.returns-in-Ok-clause-refusal
-returns-in-Ok-clause-refusal g c = refused_so _ c.perform.result c.args.command.now c.as_slice.result.now c.perform.ensures.gives
+pub returns-in-Ok-clause-refused : goal.returns-in-Ok-clause-refused
+returns-in-Ok-clause-refused g c = λ told.
+    let o = outside (g.S.Suite.meanings c.args.suite.now) c.args.given in
+    let whole = c.as_slice.ensures.value ∙ c.in-Ok.ensures.whole told in
+    subst (λ input. IfErr c.perform.result (λ status. Explains status (outcome o c.args.command input))) whole
+    (explained string_bytes o c.args.command c.as_slice.result.now
+    (Rose (g.S.Suite.faults c.args.suite.now) (g.S.Suite.faults c.perform.new.suite)) c.perform.result c.perform.ensures.gives)
 
-pub returns-in-Ok-clause-answers : goal.returns-in-Ok-clause-answers
-returns-in-Ok-clause-answers g c = answered_so _ c.perform.result c.args.command.now c.as_slice.result.now c.perform.ensures.gives
+pub returns-in-Ok-clause-outside_fault : goal.returns-in-Ok-clause-outside_fault
+returns-in-Ok-clause-outside_fault g c = λ told is.
+    let o = outside (g.S.Suite.meanings c.args.suite.now) c.args.given in
+    let whole = c.as_slice.ensures.value ∙ c.in-Ok.ensures.whole told in
+    subst (λ input. outcome_asks o c.args.command input ≡ true) whole
+    (asked_so string_bytes o c.args.command c.as_slice.result.now
+    (Rose (g.S.Suite.faults c.args.suite.now) (g.S.Suite.faults c.perform.new.suite)) c.perform.result c.perform.ensures.gives is)
+
+pub returns-in-Ok-clause-outside_fault_of_some : goal.returns-in-Ok-clause-outside_fault_of_some
+returns-in-Ok-clause-outside_fault_of_some g c =
+    let o = outside (g.S.Suite.meanings c.args.suite.now) c.args.given in
+    can_ask string_bytes o c.args.command c.as_slice.result.now
+    (Rose (g.S.Suite.faults c.args.suite.now) (g.S.Suite.faults c.perform.new.suite)) c.perform.result c.perform.ensures.gives
+
+pub returns-in-Err-TooLong-clause-refused : goal.returns-in-Err-TooLong-clause-refused
+returns-in-Err-TooLong-clause-refused g c = λ told.
+    let o = outside (g.S.Suite.meanings c.args.suite.now) c.args.given in
+    outcome_long o c.args.command _ (c.in-Err-TooLong.ensures.too_long told (ap Err c.in-Err-TooLong.field-0-is)).0

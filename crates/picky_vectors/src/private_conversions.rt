@@ -1,0 +1,299 @@
+//! Private keys converted by a run: between OpenSSH's and PuTTY's forms, and refused.
+
+use crate::ppk_comments::ENDS_IN_CR;
+use crate::ppk_files::VERSIONS;
+use crate::ppk_secrets::{SECRET_ROWS, SecretRow, ZERO_TEXT, key_of, text_of as secret_text_of};
+use crate::ppk_texts::{PPK_ROWS, PpkRow, text_of};
+use crate::private_keys::{ZERO_KEY, written as envelope_of};
+use crate::private_texts::{PRIVATE_ROWS, PrivateRow, V2};
+use crate::runs::{ended, run_on};
+use picky_ppk::PpkVersion;
+use picky_sshkey::{SshBasePrivateKey, SshPrivateKey};
+use picky_wire::{SliceSource, Text};
+use std::alloc::Global;
+use std::test::Fail;
+
+/// How many bytes a text here has at most.
+pub const ROOM: usize = 9999;
+
+fn word_of(version: PpkVersion) -> &'static str {
+    match version {
+        PpkVersion::V2 => "ppk2",
+        PpkVersion::V3 => "ppk3",
+    }
+}
+
+/// The command writes the text for the input.
+pub fn writes(alloc: Global, command: &str, input: &str, text: &str) -> Result<bool, Fail> {
+    let mut source = SliceSource::new(input.as_bytes());
+    let ran = run_on(alloc, &[command], &mut source, ROOM, 999)?;
+    Ok(ended(&ran, 0, text.as_bytes(), ""))
+}
+
+/// The command refuses the input so.
+pub fn refuses(alloc: Global, command: &str, input: &str, line: &str) -> Result<bool, Fail> {
+    let mut source = SliceSource::new(input.as_bytes());
+    let ran = run_on(alloc, &[command], &mut source, ROOM, 999)?;
+    Ok(ended(&ran, 1, b"", line))
+}
+
+/// What the command writes for the input.
+fn written(alloc: Global, command: &str, input: &str) -> Result<String, Fail> {
+    let mut source = SliceSource::new(input.as_bytes());
+    let ran = run_on(alloc, &[command], &mut source, ROOM, 999)?;
+    match str::from_utf8(ran.out.written()) {
+        Ok(text) => Ok(String::from_str(alloc, text)?),
+        Err(_) => Ok(String::new(alloc)),
+    }
+}
+
+/// OpenSSH's text becomes PuTTYgen's, and that becomes what OpenSSH's text is written as.
+fn is_converted(
+    alloc: Global,
+    row: &PpkRow,
+    key: &PrivateRow,
+    version: PpkVersion,
+) -> Result<bool, Fail> {
+    let text = text_of(alloc, row, version)?;
+    are_converted(alloc, key.text, text.as_str(), word_of(version))
+}
+
+fn are_converted(alloc: Global, key: &str, text: &str, word: &str) -> Result<bool, Fail> {
+    let own = written(alloc, "openssh", key)?;
+    Ok(writes(alloc, word, key, text)? && writes(alloc, "openssh", text, own.as_str())?)
+}
+
+#[test]
+fn converts_as_puttygen_does_and_back(rt: HostRuntime) -> Result<(), Fail> {
+    for (row, key) in PPK_ROWS.iter().zip(&PRIVATE_ROWS) {
+        for version in VERSIONS {
+            assert!(rt;
+                is_converted(rt.alloc(), row, key, version)?,
+                "{}, {version:?}",
+                row.name
+            );
+        }
+    }
+    Ok(())
+}
+
+/// Through PuTTY's versions 3 and 2 a text becomes what it is written as directly.
+fn loses_nothing(alloc: Global, text: &str) -> Result<bool, Fail> {
+    let own = written(alloc, "openssh", text)?;
+    let third = written(alloc, "ppk3", text)?;
+    let second = written(alloc, "ppk2", third.as_str())?;
+    writes(alloc, "openssh", second.as_str(), own.as_str())
+}
+
+#[test]
+fn loses_nothing_by_the_way(rt: HostRuntime) -> Result<(), Fail> {
+    assert!(rt; loses_nothing(rt.alloc(), V2)?);
+    assert!(rt; loses_nothing(rt.alloc(), ZERO_KEY)?);
+    Ok(())
+}
+
+/// The text of the key of a secret.
+pub fn secret_envelope(alloc: Global, secret: [u8; 32]) -> Result<Text, Fail> {
+    let key = key_of(alloc, secret)?;
+    envelope_of(alloc, &key)
+}
+
+/// The text of the row's key becomes PuTTY's, and that becomes it again.
+fn is_secret_converted(alloc: Global, row: &SecretRow, version: PpkVersion) -> Result<bool, Fail> {
+    let text = secret_text_of(alloc, row, version)?;
+    becomes(alloc, row.secret, version, text.as_str())
+}
+
+fn becomes(alloc: Global, secret: [u8; 32], version: PpkVersion, text: &str) -> Result<bool, Fail> {
+    let envelope = secret_envelope(alloc, secret)?;
+    let envelope = envelope.as_str();
+    Ok(
+        writes(alloc, word_of(version), envelope, text)?
+            && writes(alloc, "openssh", text, envelope)?,
+    )
+}
+
+#[test]
+fn converts_a_secret_as_a_number(rt: HostRuntime) -> Result<(), Fail> {
+    for row in &SECRET_ROWS {
+        for version in VERSIONS {
+            assert!(rt;
+                is_secret_converted(rt.alloc(), row, version)?,
+                "{}, {version:?}",
+                row.name
+            );
+        }
+    }
+    Ok(())
+}
+
+fn writes_without_line_ends(alloc: Global) -> Result<bool, Fail> {
+    let text = ZERO_KEY.replace(alloc, "\n", "")?;
+    writes(alloc, "openssh", text.as_str(), ZERO_KEY)
+}
+
+fn writes_with_plus(alloc: Global) -> Result<bool, Fail> {
+    let text = ZERO_TEXT.replace(alloc, "Public-Lines: 2", "Public-Lines: +02")?;
+    writes(alloc, "openssh", text.as_str(), ZERO_KEY)
+}
+
+#[test]
+fn writes_the_one_spelling(rt: HostRuntime) -> Result<(), Fail> {
+    assert!(rt; writes(rt.alloc(), "openssh", ZERO_KEY, ZERO_KEY)?);
+    assert!(rt; writes(rt.alloc(), "ppk3", ZERO_KEY, ZERO_TEXT)?);
+    assert!(rt; writes(rt.alloc(), "openssh", ZERO_TEXT, ZERO_KEY)?);
+    assert!(rt; writes_without_line_ends(rt.alloc())?);
+    assert!(rt; writes_with_plus(rt.alloc())?);
+    assert!(rt; writes(rt.alloc(), "ppk2", ENDS_IN_CR, ENDS_IN_CR)?);
+    Ok(())
+}
+
+// A command, a text, what is replaced in it, and the refusal.
+static REFUSALS: [(&str, &str, [&str; 2], &str); 9] = [
+    (
+        "openssh",
+        ZERO_KEY,
+        ["AAAAAAAAABAAAAMwAAAAtz", "AAAAAAAAACAAAAMwAAAAtz"],
+        "keyconv: refused: input.private.InvalidKeysAmount\n",
+    ),
+    (
+        "openssh",
+        ZERO_KEY,
+        ["\nAJAAAA", "\nAJABAA"],
+        "keyconv: refused: input.private.InvalidCheckNumbers\n",
+    ),
+    (
+        "openssh",
+        ZERO_KEY,
+        ["\n-----END OPENSSH PRIVATE KEY-----", ""],
+        "keyconv: refused: input.private.PemError\n",
+    ),
+    (
+        "openssh",
+        ZERO_TEXT,
+        ["Public-Lines: 2", "Public-Lines: 65536"],
+        "keyconv: refused: input.putty.InvalidInput\n",
+    ),
+    (
+        "openssh",
+        ZERO_TEXT,
+        ["Public-Lines: 2", "Public-Lines: 65535"],
+        "keyconv: refused: input.putty.EndOfInput\n",
+    ),
+    (
+        "ssh-pub",
+        ZERO_TEXT,
+        ["AAAAAA==", "AAAAAQA="],
+        "keyconv: refused: input.putty.MacValidation\n",
+    ),
+    (
+        "putty-pub",
+        ZERO_TEXT,
+        ["File-3", "File-1"],
+        "keyconv: refused: input.putty.InvalidInput\n",
+    ),
+    (
+        "ppk3",
+        ENDS_IN_CR,
+        ["", ""],
+        "keyconv: refused: CommentNotCarried\n",
+    ),
+    (
+        "ppk3",
+        "ssh-ed25519 AAAAC3NzaC1lZDI1NTE5AAAAIAAAAAAAAAAAAAAAAAAAAAAAAAAAAAAAAAAAAAAAAAAA k\n",
+        ["", ""],
+        "keyconv: refused: NoPrivateKey\n",
+    ),
+];
+
+fn refuses_changed(alloc: Global, row: &(&str, &str, [&str; 2], &str)) -> Result<bool, Fail> {
+    let (command, text, [old, new], line) = row;
+    if old.is_empty() {
+        return refuses(alloc, command, text, line);
+    }
+    let changed = text.replace(alloc, old, new)?;
+    refuses(alloc, command, changed.as_str(), line)
+}
+
+#[test]
+fn refuses_by_the_first_reason(rt: HostRuntime) -> Result<(), Fail> {
+    for row in &REFUSALS {
+        let (command, _, [_, new], line) = row;
+        assert!(rt;
+            refuses_changed(rt.alloc(), row)?,
+            "{command}, {new}: {line}"
+        );
+    }
+    Ok(())
+}
+
+// A comment of an envelope, and the commands whose texts can't hold it; in them it would be lines of its own.
+static COMMENTS: [(&str, &[&str]); 2] = [
+    (
+        "a\nPrivate-Lines: 0",
+        &["ppk2", "ppk3", "ssh-pub", "putty-pub"],
+    ),
+    (
+        "x\r\nssh-ed25519 AAAAC3NzaC1lZDI1NTE5AAAAIAAAAAAAAAAAAAAAAAAAAAAAAAAAAAAAAAAAAAAAAAAA y",
+        &["ssh-pub", "ppk2", "ppk3", "putty-pub"],
+    ),
+];
+
+/// The text of the key of zeros with a comment.
+fn commented(alloc: Global, comment: &str) -> Result<Text, Fail> {
+    let base = SshBasePrivateKey::Ed {
+        secret: [0; 32],
+        public: [0; 32],
+    };
+    let key = SshPrivateKey::from_base(alloc, base, None, comment, &[0; 16])?;
+    envelope_of(alloc, &key)
+}
+
+/// Only an envelope can hold the comment.
+fn is_held_by_envelope(alloc: Global, comment: &str) -> Result<bool, Fail> {
+    let text = commented(alloc, comment)?;
+    writes(alloc, "openssh", text.as_str(), text.as_str())
+}
+
+fn is_not_carried(alloc: Global, command: &str, comment: &str) -> Result<bool, Fail> {
+    let text = commented(alloc, comment)?;
+    let line = "keyconv: refused: CommentNotCarried\n";
+    refuses(alloc, command, text.as_str(), line)
+}
+
+#[test]
+fn makes_no_lines_of_a_comment(rt: HostRuntime) -> Result<(), Fail> {
+    for (comment, commands) in &COMMENTS {
+        assert!(rt; is_held_by_envelope(rt.alloc(), comment)?, "{comment}");
+        for command in *commands {
+            assert!(rt;
+                is_not_carried(rt.alloc(), command, comment)?,
+                "{command}: {comment}"
+            );
+        }
+    }
+    Ok(())
+}
+
+/// Of a key whose secret a device keeps.
+fn has_no_file(alloc: Global, key: &PrivateRow) -> Result<bool, Fail> {
+    let own = written(alloc, "openssh", key.text)?;
+    Ok(
+        refuses(
+            alloc,
+            "ppk3",
+            key.text,
+            "keyconv: refused: output.putty.NotSupported\n",
+        )? && !own.as_str().is_empty(),
+    )
+}
+
+#[test]
+fn has_no_file_for_a_key_of_a_device(rt: HostRuntime) -> Result<(), Fail> {
+    for key in &PRIVATE_ROWS {
+        if key.is_on_device {
+            assert!(rt; has_no_file(rt.alloc(), key)?, "{}", key.name);
+        }
+    }
+    Ok(())
+}

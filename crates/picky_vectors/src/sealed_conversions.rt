@@ -1,0 +1,298 @@
+//! Private keys that a run seals and opens, by the suite for tests and by one that fails.
+
+use crate::ppk_sealed::PASS;
+use crate::ppk_secrets::{HIGH, ZERO_TEXT};
+use crate::ppk_texts::TOY_V3;
+use crate::private_conversions::{ROOM, secret_envelope};
+use crate::private_keys::ZERO_KEY;
+use crate::runs::{Given, NOTHING, ended, run_given};
+use picky_suite::{MemorySuite, PlainSuite};
+use picky_wire::SliceSource;
+use std::alloc::Global;
+use std::test::Fail;
+
+// 16 bytes of salt and 12 of padding: the key's private bytes are 4.
+const FRESH: &[u8] = &[7; 28];
+
+/// The command over the suite for tests, whose calls of these numbers fail.
+fn ends_over(
+    alloc: Global,
+    command: &str,
+    input: &str,
+    given: Given<'_>,
+    failing: &[u64],
+    end: (u8, &str),
+) -> Result<bool, Fail> {
+    let mut suite = MemorySuite::new(alloc, failing)?;
+    let mut source = SliceSource::new(input.as_bytes());
+    let ran = run_given(
+        alloc,
+        &[command],
+        given,
+        &mut suite,
+        &mut source,
+        (ROOM, 999),
+    )?;
+    let (code, line) = end;
+    Ok(ran.status.exit_code() == code && ran.err.written() == line.as_bytes())
+}
+
+/// What the command writes for the input under the passphrase `p`.
+fn sealed(alloc: Global, command: &str, input: &str, fresh: &[u8]) -> Result<String, Fail> {
+    let mut suite = MemorySuite::new(alloc, &[])?;
+    let mut source = SliceSource::new(input.as_bytes());
+    let given = Given {
+        pass_in: None,
+        pass_out: Some("p"),
+        fresh,
+    };
+    let ran = run_given(
+        alloc,
+        &[command],
+        given,
+        &mut suite,
+        &mut source,
+        (ROOM, 999),
+    )?;
+    match str::from_utf8(ran.out.written()) {
+        Ok(text) => Ok(String::from_str(alloc, text)?),
+        Err(_) => Ok(String::new(alloc)),
+    }
+}
+
+/// The sealed text opens under its passphrase alone, and the suite's fault stands in its place.
+fn opens(alloc: Global, text: &str, locked: &str) -> Result<bool, Fail> {
+    let given = Given {
+        pass_in: Some("p"),
+        ..NOTHING
+    };
+    Ok(
+        ends_over(alloc, "openssh", text, given, &[], (0, ""))?
+            && ends_over(alloc, "openssh", text, NOTHING, &[], (1, locked))?
+            && ends_over(
+                alloc,
+                "openssh",
+                text,
+                given,
+                &[0],
+                (5, "keyconv: outside fault\n"),
+            )?
+            && ends_over(
+                alloc,
+                "openssh",
+                text,
+                given,
+                &[1],
+                (5, "keyconv: outside fault\n"),
+            )?,
+    )
+}
+
+fn opens_file(alloc: Global) -> Result<bool, Fail> {
+    let text = sealed(alloc, "ppk3", ZERO_KEY, FRESH)?;
+    opens(
+        alloc,
+        text.as_str(),
+        "keyconv: refused: input.putty.Encrypted\n",
+    )
+}
+
+fn opens_envelope(alloc: Global) -> Result<bool, Fail> {
+    let text = sealed(alloc, "openssh", ZERO_KEY, FRESH)?;
+    opens(
+        alloc,
+        text.as_str(),
+        "keyconv: refused: input.private.MissingPassphrase\n",
+    )
+}
+
+#[test]
+fn seals_and_opens(rt: HostRuntime) -> Result<(), Fail> {
+    assert!(rt; opens_file(rt.alloc())?);
+    assert!(rt; opens_envelope(rt.alloc())?);
+    Ok(())
+}
+
+// A command, the passphrase that it seals under, how many fresh bytes there are, the calls that fail, and how it ends.
+static SEALINGS: [(&str, &str, usize, &[u64], (u8, &str)); 7] = [
+    ("ppk3", "p", 28, &[], (0, "")),
+    (
+        "ppk3",
+        "p",
+        27,
+        &[],
+        (1, "keyconv: refused: FreshTooShort\n"),
+    ),
+    ("ppk2", "p", 12, &[], (0, "")),
+    (
+        "openssh",
+        "",
+        16,
+        &[],
+        (1, "keyconv: refused: output.private.HashingError\n"),
+    ),
+    (
+        "openssh",
+        "p",
+        15,
+        &[],
+        (1, "keyconv: refused: FreshTooShort\n"),
+    ),
+    ("ppk3", "p", 28, &[0], (5, "keyconv: outside fault\n")),
+    ("ppk3", "p", 28, &[2, 3, 4, 5, 6, 7, 8, 9], (0, "")),
+];
+
+#[test]
+fn seals_with_fresh_bytes(rt: HostRuntime) -> Result<(), Fail> {
+    for (command, pass, len, failing, end) in &SEALINGS {
+        let given = Given {
+            pass_in: None,
+            pass_out: Some(pass),
+            fresh: &FRESH[..*len],
+        };
+        assert!(rt;
+            ends_over(rt.alloc(), command, ZERO_KEY, given, failing, *end)?,
+            "{command}, {len}"
+        );
+    }
+    Ok(())
+}
+
+const SEAL: Given<'static> = Given {
+    pass_in: None,
+    pass_out: Some("p"),
+    fresh: FRESH,
+};
+
+const OPEN: Given<'static> = Given {
+    pass_in: Some("p"),
+    ..NOTHING
+};
+
+// The private bytes of the secret are 37: a length, and 33 bytes of a number. 11 are padding.
+fn takes_27_fresh_bytes(alloc: Global, envelope: &str) -> Result<bool, Fail> {
+    let enough = Given {
+        fresh: &FRESH[..27],
+        ..SEAL
+    };
+    let short = Given {
+        fresh: &FRESH[..26],
+        ..SEAL
+    };
+    let refusal = (1, "keyconv: refused: FreshTooShort\n");
+    Ok(
+        ends_over(alloc, "ppk3", envelope, enough, &[], (0, ""))?
+            && ends_over(alloc, "ppk3", envelope, short, &[], refusal)?,
+    )
+}
+
+/// The sealed text opens as the envelope, under the passphrase alone.
+fn opens_as(alloc: Global, sealed: &str, envelope: &str) -> Result<bool, Fail> {
+    let locked = (1, "keyconv: refused: input.putty.Encrypted\n");
+    Ok(
+        ends_over(alloc, "openssh", sealed, NOTHING, &[], locked)?
+            && writes_over(alloc, "openssh", sealed, OPEN, &[], envelope)?,
+    )
+}
+
+fn comes_back(alloc: Global, envelope: &str) -> Result<bool, Fail> {
+    let text = sealed(alloc, "ppk3", envelope, &FRESH[..27])?;
+    opens_as(alloc, text.as_str(), envelope)
+}
+
+fn is_secret_sealed(alloc: Global, secret: [u8; 32]) -> Result<bool, Fail> {
+    let envelope = secret_envelope(alloc, secret)?;
+    Ok(takes_27_fresh_bytes(alloc, envelope.as_str())? && comes_back(alloc, envelope.as_str())?)
+}
+
+#[test]
+fn seals_a_secret_as_a_number(rt: HostRuntime) -> Result<(), Fail> {
+    assert!(rt; is_secret_sealed(rt.alloc(), HIGH)?);
+    Ok(())
+}
+
+/// The command over the suite for tests, whose calls of these numbers fail, writes the text.
+fn writes_over(
+    alloc: Global,
+    command: &str,
+    input: &str,
+    given: Given<'_>,
+    failing: &[u64],
+    text: &str,
+) -> Result<bool, Fail> {
+    let mut suite = MemorySuite::new(alloc, failing)?;
+    let mut source = SliceSource::new(input.as_bytes());
+    let ran = run_given(
+        alloc,
+        &[command],
+        given,
+        &mut suite,
+        &mut source,
+        (ROOM, 999),
+    )?;
+    Ok(ended(&ran, 0, text.as_bytes(), ""))
+}
+
+// base64.b64encode(bytes(17)) in place of the file's 48 private bytes; the MAC isn't looked at.
+fn is_no_block(alloc: Global) -> Result<bool, Fail> {
+    let text = TOY_V3.replace(
+        alloc,
+        "6oyHO9HyHO8Ldw4UYJtkSG5IE709yF+OR9h799vSztcUR+aLOm79o/FzFwbR6cGG",
+        "AAAAAAAAAAAAAAAAAAAAAAA=",
+    )?;
+    let given = Given {
+        pass_in: Some(PASS),
+        ..NOTHING
+    };
+    let refusal = (1, "keyconv: refused: input.putty.Aes\n");
+    ends_over(alloc, "openssh", text.as_str(), given, &[], refusal)
+}
+
+#[test]
+fn opens_whole_blocks(rt: HostRuntime) -> Result<(), Fail> {
+    assert!(rt; is_no_block(rt.alloc())?);
+    Ok(())
+}
+
+/// Over a suite that has no ciphers.
+fn fails_over_none(
+    alloc: Global,
+    command: &str,
+    input: &str,
+    given: Given<'_>,
+) -> Result<bool, Fail> {
+    let mut source = SliceSource::new(input.as_bytes());
+    let ran = run_given(
+        alloc,
+        &[command],
+        given,
+        &mut PlainSuite::new(),
+        &mut source,
+        (ROOM, 999),
+    )?;
+    Ok(ended(&ran, 5, b"", "keyconv: outside fault\n"))
+}
+
+fn has_no_cipher(alloc: Global, command: &str) -> Result<bool, Fail> {
+    let text = sealed(alloc, command, ZERO_KEY, FRESH)?;
+    Ok(
+        fails_over_none(alloc, command, ZERO_KEY, SEAL)?
+            && fails_over_none(alloc, "openssh", text.as_str(), OPEN)?,
+    )
+}
+
+#[test]
+fn fails_where_there_is_no_cipher(rt: HostRuntime) -> Result<(), Fail> {
+    for command in ["openssh", "ppk2", "ppk3"] {
+        assert!(rt; has_no_cipher(rt.alloc(), command)?, "{command}");
+    }
+    Ok(())
+}
+
+#[test]
+fn asks_nothing_without_a_passphrase(rt: HostRuntime) -> Result<(), Fail> {
+    let failing = &[0, 1, 2, 3, 4, 5, 6, 7, 8, 9];
+    assert!(rt; writes_over(rt.alloc(), "ppk3", ZERO_KEY, NOTHING, failing, ZERO_TEXT)?);
+    assert!(rt; writes_over(rt.alloc(), "openssh", ZERO_TEXT, NOTHING, failing, ZERO_KEY)?);
+    Ok(())
+}
