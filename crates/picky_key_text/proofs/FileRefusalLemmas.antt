@@ -7,7 +7,7 @@ use Rattle.picky_text.specs.Lines.{lines}
 use Rattle.picky_suite.specs.Meanings.{Meanings}
 use Rattle.picky_sshpub.specs.declared.error.SshPublicKeyError.{SshPublicKeyError}
 use Rattle.picky_sshpub.specs.declared.error.SshPublicKeyError.TheVariants as public
-use Rattle.picky_sshkey.proofs.RefusalLemmas.{Refuses, err_as, if_as, ok_as, then_as}
+use Rattle.picky_sshkey.proofs.RefusalLaws.{Refuses, err_as, if_as, ok_as, then_as}
 use Rattle.picky_kv_words.specs.Field.{Field, field_value, judged, refusal}
 use Rattle.picky_kv_words.specs.declared.error.PpkValueError.{PpkValueError}
 use Rattle.picky_kv_words.specs.declared.error.PpkValueError.TheVariants as value

@@ -24,7 +24,7 @@ use Rattle.picky_sshpub.specs.carried.SourceLine.{line_own}
 use Rattle.picky_sshkey_blob.specs.declared.error.SshPrivateKeyError.{SshPrivateKeyError}
 use Rattle.picky_sshkey.specs.PrivateRefusal.{text_key}
 use Rattle.picky_sshkey.proofs.FaultLaws.{text_no_fault}
-use Rattle.picky_sshkey.proofs.RefusalLemmas.{Refuses, err_as, if_as, map_as, ok_as, some_as, then_as}
+use Rattle.picky_sshkey.proofs.RefusalLaws.{Refuses, err_as, if_as, map_as, ok_as, some_as, then_as}
 use Rattle.picky_kv.specs.declared.algorithm.PpkKeyAlgorithmValue.{PpkKeyAlgorithmValue}
 use Rattle.picky_kv.specs.declared.algorithm.PpkKeyAlgorithmValue.TheVariants as algorithms
 use Rattle.picky_ppk_parts.specs.declared.error.PuttyError.{PuttyError}

@@ -32,7 +32,7 @@ use Rattle.picky_sshkey.specs.Kdf.{bcrypt}
 use Rattle.picky_sshkey.specs.PrivateBlock.{PrivateBlock, check_numbers, flaw_error, private_block}
 use Rattle.picky_sshkey.specs.PrivateRefusal.{Closed, closed, content_key, envelope_error, envelope_under, key_closed}
 use Rattle.picky_sshkey.specs.PrivateRefusal.{key_of_block, lock_of, lock_under, sealed_under, takes_block, text_key}
-use Rattle.picky_sshkey.proofs.RefusalLemmas.{Refuses, err_as, front_as, if_as, map_as, ok_as, some_as, tag_as, then_as}
+use Rattle.picky_sshkey.proofs.RefusalLaws.{Refuses, err_as, front_as, if_as, map_as, ok_as, some_as, tag_as, then_as}
 use Rattle.picky_sshkey.specs.Written.{key_content, key_text, sealable, text_len}
 
 -- ---- which errors are no faults

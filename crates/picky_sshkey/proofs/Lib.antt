@@ -12,7 +12,7 @@ pub mod BlockLaws
 pub mod WrittenLaws
 pub mod KeptLaws
 pub mod ReadLaws
-pub mod RefusalLemmas
+pub mod RefusalLaws
 pub mod FaultLaws
 pub mod ReadingLemmas
 pub mod EqualityLemmas
