@@ -22,4 +22,5 @@ pub use picky_ppk_parts::{
 };
 pub use picky_putty_public::PuttyPublicKey;
 pub use ppk::Ppk;
+pub use sealing::can_derive_by;
 pub use wrappers::{PuttyBasePrivateKey, PuttyBasePublicKey, PuttyPrivateKey};

@@ -145,8 +145,9 @@ fn sealable(
     }
 }
 
-/// Whether Argon2 can be run, where it is.
-fn can_derive_by(version: PpkVersion, passphrase: &str, config: PpkEncryptionConfig) -> bool
+/// Answers whether Argon2 can be run for a sealing of this version, where it is: true in version 2, which has none; in
+/// version 3 the limits of RFC 9106, section 3.1, on a passphrase of this length.
+pub fn can_derive_by(version: PpkVersion, passphrase: &str, config: PpkEncryptionConfig) -> bool
     ensures { result ≡ can_derive_by_of version config passphrase.now }
 {
     match version {

@@ -188,11 +188,6 @@ rest_says true true false private text lines is = cc is
 rest_says true false blob private text lines is = cc is
 rest_says false enough blob private text lines is = cc is
 
-derives_alike : (version : PpkVersionKey) (config : PpkEncryptionConfig) (pass : List ℕ)
-    → can_derive_by version config pass ≡ derives_under (targets.Ppk version config) pass
-derives_alike V2 config pass = refl
-derives_alike V3 config pass = refl
-
 -- what was judged is sealed
 sealing_done : (m : Meanings) (pass fresh : List ℕ) (version : PpkVersionKey) (config : PpkEncryptionConfig)
     (key : SshBasePrivateKey) (comment : List ℕ)
@@ -216,7 +211,7 @@ sealing_done m pass fresh version config key comment judged =
     let salt_len_is : length salt ≡ n = omega (arith, long, length-take n fresh) in
     let bytes = ltb-true (length (secret ++ padding)) (2 ^ 32) says.2 in
     let fits = draft_fits pass config salt padding plain (salt_size version config (length salt) salt_len_is)
-    (derives_alike version config pass ∙ says.0) (omega (arith, bytes, length-append secret padding)) in
+    says.0 (omega (arith, bytes, length-append secret padding)) in
     let text_fits = sym (ap (λ n. nat_lt n (2 ^ 32)) (sealed_len m pass fresh version config key comment)) ∙ says.3 in
     let lines_fit = ap (λ n. fits_block blob && nat_le n 3145680) (m.seal_len keys.key keys.iv (secret ++ padding)) ∙ says.4 in
     rw (fits, text_fits, lines_fit) refl

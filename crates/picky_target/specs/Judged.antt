@@ -6,7 +6,7 @@ use Rattle.std.specs.Str.{bytes_eq, trim_end}
 use Rattle.picky_kv_words.specs.declared.choices.PpkVersionKey.{PpkVersionKey}
 use Rattle.picky_kv_words.specs.declared.choices.PpkVersionKey.TheVariants.{V2, V3}
 use Rattle.picky_text.specs.Words.{ends_line}
-use Rattle.picky_suite.specs.Ranges.{bcrypt_fits, argon2_fits}
+use Rattle.picky_suite.specs.Ranges.{bcrypt_fits}
 use Rattle.picky_sshpub.specs.Blob.{blob_of}
 use Rattle.picky_sshpub.specs.Line.{line_of}
 use Rattle.picky_sshpub.specs.LineRefusal.{is_short}
@@ -22,6 +22,7 @@ use Rattle.picky_ppk_file.specs.declared.file.PpkFile.{PpkFile}
 use Rattle.picky_ppk_file.specs.declared.file.PpkSealing.{PpkSealing}
 use Rattle.picky_ppk_file.specs.declared.file.PpkSealing.TheVariants.{Unsealed}
 use Rattle.picky_ppk_file.specs.Written.{file_text, fits_block}
+use Rattle.picky_ppk.specs.Fresh.{can_derive_by}
 use Rattle.picky_ppk.specs.Sealed.{sealing_under}
 use Rattle.picky_putty_public.specs.PuttyPublic.{putty_public}
 use Rattle.picky_putty_public.specs.PuttyRefusal.{is_hardware}
@@ -74,9 +75,7 @@ carries_comment targets.PuttyPublic comment = not (has_lf comment)
 
 abbrev pub derives_under : Target → List ℕ → Bool
 derives_under targets.OpenSsh pass = bcrypt_fits (length pass) 16 16
-derives_under (targets.Ppk V2 config) pass = true
-derives_under (targets.Ppk V3 config) pass =
-    argon2_fits config.argon2_memory config.argon2_passes config.argon2_parallelism (length pass) config.argon2_salt_size
+derives_under (targets.Ppk version config) pass = can_derive_by version config pass
 derives_under targets.OpenSshPublic pass = true
 derives_under targets.PuttyPublic pass = true
 

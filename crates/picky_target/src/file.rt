@@ -13,7 +13,7 @@ ghost use Rattle.picky_ppk_file.specs.File.{version_of};
 ghost use Rattle.picky_putty_public.specs.PuttyRefusal.{is_hardware as is_hardware_of};
 ghost use Rattle.picky_ppk.specs.Sealed.{draft_of, is_sealable, padding_len as missing_len};
 ghost use Rattle.picky_target.specs.Drafts.{padding_len as padding_len_of, plain_file as plain_file_of, salt_len as salt_len_of};
-ghost use Rattle.picky_target.specs.Judged.{derives_under, mac_len};
+ghost use Rattle.picky_target.specs.Judged.{mac_len};
 ghost use Rattle.picky_target.specs.inner.File.{drawn, judged_text, measured, plain_drafted, plain_written, sealed_text as sealed_text_of};
 ghost use Rattle.picky_target.specs.inner.File.{sealed_written, sealed_asks, text_of_file as text_of_file_of, ppk_written, ppk_asks};
 
@@ -21,9 +21,11 @@ use crate::comment::carries_comment;
 use crate::error::ConvertError;
 use crate::public::{no_such_kind, putty_refusal};
 use crate::target::Target;
-use picky_ppk::{Ppk, PpkEncryptionConfig, PpkFile, PpkVersion, PuttyError, file_draft};
+use picky_ppk::{
+    Ppk, PpkEncryptionConfig, PpkFile, PpkVersion, PuttyError, can_derive_by, file_draft,
+};
 use picky_sshkey::SshBasePrivateKey;
-use picky_suite::{Suite, argon2_ok};
+use picky_suite::Suite;
 use picky_wire::{Bytes, Mpint, NoMemory, Text};
 use std::alloc::Global;
 
@@ -178,7 +180,7 @@ fn drawn_under<'a>(
     ensures salt { IfOk result (λ d. length d.salt.now ≡ salt_len_of version config) }
     ensures padding { IfOk result (λ d. length d.padding.now ≡ padding_len_of key.now) }
 {
-    if !can_derive(version, config, pass) {
+    if !can_derive_by(version, pass, config) {
         return Err(ConvertError::Putty(PuttyError::Argon2));
     }
     let padding_len = match padding_len(alloc, key) {
@@ -192,22 +194,6 @@ fn drawn_under<'a>(
     let (salt, more) = fresh.split_at(salt_len);
     let (padding, _) = more.split_at(padding_len);
     Ok(Drawn { salt, padding })
-}
-
-/// Whether Argon2 can be run, where it is.
-fn can_derive(version: PpkVersion, config: PpkEncryptionConfig, pass: &str) -> bool
-    ensures { result ≡ derives_under (Target.Ppk version config) pass.now }
-{
-    match version {
-        PpkVersion::V2 => true,
-        PpkVersion::V3 => argon2_ok(
-            config.argon2_memory,
-            config.argon2_passes,
-            config.argon2_parallelism,
-            pass.len(),
-            config.argon2_salt_size as usize,
-        ),
-    }
 }
 
 /// How many fresh bytes the salt takes.
