@@ -14,6 +14,7 @@ ghost use Rattle.picky_key_text.specs.Reads.{Reads};
 ghost use Rattle.picky_key_text.specs.Want.{WantsMemory, IsFault};
 
 use crate::error::ReadError;
+use crate::form::Form;
 use crate::meaning::{Key, Meaning};
 
 /// The order of refusals ends in a meaning exactly where the text has it, and it has one at most.
@@ -33,9 +34,10 @@ pub fn order_answers_no_fault()
     ensures { (r : Reader) (t : List ℕ) (e : Refused) → reading r t ≡ Err e → (IsFault e → ⊥) × (WantsMemory e → ⊥) }
 {}
 
-/// Two meanings are equal exactly where their contents are, and so are keys and refusals.
+/// Two meanings are equal exactly where their contents are, and so are keys, forms and refusals.
 pub fn equality_is_of_contents()
     ensures key { IsEquality ⟦<Key as PartialEq>⟧.eq }
     ensures meaning { IsEquality ⟦<Meaning as PartialEq>⟧.eq }
+    ensures form { IsEquality ⟦<Form as PartialEq>⟧.eq }
     ensures error { IsEquality ⟦<ReadError as PartialEq>⟧.eq }
 {}
