@@ -27,20 +27,34 @@ iu04zOMX4E6mVpu+5A6ukfFKe74WK0vrPjGkcTJgRoij+b1uU2pffubwGtdXRPC+
 Private-MAC: 5291f405c57360fe7b039ee0511983ce9b6c69e65155328dbb4969ff5ad16d2d
 ";
 
-fn copy_head(
+fn copy_header(
     alloc: Global,
     from: &mut PuttyKvReader<'_>,
     to: &mut PuttyKvWriter,
 ) -> Result<(), KvError> {
     let (key, value) = from.next_key_value::<PpkHeader>(alloc)?;
-    to.write_key_value::<PpkHeader>(&key, &value)?;
+    to.write_key_value::<PpkHeader>(&key, &value)
+}
+
+fn copy_head(
+    alloc: Global,
+    from: &mut PuttyKvReader<'_>,
+    to: &mut PuttyKvWriter,
+) -> Result<(), KvError> {
     let value = from.next_value::<PpkEncryption>(alloc)?;
     to.write_value::<PpkEncryption>(&value)?;
     let value = from.next_value::<PpkComment>(alloc)?;
     to.write_value::<PpkComment>(&value)?;
-    let (key, value) = from.next_multiline_key_value::<PpkPublicLines>(alloc)?;
-    to.write_multiline_key_value::<PpkPublicLines>(&key, &value)?;
     Ok(())
+}
+
+fn copy_public(
+    alloc: Global,
+    from: &mut PuttyKvReader<'_>,
+    to: &mut PuttyKvWriter,
+) -> Result<(), KvError> {
+    let (key, value) = from.next_multiline_key_value::<PpkPublicLines>(alloc)?;
+    to.write_multiline_key_value::<PpkPublicLines>(&key, &value)
 }
 
 fn copy_derivation(
@@ -76,7 +90,9 @@ fn copy_tail(
 fn copied(alloc: Global, text: &str, crlf: bool) -> Result<Text, KvError> {
     let mut from = PuttyKvReader::from_str(text);
     let mut to = PuttyKvWriter::new(alloc, crlf);
+    copy_header(alloc, &mut from, &mut to)?;
     copy_head(alloc, &mut from, &mut to)?;
+    copy_public(alloc, &mut from, &mut to)?;
     copy_derivation(alloc, &mut from, &mut to)?;
     copy_tail(alloc, &mut from, &mut to)?;
     Ok(to.finish())
@@ -91,19 +107,18 @@ fn reads_the_mac_in_hex_of_both_cases(rt: HostRuntime) -> Result<(), Fail> {
     Ok(())
 }
 
+fn copies(alloc: Global, from: &str, crlf: bool, text: &str) -> Result<bool, KvError> {
+    Ok(copied(alloc, from, crlf)?.as_str() == text)
+}
+
 #[test]
 fn copies_a_file_of_puttygen(rt: HostRuntime) -> Result<(), Fail> {
     let alloc = rt.alloc();
     let with_crlf = SEALED.replace(alloc, "\n", "\r\n")?;
     for (crlf, text) in [(false, SEALED), (true, with_crlf.as_str())] {
-        assert_eq!(rt;
-            copied(alloc, SEALED, crlf)?.as_str(),
-            text,
-            "from LF, CRLF {crlf}"
-        );
-        assert_eq!(rt;
-            copied(alloc, with_crlf.as_str(), crlf)?.as_str(),
-            text,
+        assert!(rt; copies(alloc, SEALED, crlf, text)?, "from LF, CRLF {crlf}");
+        assert!(rt;
+            copies(alloc, with_crlf.as_str(), crlf, text)?,
             "CRLF {crlf}"
         );
     }
@@ -182,30 +197,33 @@ fn texts_of(e: &KvError) -> [&str; 3] {
             expected,
             actual,
         } => [context.as_str(), expected.as_str(), actual.as_str()],
-        KvError::EndOfInput
-        | KvError::InvalidKeyValueFormat
-        | KvError::TooManyLines
-        | KvError::TooLong
-        | KvError::NoMemory => ["", "", ""],
+        _ => ["", "", ""],
     }
+}
+
+fn is_named(alloc: Global, e: &KvError, row: &Refused) -> Result<bool, Fail> {
+    let name = format!(in alloc; "{e}")?;
+    Ok(name.as_str() == row.name && texts_of(e) == row.texts)
+}
+
+fn is_refused(alloc: Global, reader: &mut PuttyKvReader<'_>, row: &Refused) -> Result<bool, Fail> {
+    match reader.next_multiline_value::<PpkPublicLines>(alloc) {
+        Ok(_) => Ok(false),
+        Err(e) => is_named(alloc, &e, row),
+    }
+}
+
+fn is_at_its_end(alloc: Global, reader: &mut PuttyKvReader<'_>) -> bool {
+    reader.next_value::<PpkComment>(alloc).err() == Some(KvError::EndOfInput)
 }
 
 #[test]
 fn stays_at_its_end_once_refused(rt: HostRuntime) -> Result<(), Fail> {
-    let alloc = rt.alloc();
     for row in &REFUSED {
         let text = row.text;
         let mut reader = PuttyKvReader::from_str(text);
-        match reader.next_multiline_value::<PpkPublicLines>(alloc) {
-            Ok(_) => assert!(rt; false, "read: {text}"),
-            Err(e) => {
-                let name = format!(in alloc; "{e}")?;
-                assert_eq!(rt; name.as_str(), row.name, "{text}");
-                assert_eq!(rt; texts_of(&e), row.texts, "{text}");
-            }
-        }
-        let next = reader.next_value::<PpkComment>(alloc).err();
-        assert_eq!(rt; next, Some(KvError::EndOfInput), "after: {text}");
+        assert!(rt; is_refused(rt.alloc(), &mut reader, row)?, "{text}");
+        assert!(rt; is_at_its_end(rt.alloc(), &mut reader), "after: {text}");
     }
     Ok(())
 }
@@ -223,10 +241,7 @@ fn reads_a_count_with_a_plus_and_zeros(rt: HostRuntime) -> Result<(), Fail> {
     let mut reader = PuttyKvReader::from_str("Public-Lines: +002\nAAAA\nAAAA");
     let bytes = Bytes::from(reader.next_multiline_value::<PpkPublicLines>(rt.alloc())?);
     assert_eq!(rt; bytes.as_slice(), [0; 6].as_slice());
-    let next = reader
-        .next_multiline_value::<PpkPublicLines>(rt.alloc())
-        .err();
-    assert_eq!(rt; next, Some(KvError::EndOfInput));
+    assert!(rt; is_at_its_end(rt.alloc(), &mut reader));
     Ok(())
 }
 

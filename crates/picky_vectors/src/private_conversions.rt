@@ -6,7 +6,7 @@ use crate::ppk_secrets::{SECRET_ROWS, SecretRow, ZERO_TEXT, key_of, text_of as s
 use crate::ppk_texts::{PPK_ROWS, PpkRow, text_of};
 use crate::private_keys::{ZERO_KEY, written as envelope_of};
 use crate::private_texts::{PRIVATE_ROWS, PrivateRow, V2};
-use crate::runs::{ended, run_on};
+use crate::runs::{ended, run_on, written_text};
 use picky_ppk::PpkVersion;
 use picky_sshkey::{SshBasePrivateKey, SshPrivateKey};
 use picky_wire::{SliceSource, Text};
@@ -41,10 +41,7 @@ pub fn refuses(alloc: Global, command: &str, input: &str, line: &str) -> Result<
 fn written(alloc: Global, command: &str, input: &str) -> Result<String, Fail> {
     let mut source = SliceSource::new(input.as_bytes());
     let ran = run_on(alloc, &[command], &mut source, ROOM, 999)?;
-    match str::from_utf8(ran.out.written()) {
-        Ok(text) => Ok(String::from_str(alloc, text)?),
-        Err(_) => Ok(String::new(alloc)),
-    }
+    written_text(alloc, &ran)
 }
 
 /// OpenSSH's text becomes PuTTYgen's, and that becomes what OpenSSH's text is written as.

@@ -44,13 +44,16 @@ pub fn refusal(
     pass: Option<&str>,
 ) -> Result<String, Fail> {
     let pem = Pem::new(alloc, content)?;
-    named(alloc, SshPrivateKey::from_pem(alloc, suite, &pem, pass))
+    named(
+        alloc,
+        &SshPrivateKey::from_pem(alloc, suite, &pem, pass).err(),
+    )
 }
 
-fn named(alloc: Global, read: Result<SshPrivateKey, SshPrivateKeyError>) -> Result<String, Fail> {
-    match read {
-        Ok(_) => Ok(String::new(alloc)),
-        Err(e) => Ok(format!(in alloc; "{e:?}")?),
+fn named(alloc: Global, why: &Option<SshPrivateKeyError>) -> Result<String, Fail> {
+    match why {
+        Some(e) => Ok(format!(in alloc; "{e:?}")?),
+        None => Ok(String::new(alloc)),
     }
 }
 
@@ -97,7 +100,7 @@ fn text_refusal(alloc: Global, short: &str) -> Result<String, Fail> {
     let mut suite = PlainSuite::new();
     named(
         alloc,
-        SshPrivateKey::from_pem_str(alloc, &mut suite, text.as_str(), None),
+        &SshPrivateKey::from_pem_str(alloc, &mut suite, text.as_str(), None).err(),
     )
 }
 

@@ -88,6 +88,14 @@ pub fn ended(ran: &Ran, code: u8, out: &[u8], err: &str) -> bool {
         && ran.err.written() == err.as_bytes()
 }
 
+/// The text that a run wrote, or none where it isn't one.
+pub fn written_text(alloc: Global, ran: &Ran) -> Result<String, Fail> {
+    match str::from_utf8(ran.out.written()) {
+        Ok(text) => Ok(String::from_str(alloc, text)?),
+        Err(_) => Ok(String::new(alloc)),
+    }
+}
+
 /// The command writes this text for the input, and nothing on `err`.
 pub fn writes(
     rt: &impl Abort,

@@ -5,7 +5,7 @@ use crate::ppk_secrets::{HIGH, ZERO_TEXT};
 use crate::ppk_texts::TOY_V3;
 use crate::private_conversions::{ROOM, secret_envelope};
 use crate::private_keys::ZERO_KEY;
-use crate::runs::{Given, NOTHING, ended, run_given};
+use crate::runs::{Given, NOTHING, Ran, ended, run_given, written_text};
 use picky_suite::{MemorySuite, PlainSuite};
 use picky_wire::SliceSource;
 use std::alloc::Global;
@@ -14,7 +14,27 @@ use std::test::Fail;
 // 16 bytes of salt and 12 of padding: the key's private bytes are 4.
 const FRESH: &[u8] = &[7; 28];
 
-/// The command over the suite for tests, whose calls of these numbers fail.
+/// A run of the command over the suite for tests, whose calls of these numbers fail.
+fn run_over(
+    alloc: Global,
+    command: &str,
+    input: &str,
+    given: Given<'_>,
+    failing: &[u64],
+) -> Result<Ran, Fail> {
+    let mut suite = MemorySuite::new(alloc, failing)?;
+    let mut source = SliceSource::new(input.as_bytes());
+    run_given(
+        alloc,
+        &[command],
+        given,
+        &mut suite,
+        &mut source,
+        (ROOM, 999),
+    )
+}
+
+/// That run ends with this exit code and this line.
 fn ends_over(
     alloc: Global,
     command: &str,
@@ -23,41 +43,24 @@ fn ends_over(
     failing: &[u64],
     end: (u8, &str),
 ) -> Result<bool, Fail> {
-    let mut suite = MemorySuite::new(alloc, failing)?;
-    let mut source = SliceSource::new(input.as_bytes());
-    let ran = run_given(
-        alloc,
-        &[command],
-        given,
-        &mut suite,
-        &mut source,
-        (ROOM, 999),
-    )?;
+    let ran = run_over(alloc, command, input, given, failing)?;
+    Ok(says(&ran, end))
+}
+
+fn says(ran: &Ran, end: (u8, &str)) -> bool {
     let (code, line) = end;
-    Ok(ran.status.exit_code() == code && ran.err.written() == line.as_bytes())
+    ran.status.exit_code() == code && ran.err.written() == line.as_bytes()
 }
 
 /// What the command writes for the input under the passphrase `p`.
 fn sealed(alloc: Global, command: &str, input: &str, fresh: &[u8]) -> Result<String, Fail> {
-    let mut suite = MemorySuite::new(alloc, &[])?;
-    let mut source = SliceSource::new(input.as_bytes());
     let given = Given {
         pass_in: None,
         pass_out: Some("p"),
         fresh,
     };
-    let ran = run_given(
-        alloc,
-        &[command],
-        given,
-        &mut suite,
-        &mut source,
-        (ROOM, 999),
-    )?;
-    match str::from_utf8(ran.out.written()) {
-        Ok(text) => Ok(String::from_str(alloc, text)?),
-        Err(_) => Ok(String::new(alloc)),
-    }
+    let ran = run_over(alloc, command, input, given, &[])?;
+    written_text(alloc, &ran)
 }
 
 /// The sealed text opens under its passphrase alone, and the suite's fault stands in its place.
@@ -114,7 +117,7 @@ fn seals_and_opens(rt: HostRuntime) -> Result<(), Fail> {
 }
 
 // A command, the passphrase that it seals under, how many fresh bytes there are, the calls that fail, and how it ends.
-static SEALINGS: [(&str, &str, usize, &[u64], (u8, &str)); 7] = [
+static SEALINGS: [(&str, &str, usize, &[u64], (u8, &str)); 10] = [
     ("ppk3", "p", 28, &[], (0, "")),
     (
         "ppk3",
@@ -139,6 +142,9 @@ static SEALINGS: [(&str, &str, usize, &[u64], (u8, &str)); 7] = [
         (1, "keyconv: refused: FreshTooShort\n"),
     ),
     ("ppk3", "p", 28, &[0], (5, "keyconv: outside fault\n")),
+    ("ppk3", "p", 28, &[1], (5, "keyconv: outside fault\n")),
+    ("openssh", "p", 16, &[0], (5, "keyconv: outside fault\n")),
+    ("openssh", "p", 16, &[1], (5, "keyconv: outside fault\n")),
     ("ppk3", "p", 28, &[2, 3, 4, 5, 6, 7, 8, 9], (0, "")),
 ];
 
@@ -211,7 +217,7 @@ fn seals_a_secret_as_a_number(rt: HostRuntime) -> Result<(), Fail> {
     Ok(())
 }
 
-/// The command over the suite for tests, whose calls of these numbers fail, writes the text.
+/// That run writes the text.
 fn writes_over(
     alloc: Global,
     command: &str,
@@ -220,16 +226,7 @@ fn writes_over(
     failing: &[u64],
     text: &str,
 ) -> Result<bool, Fail> {
-    let mut suite = MemorySuite::new(alloc, failing)?;
-    let mut source = SliceSource::new(input.as_bytes());
-    let ran = run_given(
-        alloc,
-        &[command],
-        given,
-        &mut suite,
-        &mut source,
-        (ROOM, 999),
-    )?;
+    let ran = run_over(alloc, command, input, given, failing)?;
     Ok(ended(&ran, 0, text.as_bytes(), ""))
 }
 

@@ -4,7 +4,7 @@ use crate::runs::{ended, run_on};
 use picky_convert::{ConvertError, ReadError, Status, word};
 use picky_putty_public::PuttyError;
 use picky_sshpub::SshPublicKeyError;
-use picky_wire::{MemorySource, SliceSource};
+use picky_wire::{MemorySource, SliceSource, Source};
 use std::alloc::Global;
 use std::test::Fail;
 
@@ -117,15 +117,39 @@ fn prints_a_line_for_each_status(rt: HostRuntime) {
     }
 }
 
+/// The words get the usage line, and nothing is read.
+fn is_usage(alloc: Global, words: &[&str]) -> Result<bool, Fail> {
+    let mut source = SliceSource::new(FIRST_LINE.as_bytes());
+    let end = run_on(alloc, words, &mut source, 400, 400)?;
+    Ok(ended(&end, 2, b"", USAGE) && source.rest() == FIRST_LINE.as_bytes())
+}
+
 #[test]
 fn answers_usage(rt: HostRuntime) -> Result<(), Fail> {
     for words in &NO_COMMANDS {
-        let mut source = SliceSource::new(FIRST_LINE.as_bytes());
-        let end = run_on(rt.alloc(), words, &mut source, 400, 400)?;
-        assert!(rt; ended(&end, 2, b"", USAGE), "{words:?}");
-        assert_eq!(rt; source.rest(), FIRST_LINE.as_bytes(), "{words:?}");
+        assert!(rt; is_usage(rt.alloc(), words)?, "{words:?}");
     }
     Ok(())
+}
+
+/// How a run ends: its exit code, and what it writes to `out` and to `err`.
+#[derive(Clone, Copy)]
+struct End<'a> {
+    code: u8,
+    out: &'a [u8],
+    err: &'a str,
+}
+
+/// The command over the source, where `out` has so much room, ends so.
+fn ends<S: Source>(
+    alloc: Global,
+    command: &str,
+    source: &mut S,
+    room: usize,
+    end: End<'_>,
+) -> Result<bool, Fail> {
+    let ran = run_on(alloc, &[command], source, room, 400)?;
+    Ok(ended(&ran, end.code, end.out, end.err))
 }
 
 // So many bytes, the first line in front.
@@ -135,23 +159,45 @@ fn first_line_within(alloc: Global, len: usize) -> Result<Vec<u8>, Fail> {
     Ok(input)
 }
 
+fn ends_over(alloc: Global, command: &str, len: usize, end: End<'_>) -> Result<bool, Fail> {
+    let input = first_line_within(alloc, len)?;
+    ends(
+        alloc,
+        command,
+        &mut SliceSource::new(input.as_slice()),
+        400,
+        end,
+    )
+}
+
 #[test]
 fn takes_16_mib_and_no_more(rt: HostRuntime) -> Result<(), Fail> {
     for (command, text) in &FIRST_TEXTS {
-        for (len, code, text, printed) in [
-            (16_777_216, 0, *text, ""),
-            (16_777_217, 7, "", "keyconv: input too long\n"),
-        ] {
-            let input = first_line_within(rt.alloc(), len)?;
-            let mut source = SliceSource::new(input.as_slice());
-            let end = run_on(rt.alloc(), &[*command], &mut source, 400, 400)?;
-            assert!(rt;
-                ended(&end, code, text.as_bytes(), printed),
-                "{command}: {len}"
-            );
-        }
+        let end = End {
+            code: 0,
+            out: text.as_bytes(),
+            err: "",
+        };
+        assert!(rt;
+            ends_over(rt.alloc(), *command, 16_777_216, end)?,
+            "{command}"
+        );
+        let end = End {
+            code: 7,
+            out: b"",
+            err: "keyconv: input too long\n",
+        };
+        assert!(rt;
+            ends_over(rt.alloc(), *command, 16_777_217, end)?,
+            "{command}, a byte more"
+        );
     }
     Ok(())
+}
+
+fn ends_at(alloc: Global, command: &str, call: u64, end: End<'_>) -> Result<bool, Fail> {
+    let mut source = MemorySource::new(alloc, FIRST_LINE.as_bytes(), 7, &[call])?;
+    ends(alloc, command, &mut source, 400, end)
 }
 
 #[test]
@@ -159,15 +205,21 @@ fn says_that_the_source_failed(rt: HostRuntime) -> Result<(), Fail> {
     for (command, text) in &FIRST_TEXTS {
         // 83 bytes are 12 calls, and one more says that they end.
         for call in 0..15 {
-            let (code, text, printed) = if call < 13 {
-                (3, "", "keyconv: read fault\n")
+            let end = if call < 13 {
+                End {
+                    code: 3,
+                    out: b"",
+                    err: "keyconv: read fault\n",
+                }
             } else {
-                (0, *text, "")
+                End {
+                    code: 0,
+                    out: text.as_bytes(),
+                    err: "",
+                }
             };
-            let mut source = MemorySource::new(rt.alloc(), FIRST_LINE.as_bytes(), 7, &[call])?;
-            let end = run_on(rt.alloc(), &[*command], &mut source, 400, 400)?;
             assert!(rt;
-                ended(&end, code, text.as_bytes(), printed),
+                ends_at(rt.alloc(), *command, call, end)?,
                 "{command}: call {call}"
             );
         }
@@ -181,9 +233,13 @@ fn says_that_out_failed(rt: HostRuntime) -> Result<(), Fail> {
         let text = text.as_bytes();
         for room in 0..text.len() {
             let mut source = SliceSource::new(FIRST_LINE.as_bytes());
-            let end = run_on(rt.alloc(), &[*command], &mut source, room, 400)?;
+            let end = End {
+                code: 4,
+                out: &text[..room],
+                err: "keyconv: write fault\n",
+            };
             assert!(rt;
-                ended(&end, 4, &text[..room], "keyconv: write fault\n"),
+                ends(rt.alloc(), *command, &mut source, room, end)?,
                 "{command}: room {room}"
             );
         }
