@@ -1,0 +1,77 @@
+-- An extension and its name.
+use Rattle.std.specs.Prelude.{◌≡◌, ◌<◌, ◌^◌, List, ℕ, Option, Some, None, length, IsUtf8}
+use Rattle.std.proofs.Common.{refl, sym, ap, subst, ◌∙◌}
+use Rattle.picky_layout.specs.Table.{find_entry}
+use Rattle.picky_layout.specs.carried.Table.{found_has_key}
+use Rattle.picky_wire.specs.Principals.{IsPrincipal}
+use Rattle.picky_cert_names.specs.declared.known_extension.KnownExtension.{KnownExtension}
+use Rattle.picky_cert_names.specs.declared.known_extension.KnownExtension.TheVariants as known
+use Rattle.picky_cert_names.specs.declared.extension_type.SshExtensionType.{SshExtensionType}
+use Rattle.picky_cert_names.specs.declared.extension_type.SshExtensionType.TheVariants as extensions
+use Rattle.picky_cert_names.specs.Names.{known_name}
+use Rattle.picky_cert_names.specs.carried.Names.{own_known}
+use Rattle.picky_cert_names.specs.NameTables.{known_extensions}
+use Rattle.picky_cert_names.specs.ExtensionType.{type_of, known_or_other, extension_name, extension_named, IsExtensionType}
+
+known_is_found : (k : KnownExtension) → find_entry known_extensions (known_name k) ≡ Some k
+unfolding known_extensions
+known_is_found k = own_known k
+
+-- The name of a known extension stands for it.
+pub known_named : (k : KnownExtension) → extension_named (known_name k) ≡ type_of k
+known_named k = ap (known_or_other (known_name k)) (known_is_found k)
+
+-- The name of an extension stands for it.
+pub name_names : (t : SshExtensionType) → IsExtensionType t → extension_named (extension_name t) ≡ t
+name_names extensions.NoTouchRequired is = known_named known.NoTouchRequired
+name_names extensions.PermitX11Forwarding is = known_named known.PermitX11Forwarding
+name_names extensions.PermitAgentForwarding is = known_named known.PermitAgentForwarding
+name_names extensions.PermitPortForwarding is = known_named known.PermitPortForwarding
+name_names extensions.PermitPty is = known_named known.PermitPty
+name_names extensions.PermitUserPc is = known_named known.PermitUserPc
+name_names (extensions.Other name) is = ap (known_or_other name) is.1
+
+name_of_known : (k : KnownExtension) → extension_name (type_of k) ≡ known_name k
+name_of_known known.NoTouchRequired = refl
+name_of_known known.PermitX11Forwarding = refl
+name_of_known known.PermitAgentForwarding = refl
+name_of_known known.PermitPortForwarding = refl
+name_of_known known.PermitPty = refl
+name_of_known known.PermitUserPc = refl
+
+known_key : (name : List ℕ) (k : KnownExtension) → find_entry known_extensions name ≡ Some k → known_name k ≡ name
+unfolding known_extensions
+known_key name k found = found_has_key known_extensions name k found
+
+kept : (name : List ℕ) (o : Option KnownExtension) → find_entry known_extensions name ≡ o
+    → extension_name (known_or_other name o) ≡ name
+kept name (Some k) found = name_of_known k ∙ known_key name k found
+kept name None found = refl
+
+pub name_is_kept : (name : List ℕ) → extension_name (extension_named name) ≡ name
+name_is_kept name = kept name (find_entry known_extensions name) refl
+
+type_keeps : (k : KnownExtension) → IsExtensionType (type_of k)
+type_keeps known.NoTouchRequired = record {}
+type_keeps known.PermitX11Forwarding = record {}
+type_keeps known.PermitAgentForwarding = record {}
+type_keeps known.PermitPortForwarding = record {}
+type_keeps known.PermitPty = record {}
+type_keeps known.PermitUserPc = record {}
+
+named_as : (name : List ℕ) (o : Option KnownExtension) → find_entry known_extensions name ≡ o → IsPrincipal name
+    → IsExtensionType (known_or_other name o)
+named_as name (Some k) found is = type_keeps k
+named_as name None found is = (is, found)
+
+-- The extension that a short text stands for is one.
+pub named_keeps : (name : List ℕ) → IsPrincipal name → IsExtensionType (extension_named name)
+named_keeps name is = named_as name (find_entry known_extensions name) refl is
+
+-- a name that is kept is a short text, and no known one
+pub other_keeps : (t : SshExtensionType) (name : List ℕ) → t ≡ extensions.Other name → length name < 2 ^ 32 → IsUtf8 name
+    → find_entry known_extensions name ≡ None → IsExtensionType t
+other_keeps t name is short utf8 other =
+    subst IsExtensionType (sym is) (record { short = short; utf8 = utf8 }, other)
+
+pub ruleset extension_laws = (name_names, name_is_kept)

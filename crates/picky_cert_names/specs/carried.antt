@@ -1,0 +1,2 @@
+pub mod FromWire
+pub mod Names

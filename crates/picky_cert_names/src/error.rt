@@ -1,0 +1,328 @@
+//! Why the parts of a certificate, and a certificate, are not read or written.
+
+use picky_sshpub::SshPublicKeyError;
+use picky_wire::{CodecError, IoKind, Text, WireError};
+use thiserror::Error;
+
+/// Why the type of a certificate is not read or written.
+#[derive(Debug, Drop, PartialEq, Eq, Error)]
+pub enum SshCertTypeError {
+    /// The number is no type of a certificate.
+    #[error("InvalidCertificateType")]
+    InvalidCertificateType(u32),
+    /// The bytes end inside a field, or a source or a sink failed.
+    #[error("IoError")]
+    IoError(IoKind),
+    /// A string that must be UTF-8 isn't.
+    #[error("InvalidUtf8")]
+    InvalidUtf8,
+    /// There are more bytes than a length of the wire can say.
+    #[error("TooLong")]
+    TooLong,
+    /// Memory ran out.
+    #[error("NoMemory")]
+    NoMemory,
+}
+
+impl From<WireError> for SshCertTypeError {
+    ghost use Rattle.std.specs.Prelude.{◌≡◌};
+    ghost use Rattle.picky_cert_names.specs.FromWire.{cert_type_error};
+
+    ghost from_gives = { λ e result. result ≡ cert_type_error e };
+
+    fn from(e: WireError) -> SshCertTypeError {
+        match e {
+            WireError::UnexpectedEnd => SshCertTypeError::IoError(IoKind::UnexpectedEnd),
+            WireError::ReadFault => SshCertTypeError::IoError(IoKind::ReadFault),
+            WireError::WriteFault => SshCertTypeError::IoError(IoKind::WriteFault),
+            WireError::InvalidUtf8 => SshCertTypeError::InvalidUtf8,
+            WireError::TooLong => SshCertTypeError::TooLong,
+            WireError::NoMemory => SshCertTypeError::NoMemory,
+        }
+    }
+}
+
+impl CodecError for SshCertTypeError {
+    ghost use Rattle.std.specs.Prelude.{◌≡◌};
+    ghost use Rattle.picky_cert_names.specs.FromWire.{cert_type_error};
+    ghost use Rattle.picky_cert_names.specs.carried.FromWire.{cert_type_error_apart};
+
+    ghost of_wire = { cert_type_error };
+
+    ghost from_alike = { λ e x same. same };
+
+    ghost apart = { cert_type_error_apart };
+
+    fn is_no_memory(&self) -> bool {
+        matches!(self, SshCertTypeError::NoMemory)
+    }
+
+    fn from_wire(e: WireError) -> SshCertTypeError {
+        SshCertTypeError::from(e)
+    }
+}
+
+/// Why a critical option is not read or written.
+#[derive(Debug, Drop, PartialEq, Eq, Error)]
+pub enum SshCriticalOptionError {
+    /// The name names no critical option that is known here.
+    #[error("UnsupportedCriticalOptionType")]
+    UnsupportedCriticalOptionType(Text),
+    /// The bytes end inside a field, or a source or a sink failed.
+    #[error("IoError")]
+    IoError(IoKind),
+    /// A string that must be UTF-8 isn't.
+    #[error("InvalidUtf8")]
+    InvalidUtf8,
+    /// There are more bytes than a length of the wire can say.
+    #[error("TooLong")]
+    TooLong,
+    /// Memory ran out.
+    #[error("NoMemory")]
+    NoMemory,
+}
+
+impl From<WireError> for SshCriticalOptionError {
+    ghost use Rattle.std.specs.Prelude.{◌≡◌};
+    ghost use Rattle.picky_cert_names.specs.FromWire.{option_error};
+
+    ghost from_gives = { λ e result. result ≡ option_error e };
+
+    fn from(e: WireError) -> SshCriticalOptionError {
+        match e {
+            WireError::UnexpectedEnd => SshCriticalOptionError::IoError(IoKind::UnexpectedEnd),
+            WireError::ReadFault => SshCriticalOptionError::IoError(IoKind::ReadFault),
+            WireError::WriteFault => SshCriticalOptionError::IoError(IoKind::WriteFault),
+            WireError::InvalidUtf8 => SshCriticalOptionError::InvalidUtf8,
+            WireError::TooLong => SshCriticalOptionError::TooLong,
+            WireError::NoMemory => SshCriticalOptionError::NoMemory,
+        }
+    }
+}
+
+impl CodecError for SshCriticalOptionError {
+    ghost use Rattle.std.specs.Prelude.{◌≡◌};
+    ghost use Rattle.picky_cert_names.specs.FromWire.{option_error};
+    ghost use Rattle.picky_cert_names.specs.carried.FromWire.{option_error_apart};
+
+    ghost of_wire = { option_error };
+
+    ghost from_alike = { λ e x same. same };
+
+    ghost apart = { option_error_apart };
+
+    fn is_no_memory(&self) -> bool {
+        matches!(self, SshCriticalOptionError::NoMemory)
+    }
+
+    fn from_wire(e: WireError) -> SshCriticalOptionError {
+        SshCriticalOptionError::from(e)
+    }
+}
+
+/// Why an extension is not read or written.
+#[derive(Debug, Drop, PartialEq, Eq, Error)]
+pub enum SshExtensionError {
+    /// The bytes end inside a field, or a source or a sink failed.
+    #[error("IoError")]
+    IoError(IoKind),
+    /// A string that must be UTF-8 isn't.
+    #[error("InvalidUtf8")]
+    InvalidUtf8,
+    /// There are more bytes than a length of the wire can say.
+    #[error("TooLong")]
+    TooLong,
+    /// Memory ran out.
+    #[error("NoMemory")]
+    NoMemory,
+}
+
+impl From<WireError> for SshExtensionError {
+    ghost use Rattle.std.specs.Prelude.{◌≡◌};
+    ghost use Rattle.picky_cert_names.specs.FromWire.{extension_error};
+
+    ghost from_gives = { λ e result. result ≡ extension_error e };
+
+    fn from(e: WireError) -> SshExtensionError {
+        match e {
+            WireError::UnexpectedEnd => SshExtensionError::IoError(IoKind::UnexpectedEnd),
+            WireError::ReadFault => SshExtensionError::IoError(IoKind::ReadFault),
+            WireError::WriteFault => SshExtensionError::IoError(IoKind::WriteFault),
+            WireError::InvalidUtf8 => SshExtensionError::InvalidUtf8,
+            WireError::TooLong => SshExtensionError::TooLong,
+            WireError::NoMemory => SshExtensionError::NoMemory,
+        }
+    }
+}
+
+impl CodecError for SshExtensionError {
+    ghost use Rattle.std.specs.Prelude.{◌≡◌};
+    ghost use Rattle.picky_cert_names.specs.FromWire.{extension_error};
+    ghost use Rattle.picky_cert_names.specs.carried.FromWire.{extension_error_apart};
+
+    ghost of_wire = { extension_error };
+
+    ghost from_alike = { λ e x same. same };
+
+    ghost apart = { extension_error_apart };
+
+    fn is_no_memory(&self) -> bool {
+        matches!(self, SshExtensionError::NoMemory)
+    }
+
+    fn from_wire(e: WireError) -> SshExtensionError {
+        SshExtensionError::from(e)
+    }
+}
+
+/// Why a signature is not read or written.
+#[derive(Debug, Drop, PartialEq, Eq, Error)]
+pub enum SshSignatureError {
+    /// The name names no signature format that is known here.
+    #[error("UnsupportedSignatureFormat")]
+    UnsupportedSignatureFormat(Text),
+    /// The format has a counter and the blob has none, or the other way round. Reading never gives it.
+    #[error("BlobMismatch")]
+    BlobMismatch,
+    /// The bytes end inside a field, or a source or a sink failed.
+    #[error("IoError")]
+    IoError(IoKind),
+    /// A string that must be UTF-8 isn't.
+    #[error("InvalidUtf8")]
+    InvalidUtf8,
+    /// There are more bytes than a length of the wire can say.
+    #[error("TooLong")]
+    TooLong,
+    /// Memory ran out.
+    #[error("NoMemory")]
+    NoMemory,
+}
+
+impl From<WireError> for SshSignatureError {
+    ghost use Rattle.std.specs.Prelude.{◌≡◌};
+    ghost use Rattle.picky_cert_names.specs.FromWire.{signature_error};
+
+    ghost from_gives = { λ e result. result ≡ signature_error e };
+
+    fn from(e: WireError) -> SshSignatureError {
+        match e {
+            WireError::UnexpectedEnd => SshSignatureError::IoError(IoKind::UnexpectedEnd),
+            WireError::ReadFault => SshSignatureError::IoError(IoKind::ReadFault),
+            WireError::WriteFault => SshSignatureError::IoError(IoKind::WriteFault),
+            WireError::InvalidUtf8 => SshSignatureError::InvalidUtf8,
+            WireError::TooLong => SshSignatureError::TooLong,
+            WireError::NoMemory => SshSignatureError::NoMemory,
+        }
+    }
+}
+
+impl CodecError for SshSignatureError {
+    ghost use Rattle.std.specs.Prelude.{◌≡◌};
+    ghost use Rattle.picky_cert_names.specs.FromWire.{signature_error};
+    ghost use Rattle.picky_cert_names.specs.carried.FromWire.{signature_error_apart};
+
+    ghost of_wire = { signature_error };
+
+    ghost from_alike = { λ e x same. same };
+
+    ghost apart = { signature_error_apart };
+
+    fn is_no_memory(&self) -> bool {
+        matches!(self, SshSignatureError::NoMemory)
+    }
+
+    fn from_wire(e: WireError) -> SshSignatureError {
+        SshSignatureError::from(e)
+    }
+}
+
+/// Why a certificate is not read or written.
+#[derive(Debug, Drop, PartialEq, Eq, Error)]
+pub enum SshCertificateError {
+    /// The bytes end inside a field, or a source or a sink failed.
+    #[error("CertificateProcessingError")]
+    CertificateProcessingError(IoKind),
+    /// The name inside is that of DSS certificates, which are not read here.
+    #[error("UnsupportedCertificateType")]
+    UnsupportedCertificateType(Text),
+    /// A critical option is refused.
+    #[error("SshCriticalOptionError")]
+    SshCriticalOptionError(SshCriticalOptionError),
+    /// An extension is refused.
+    #[error("SshExtensionError")]
+    SshExtensionError(SshExtensionError),
+    /// A string that must be UTF-8 isn't.
+    #[error("InvalidUtf8")]
+    InvalidUtf8,
+    /// The line's second word is no base64.
+    #[error("Base64DecodeError")]
+    Base64DecodeError,
+    /// The type, user or host, is refused.
+    #[error("InvalidCertificateType")]
+    InvalidCertificateType(SshCertTypeError),
+    /// The name names no type of certificate.
+    #[error("InvalidCertificateKeyType")]
+    InvalidCertificateKeyType(Text),
+    /// The issuer's key is refused.
+    #[error("InvalidPublicKey")]
+    InvalidPublicKey(SshPublicKeyError),
+    /// An Ed25519 key isn't 32 bytes.
+    #[error("KeyError")]
+    KeyError,
+    /// The type isn't that of the subject's key. Reading never gives it.
+    #[error("SubjectMismatch")]
+    SubjectMismatch,
+    /// The signature is refused.
+    #[error("SshSignatureError")]
+    SshSignatureError(SshSignatureError),
+    /// There are more bytes than a length of the wire can say.
+    #[error("TooLong")]
+    TooLong,
+    /// Memory ran out.
+    #[error("NoMemory")]
+    NoMemory,
+}
+
+impl From<WireError> for SshCertificateError {
+    ghost use Rattle.std.specs.Prelude.{◌≡◌};
+    ghost use Rattle.picky_cert_names.specs.FromWire.{certificate_error};
+
+    ghost from_gives = { λ e result. result ≡ certificate_error e };
+
+    fn from(e: WireError) -> SshCertificateError {
+        match e {
+            WireError::UnexpectedEnd => SshCertificateError::CertificateProcessingError(
+                IoKind::UnexpectedEnd,
+            ),
+            WireError::ReadFault => SshCertificateError::CertificateProcessingError(
+                IoKind::ReadFault,
+            ),
+            WireError::WriteFault => SshCertificateError::CertificateProcessingError(
+                IoKind::WriteFault,
+            ),
+            WireError::InvalidUtf8 => SshCertificateError::InvalidUtf8,
+            WireError::TooLong => SshCertificateError::TooLong,
+            WireError::NoMemory => SshCertificateError::NoMemory,
+        }
+    }
+}
+
+impl CodecError for SshCertificateError {
+    ghost use Rattle.std.specs.Prelude.{◌≡◌};
+    ghost use Rattle.picky_cert_names.specs.FromWire.{certificate_error};
+    ghost use Rattle.picky_cert_names.specs.carried.FromWire.{certificate_error_apart};
+
+    ghost of_wire = { certificate_error };
+
+    ghost from_alike = { λ e x same. same };
+
+    ghost apart = { certificate_error_apart };
+
+    fn is_no_memory(&self) -> bool {
+        matches!(self, SshCertificateError::NoMemory)
+    }
+
+    fn from_wire(e: WireError) -> SshCertificateError {
+        SshCertificateError::from(e)
+    }
+}

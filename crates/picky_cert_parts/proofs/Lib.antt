@@ -1,0 +1,10 @@
+pub mod FieldLemmas
+pub mod CauseLemmas
+pub mod OptionLemmas
+pub mod ExtensionLemmas
+pub mod CertTypeLemmas
+pub mod SignatureLemmas
+pub mod LawLemmas
+pub mod SpellingLaws
+pub mod RefusesLemmas
+pub mod MismatchLaws

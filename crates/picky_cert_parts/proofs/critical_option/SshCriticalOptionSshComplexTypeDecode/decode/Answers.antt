@@ -1,0 +1,14 @@
+-- The payload is cut after a name, before which the count did not move.
+use Rattle.picky_layout.specs.Wire.{string}
+use Rattle.picky_wire.specs.Takes.{causes_of}
+use Rattle.picky_cert_names.specs.FromWire.{option_error}
+use Rattle.picky_cert_parts.specs.Field.{field}
+use Rattle.picky_cert_parts.proofs.CauseLemmas.{counted_later}
+use Rattle.picky_cert_parts.proofs.OptionLemmas.{option_payload_cause}
+use Rattle.picky_cert_parts.proofs.critical_option.SshCriticalOptionSshComplexTypeDecode.decode.Goals as goal
+
+pub returns-in-Err-bytes_field-clause-cause : goal.returns-in-Err-bytes_field-clause-cause
+returns-in-Err-bytes_field-clause-cause g c =
+    option_payload_cause c.in-Err-bytes_field.e _
+    (counted_later (causes_of option_error) (field option_error string).read c.in-Err-bytes_field.e _ _ _
+    c.in-Ok.ensures.takes.calm c.in-Err-bytes_field.ensures.cause)

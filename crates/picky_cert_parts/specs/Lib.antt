@@ -1,0 +1,9 @@
+pub mod CertNumber
+pub mod NumberTable
+pub mod Field
+pub mod CriticalOption
+pub mod Extension
+pub mod CertType
+pub mod Signature
+pub mod SignatureSpelled
+pub mod carried
