@@ -1,7 +1,7 @@
 -- Lemmas on fields that are seen at their places.
 use Rattle.std.proofs.Common.{◌≡◌, ℕ, ◌+◌, ◌-◌, ◌≤◌, ◌<◌, List, ◌++◌, length, take, drop, replicate, sym, ap, ◌∙◌, arith, refl, Ok, Err}
 use Rattle.std.specs.Prelude.{⊤, Bool, true, false}
-use Rattle.std.specs.Int.{Width, w8, w32, byte_len, from_be_bytes}
+use Rattle.std.specs.Int.{Width, w8, w32, w64, byte_len, from_be_bytes}
 use Rattle.std.specs.Str.{IsUtf8, is_utf8}
 use Rattle.std.proofs.lemmas.Str.{is_utf8-from_IsUtf8, IsUtf8-from_is_utf8}
 use Rattle.std.proofs.lemmas.List.{length-append, length-drop, length-take-le, take-append-drop, drop-drop, drop-take, drop_at}
@@ -10,7 +10,7 @@ use Rattle.picky_layout.specs.Outcome.{and_then, map_err}
 use Rattle.picky_layout.specs.Combine.{narrow, each}
 use Rattle.picky_layout.specs.Narrowed.{meant}
 use Rattle.picky_layout.specs.Wire.{byte_array, number, uint32, string}
-use Rattle.picky_layout.specs.Numbers.{byte}
+use Rattle.picky_layout.specs.Numbers.{byte, uint64}
 use Rattle.picky_layout.specs.Zeros.{without_zeros}
 use Rattle.picky_layout.specs.carried.Zeros.{zeros_in_front}
 use Rattle.picky_wire.specs.declared.view.Part.{Part}
@@ -92,7 +92,7 @@ number_unseen w from blob some short =
     let refused = each_refused (byte_array (byte_len w)) (from_be_bytes w) (drop from blob) _ head in
     record { sees = ap (map_err Flawed) refused; placed = tt }
 
--- one byte, and four
+-- one byte, four and eight
 pub byte_seen : (from n : ℕ) (blob bytes : List ℕ) → from + 1 ≤ length blob
     → bytes ≡ take 1 (drop from blob) → n ≡ from_be_bytes w8 bytes
     → Seen (λ m. m) (λ _. ⊤) Flawed byte blob from (Ok (n, from + 1))
@@ -115,9 +115,22 @@ pub uint32_unseen : (from : ℕ) (blob : List ℕ) → length blob < from + 4
 unfolding uint32
 uint32_unseen from blob short = number_unseen w32 from blob (omega arith) short
 
+pub uint64_seen : (from n : ℕ) (blob bytes : List ℕ) → from + 8 ≤ length blob
+    → bytes ≡ take 8 (drop from blob) → n ≡ from_be_bytes w64 bytes
+    → Seen (λ m. m) (λ _. ⊤) Flawed uint64 blob from (Ok (n, from + 8))
+unfolding uint64
+uint64_seen from n blob bytes fits is value = number_seen w64 from n blob bytes fits is value
+
+pub uint64_unseen : (from : ℕ) (blob : List ℕ) → length blob < from + 8
+    → Seen {X = ℕ} (λ m. m) (λ _. ⊤) Flawed uint64 blob from (Err stucks.Short)
+unfolding uint64
+uint64_unseen from blob short = number_unseen w64 from blob (omega arith) short
+
 pub ruleset byte_at_place = (byte_seen, byte_unseen)
 
 pub ruleset uint32_at_place = (uint32_seen, uint32_unseen)
+
+pub ruleset uint64_at_place = (uint64_seen, uint64_unseen)
 
 -- ---- strings
 

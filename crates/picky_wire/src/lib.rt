@@ -29,7 +29,7 @@ pub use element::{CodecError, SshComplexTypeDecode, SshComplexTypeEncode, SshEle
 pub use error::{Failed, IoKind, NoMemory, SizeError, WireError};
 pub use fields::{take_byte, take_bytes, take_mpint, take_text, take_uint32, take_uint64};
 pub use list::List;
-pub use list_codec::{decode_list, encode_list};
+pub use list_codec::{decode_items, decode_list, encode_list};
 pub use mpint::Mpint;
 pub use piece::{Piece, pieces_len, push_pieces, write_piece, write_pieces};
 pub use principals::{decode_principals, encode_principals};
@@ -40,6 +40,7 @@ pub use std_io::{StdSink, StdSource};
 pub use stop::Stop;
 pub use timestamp::Timestamp;
 pub use view::{
-    Part, Stuck, Word, byte_at, mpint_at, sized_at, string_at, text_at, uint32_at, word_at,
+    Part, Stuck, Word, byte_at, mpint_at, sized_at, string_at, text_at, uint32_at, uint64_at,
+    word_at,
 };
 pub use write::{SshWriteExt, write_all};

@@ -47,8 +47,10 @@ pub fn decode_list<T: SshLayout, S: Source>(
     }
 }
 
-/// The values that the bytes are made of.
-fn decode_items<T: SshLayout>(alloc: Global, block: &[u8]) -> Result<List<T>, T::Error>
+/// The values that the bytes are made of, with nothing left over.
+///
+/// Refuses: `T`'s own, at the first place where no value is spelled.
+pub fn decode_items<T: SshLayout>(alloc: Global, block: &[u8]) -> Result<List<T>, T::Error>
     ensures gives { Gives (T.Error.of_wire errors.NoMemory) (λ items. items) result
         (read_all T.layout block.now) }
     ensures no_fault { IfErr result (λ e. e ≢ T.Error.of_wire errors.ReadFault) }

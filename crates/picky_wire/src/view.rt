@@ -6,7 +6,7 @@ ghost use Rattle.picky_layout.specs.Fixed.{sized};
 ghost use Rattle.picky_layout.specs.Wire.{byte_array, uint32, string, text};
 ghost use Rattle.picky_layout.specs.Magnitude.{IsMagnitude};
 ghost use Rattle.picky_layout.specs.Mpint.{mpint};
-ghost use Rattle.picky_layout.specs.Numbers.{byte};
+ghost use Rattle.picky_layout.specs.Numbers.{byte, uint64};
 ghost use Rattle.picky_wire.specs.View.{end_of, Seen, Lies, WordLies, part_bytes, word_bytes, why_in};
 
 use crate::bytes::{Bytes, Text};
@@ -124,6 +124,23 @@ pub fn uint32_at<'a>(blob: &'a [u8], from: usize) -> Result<(u32, usize), Stuck<
     let (_, rest) = blob.split_at(from);
     match rest.split_first_chunk::<4>() {
         Some((bytes, _)) => Ok((u32::from_be_bytes(*bytes), from + 4)),
+        None => Err(Stuck::Short),
+    }
+}
+
+/// A number of eight bytes, most significant byte first.
+///
+/// `uint64` of RFC 4251, section 5. Refuses, in order: `Short`.
+#[tactic(auto, using(crate::proofs::ViewLemmas::uint64_at_place))]
+pub fn uint64_at<'a>(blob: &'a [u8], from: usize) -> Result<(u64, usize), Stuck<'a>>
+    ensures { Seen (λ n. n) (λ _. ⊤) Flawed uint64 blob.now from result }
+{
+    if from > blob.len() {
+        return Err(Stuck::Short);
+    }
+    let (_, rest) = blob.split_at(from);
+    match rest.split_first_chunk::<8>() {
+        Some((bytes, _)) => Ok((u64::from_be_bytes(*bytes), from + 8)),
         None => Err(Stuck::Short),
     }
 }
