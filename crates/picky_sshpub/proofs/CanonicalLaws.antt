@@ -15,6 +15,7 @@ use Rattle.picky_sshpub.specs.Blob.{blob_of}
 use Rattle.picky_sshpub.specs.BlobRefusal.{read_blob}
 use Rattle.picky_sshpub.proofs.BlobLayout.{blob_is_read_back}
 use Rattle.picky_sshpub.specs.Line.{line_of, IsKept}
+use Rattle.picky_sshpub.specs.FromWire.{public_key_error}
 use Rattle.picky_sshpub.specs.LineRefusal.{is_short, line_meaning, line_text}
 use Rattle.picky_sshpub.specs.SourceLine.{read_line, source_meaning}
 use Rattle.picky_sshpub.proofs.LineLaws.{chosen, line_meaning_says, line_reads_back}
@@ -59,7 +60,7 @@ pub source_is_kept : (bytes : List ℕ) (key : SshPublicKey) (rest : List ℕ) �
     → source_meaning bytes ≡ Ok (key, rest) → length (line_of key) < 2 ^ 32 → IsKept key
 unfolding source_meaning read_line
 source_is_kept bytes key rest each means short =
-    let taken = and_then_ok (read_line bytes) _ (key, rest) means in
+    let taken = and_then_ok (read_line public_key_error bytes) _ (key, rest) means in
     let line_is = chosen (is_short (line_in_front bytes)) _ errors.TooLong taken.0 taken.1 in
     let same : line_in_front bytes ≡ taken.0.0 = cc line_is.1 in
     let step = and_then_ok (line_meaning taken.0.0) _ (key, rest) taken.2 in

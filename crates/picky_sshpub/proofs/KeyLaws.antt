@@ -97,7 +97,8 @@ sk_ed_keeps key bytes each (v, x, y, v_is, (app, z, w, app_is, (is, none), inner
       text_keeps app z (bytes_in_front z w rest) app_is,
     )
 
-fields_keep : (kind : KeyKind) (key : SshBasePublicKey) (bytes : List ℕ) → IsBytes bytes → (fields_of kind).piece key bytes
+-- So do its fields.
+pub fields_keep : (kind : KeyKind) (key : SshBasePublicKey) (bytes : List ℕ) → IsBytes bytes → (fields_of kind).piece key bytes
     → IsKey key
 fields_keep kinds.Rsa key bytes each spells = rsa_keeps key bytes each spells
 fields_keep (kinds.Ec curve) key bytes each spells = ec_keeps curve key bytes each spells

@@ -13,10 +13,9 @@ use Rattle.picky_sshpub.specs.Key.{kind_of}
 use Rattle.picky_sshpub.specs.Blob.{blob_of}
 use Rattle.picky_sshpub.specs.Line.{line_of, line_name, line_body, IsKept}
 use Rattle.picky_sshpub.specs.LineRefusal.{line_meaning}
-use Rattle.picky_sshpub.specs.SourceLine.{after_line, read_line, source_meaning}
+use Rattle.picky_sshpub.specs.SourceLine.{after_line, read_line, source_meaning, Stays}
 use Rattle.picky_sshpub.proofs.ByteLaws.{name_is_word}
 use Rattle.picky_sshpub.proofs.LineLaws.{blob_is_bytes, line_front, front_reads_back}
-use Rattle.picky_sshpub.specs.inner.SourceLine.{Stays}
 
 -- Where a length can say the line in front, the source is answered as that line is.
 pub source_means : (bytes : List ℕ) → length (line_in_front bytes) < 2 ^ 32

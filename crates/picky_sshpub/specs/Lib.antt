@@ -9,4 +9,3 @@ pub mod View
 pub mod BlobSpelled
 pub mod BlobLayout
 pub mod carried
-pub mod inner

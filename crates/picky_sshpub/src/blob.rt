@@ -1,10 +1,10 @@
 //! A public key's blob, read and written.
 
-ghost use Rattle.std.specs.Prelude.{◌≡◌, ◌≢◌, ◌^◌, ◌<◌, None, length, refl};
+ghost use Rattle.std.specs.Prelude.{◌≡◌, ◌≢◌, ◌^◌, ◌<◌, ◌++◌, None, length, refl};
 ghost use Rattle.std.specs.List.{concat};
 ghost use Rattle.picky_wire.specs.Flaws.{TakesLayout};
 ghost use Rattle.picky_wire.specs.inner.Stop.{stop_of};
-ghost use Rattle.picky_sshpub.specs.Blob.{rsa_fields, ec_fields, ed_fields, sk_ecdsa_fields, sk_ed_fields, fields_of, blob, blob_of};
+ghost use Rattle.picky_sshpub.specs.Blob.{rsa_fields, ec_fields, ed_fields, sk_ecdsa_fields, sk_ed_fields, fields_of, fields_spelled, blob, blob_of};
 ghost use Rattle.picky_sshpub.specs.Key.{IsKey};
 ghost use Rattle.picky_sshpub.specs.BlobRefusal.{read_blob};
 
@@ -83,41 +83,51 @@ fn take_sk_ed<S: Source>(alloc: Global, stream: &mut S) -> Result<SshBasePublicK
 }
 
 /// The fields of the key's one spelling, its name first.
-#[tactic(auto, unfolding(crate::specs::Blob::blob_of, crate::specs::Blob::fields_spelled))]
+#[tactic(auto, unfolding(crate::specs::Blob::blob_of))]
 pub fn pieces(key: &SshBasePublicKey) -> [Piece<'_>; 4]
     ensures spelled { concat result ≡ blob_of key.now }
     ensures keeps { IsKey key.now }
 {
-    let name = Piece::string(key.kind().name().as_bytes());
+    pieces_behind(Piece::string(key.kind().name().as_bytes()), key)
+}
+
+/// The fields of the key's one spelling behind another field, which is its name in a blob and the nonce in a certificate.
+#[tactic(auto, unfolding(crate::specs::Blob::fields_spelled))]
+pub fn pieces_behind<'a>(first: Piece<'a>, key: &'a SshBasePublicKey) -> [Piece<'a>; 4]
+    ensures spelled { concat result ≡ first.entry ++ fields_spelled key.now }
+    ensures keeps { IsKey key.now }
+{
     match key {
-        SshBasePublicKey::Rsa { e, n } => [name, Piece::mpint(e), Piece::mpint(n), Piece::none()],
+        SshBasePublicKey::Rsa { e, n } => {
+            [first, Piece::mpint(e), Piece::mpint(n), Piece::none()]
+        }
         SshBasePublicKey::Ec { curve, point } => {
             let identifier = curve.to_ecdsa_ssh_key_identifier();
             [
-                name,
+                first,
                 Piece::string(identifier.as_bytes()),
                 Piece::bytes(point),
                 Piece::none(),
             ]
         }
-        SshBasePublicKey::Ed { key } => [name, Piece::string(key), Piece::none(), Piece::none()],
+        SshBasePublicKey::Ed { key } => {
+            [first, Piece::string(key), Piece::none(), Piece::none()]
+        }
         SshBasePublicKey::SkEcdsaSha2NistP256 { point, application } => {
             let identifier = EcCurve::NistP256.to_ecdsa_ssh_key_identifier();
             [
-                name,
+                first,
                 Piece::string(identifier.as_bytes()),
                 Piece::bytes(point),
                 Piece::text(application),
             ]
         }
-        SshBasePublicKey::SkEd25519 { key, application } => {
-            [
-                name,
-                Piece::string(key),
-                Piece::text(application),
-                Piece::none(),
-            ]
-        }
+        SshBasePublicKey::SkEd25519 { key, application } => [
+            first,
+            Piece::string(key),
+            Piece::text(application),
+            Piece::none(),
+        ],
     }
 }
 

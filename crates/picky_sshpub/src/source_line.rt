@@ -6,14 +6,15 @@ ghost use Rattle.picky_text.specs.Words.{ends_line};
 ghost use Rattle.picky_wire.specs.Count.{Keeps, Rose};
 ghost use Rattle.picky_wire.specs.Takes.{Takes, HasCause, causes_of};
 ghost use Rattle.picky_wire.specs.declared.error.IoKind.TheVariants as io_kinds;
+ghost use Rattle.picky_wire.specs.declared.error.WireError.TheVariants as wire;
 ghost use Rattle.picky_sshpub.specs.FromWire.{public_key_error};
-ghost use Rattle.picky_sshpub.specs.inner.SourceLine.{Stays};
-ghost use Rattle.picky_sshpub.specs.SourceLine.{after_line, line_used, read_line, source_meaning};
+ghost use Rattle.picky_sshpub.specs.LineRefusal.{line_meaning};
+ghost use Rattle.picky_sshpub.specs.SourceLine.{after_line, line_used, read_line, source_meaning, HasLine, Stays};
 
 use crate::error::SshPublicKeyError;
 use crate::key::SshPublicKey;
 use crate::line::key_of_line;
-use picky_wire::{Failed, IoKind, Source, SshComplexTypeDecode};
+use picky_wire::{CodecError, Failed, Source, SshComplexTypeDecode, WireError};
 use std::alloc::Global;
 
 /// How many bytes are taken at most.
@@ -40,25 +41,30 @@ impl SshComplexTypeDecode for SshPublicKey {
         ensures cause { IfErr result (HasCause (causes_of public_key_error) source_meaning
             (Rose (S.faults stream.old) (S.faults stream.new))) }
 
+        // Whatever the source tells, some line means the key.
+        ensures meant { IfOk result (HasLine line_meaning) }
+
         // A line that is refused for what it says was taken, a cut blob's too.
         ensures taken { S.tells stream.old → IfErr result (λ e. e ≢ SshPublicKeyError.IoError io_kinds.ReadFault
             → e ≢ SshPublicKeyError.NoMemory → S.left stream.new ≡ after_line (S.left stream.old)) }
     {
-        match take_line(alloc, stream) {
+        match take_line::<SshPublicKeyError, S>(alloc, stream) {
             Ok(line) => key_of_line(alloc, line.as_slice()),
             Err(e) => Err(e),
         }
     }
 }
 
-/// The line in front of the source's bytes, without the byte that ends it.
-fn take_line<S: Source>(alloc: Global, stream: &mut S) -> Result<Vec<u8>, SshPublicKeyError>
-    ensures takes { Takes S.tells S.left S.known S.faults (causes_of public_key_error) read_line line_used
+/// The line in front of the source's bytes, without the one CR or LF that ends it, which is taken too.
+///
+/// Refuses, in order: `ReadFault`; `TooLong`, where 2^32 bytes came without CR or LF; `NoMemory`. Each is the error's own.
+pub fn take_line<E: CodecError, S: Source>(alloc: Global, stream: &mut S) -> Result<Vec<u8>, E>
+    ensures takes { Takes S.tells S.left S.known S.faults (causes_of E.of_wire) (read_line E.of_wire) line_used
         (map_ok (λ line. line.items) result) stream.old stream.new }
-    ensures cause { IfErr result (HasCause (causes_of public_key_error) read_line
+    ensures cause { IfErr result (HasCause (causes_of E.of_wire) (read_line E.of_wire)
         (Rose (S.faults stream.old) (S.faults stream.new))) }
-    ensures taken { S.tells stream.old → IfErr result (λ e. e ≢ SshPublicKeyError.IoError io_kinds.ReadFault
-        → e ≢ SshPublicKeyError.NoMemory → S.left stream.new ≡ after_line (S.left stream.old)) }
+    ensures taken { S.tells stream.old → IfErr result (λ e. e ≢ E.of_wire wire.ReadFault
+        → e ≢ E.of_wire wire.NoMemory → S.left stream.new ≡ after_line (S.left stream.old)) }
     ensures line { IfOk result (λ line. Stays line.items × (length line.items < 2 ^ 32)) }
 {
     let mut line = Vec::new(alloc);
@@ -71,13 +77,13 @@ fn take_line<S: Source>(alloc: Global, stream: &mut S) -> Result<Vec<u8>, SshPub
                 }
                 match line.push(byte) {
                     Ok(()) => {}
-                    Err(_) => return Err(SshPublicKeyError::NoMemory),
+                    Err(_) => return Err(E::from_wire(WireError::NoMemory)),
                 }
             }
-            Err(_) => return Err(SshPublicKeyError::IoError(IoKind::ReadFault)),
+            Err(_) => return Err(E::from_wire(WireError::ReadFault)),
         }
     }
-    Err(SshPublicKeyError::TooLong)
+    Err(E::from_wire(WireError::TooLong))
 }
 
 fn ends_the_line(byte: u8) -> bool

@@ -84,8 +84,11 @@ impl<'a> PublicView<'a> {
     }
 }
 
+/// The view of the blob that stands at a place, and the place after it.
+///
+/// RFC 4253, section 6.6. Refuses, in order, by field: `Short`, `NotUtf8`, `Name`, `Length`.
 #[tactic(auto, unfolding(crate::specs::Blob::blob))]
-fn key_at<'a>(blob: &'a [u8], from: usize) -> Result<(PublicView<'a>, usize), Stuck<'a>>
+pub fn key_at<'a>(blob: &'a [u8], from: usize) -> Result<(PublicView<'a>, usize), Stuck<'a>>
     requires { length blob.now < 2 ^ 32 }
     ensures { Seen key_seen (PartsLie blob.now (end_of key_type blob.now from)) why_in blob_layout blob.now from result }
 {
@@ -113,7 +116,10 @@ pub fn kind_at<'a>(blob: &'a [u8], from: usize) -> Result<(KeyKind, usize), Stuc
     }
 }
 
-fn fields_at<'a>(
+/// The view of the fields that follow a key type's name, and the place after them.
+///
+/// RFC 4253, section 6.6. Refuses, in order, by field: `Short`, `NotUtf8`, `Length`.
+pub fn fields_at<'a>(
     blob: &'a [u8],
     from: usize,
     kind: KeyKind,

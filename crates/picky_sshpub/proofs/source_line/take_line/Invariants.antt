@@ -1,7 +1,7 @@
 -- What was taken so far is a front of the bytes, and no byte of it ends a line.
 use Rattle.std.proofs.Common.{◌≡◌, ◌≤◌, ◌-◌, ◌^◌, ◌++◌, vec_len}
 use Rattle.std.specs.Prelude.{IsSome}
-use Rattle.picky_sshpub.specs.inner.SourceLine.{Stays}
+use Rattle.picky_sshpub.specs.SourceLine.{Stays}
 use Rattle.picky_sshpub.proofs.source_line.take_line.Given as goal
 
 abbrev pub invariant-bytes : goal.invariant-bytes
