@@ -35,7 +35,7 @@ impl TryClone for SshCriticalOption {
 
 /// The fields of the option's one spelling.
 #[tactic(auto, unfolding(crate::specs::CriticalOption::option_of))]
-fn pieces(option: &SshCriticalOption) -> [Piece<'_>; 2]
+pub fn option_pieces(option: &SshCriticalOption) -> [Piece<'_>; 2]
     ensures spelled { concat result ≡ option_of option.now }
     ensures keeps { IsOption option.now }
 {
@@ -58,14 +58,14 @@ impl SshComplexTypeEncode for SshCriticalOption {
 
     /// Writes the strings of its name and its data. Refuses: `IoError(WriteFault)`.
     fn encode<S: Sink>(&self, stream: &mut S) -> Result<(), SshCriticalOptionError> {
-        match write_pieces(stream, &pieces(self)) {
+        match write_pieces(stream, &option_pieces(self)) {
             Ok(()) => Ok(()),
             Err(e) => Err(SshCriticalOptionError::from(e)),
         }
     }
 
     fn spelling_len(&self) -> u64 {
-        pieces_len(&pieces(self))
+        pieces_len(&option_pieces(self))
     }
 }
 

@@ -48,7 +48,7 @@ impl TryClone for SshExtension {
 
 /// The fields of the extension's one spelling.
 #[tactic(auto, unfolding(crate::specs::Extension::extension_of))]
-fn pieces(extension: &SshExtension) -> [Piece<'_>; 2]
+pub fn extension_pieces(extension: &SshExtension) -> [Piece<'_>; 2]
     ensures spelled { concat result ≡ extension_of extension.now }
     ensures keeps { IsExtension extension.now }
 {
@@ -71,14 +71,14 @@ impl SshComplexTypeEncode for SshExtension {
 
     /// Writes the strings of its name and its data. Refuses: `IoError(WriteFault)`.
     fn encode<S: Sink>(&self, stream: &mut S) -> Result<(), SshExtensionError> {
-        match write_pieces(stream, &pieces(self)) {
+        match write_pieces(stream, &extension_pieces(self)) {
             Ok(()) => Ok(()),
             Err(e) => Err(SshExtensionError::from(e)),
         }
     }
 
     fn spelling_len(&self) -> u64 {
-        pieces_len(&pieces(self))
+        pieces_len(&extension_pieces(self))
     }
 }
 

@@ -39,7 +39,7 @@ impl SshComplexTypeEncode for SshSignature {
             Ok(total) => total,
             Err(e) => return Err(e),
         };
-        match write_pieces(stream, &pieces(self, total)) {
+        match write_pieces(stream, &signature_pieces(self, total)) {
             Ok(()) => Ok(()),
             Err(e) => Err(SshSignatureError::from(e)),
         }
@@ -47,12 +47,14 @@ impl SshComplexTypeEncode for SshSignature {
 
     #[tactic(auto, unfolding(crate::specs::Signature::signature_of), using(crate::proofs::SignatureLemmas::same_len))]
     fn spelling_len(&self) -> u64 {
-        pieces_len(&pieces(self, 0))
+        pieces_len(&signature_pieces(self, 0))
     }
 }
 
-/// How many bytes follow the total, or why the signature isn't written.
-fn written_total(signature: &SshSignature) -> Result<u32, SshSignatureError>
+/// How many bytes follow the total.
+///
+/// Refuses, in order: `BlobMismatch`, `TooLong`, as `encode`.
+pub fn written_total(signature: &SshSignature) -> Result<u32, SshSignatureError>
     ensures total { IfOk result (λ total. total ≡ total_of signature.now) }
     ensures written { IfOk result (λ _. signature_reason signature.now ≡ None) }
     ensures refused { IfErr result (λ e. signature_reason signature.now ≡ Some e) }
@@ -75,7 +77,7 @@ fn total_len(signature: &SshSignature) -> u64
 
 /// The fields of the signature behind a total.
 #[tactic(auto, unfolding(crate::specs::Signature::behind_total))]
-fn pieces(signature: &SshSignature, total: u32) -> [Piece<'_>; 5]
+pub fn signature_pieces(signature: &SshSignature, total: u32) -> [Piece<'_>; 5]
     ensures spelled { concat result ≡ behind_total total signature.now }
     ensures keeps { IsSignature signature.now }
 {
