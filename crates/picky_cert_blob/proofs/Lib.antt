@@ -1,0 +1,10 @@
+pub mod FieldLemmas
+pub mod RowLemmas
+pub mod PlaceLemmas
+pub mod IssuerLemmas
+pub mod ListLaws
+pub mod KeepLaws
+pub mod SpellLaws
+pub mod SubjectLaws
+pub mod SignedLaws
+pub mod EqualityLemmas

@@ -1,0 +1,12 @@
+pub mod carried
+pub mod Subject
+pub mod Used
+pub mod Listed
+pub mod Reason
+pub mod Items
+pub mod Layout
+pub mod View
+pub mod Seen
+pub mod Spelled
+pub mod Keeps
+pub mod Shown

@@ -1,0 +1,69 @@
+-- A certificate's bytes seen where they stand, and what a view is stopped by.
+use Rattle.std.specs.Prelude.{◌≡◌, ◌+◌, ◌≤◌, ◌<◌, List, [], ℕ, length, drop, Result, Ok, Err}
+use Rattle.picky_layout.specs.Grammar.{Grammar}
+use Rattle.picky_layout.specs.Outcome.{map_err}
+use Rattle.picky_layout.specs.Row.{read_all}
+use Rattle.picky_wire.specs.declared.view.Part.{Part}
+use Rattle.picky_wire.specs.declared.view.Stuck.{Stuck}
+use Rattle.picky_wire.specs.declared.view.Stuck.TheVariants as stucks
+use Rattle.picky_wire.specs.View.{Lies, Places, end_of, why_of}
+use Rattle.picky_cert_blob.specs.Reason.{CertReason}
+use Rattle.picky_cert_blob.specs.Used.{used_row}
+use Rattle.picky_cert_blob.specs.declared.stopped.Stopped.{Stopped}
+
+-- the layout's reason: the part, and what is wrong there
+abbrev pub reason_of : Stopped → CertReason
+reason_of stopped = (stopped.part, why_of stopped.stuck)
+
+abbrev pub stuck_of : Stopped → Stuck
+stuck_of stopped = stopped.stuck
+
+-- what is shown is read before what stands at the next place, or all is refused with that very reason
+abbrev pub SeesBy : {X A : Type 0} → (X → A) → (List ℕ → Result (A × List ℕ) CertReason) → List ℕ → ℕ
+    → Result (X × ℕ) Stopped → Type 0
+SeesBy shows read blob from (Ok (x, next)) = read (drop from blob) ≡ Ok (shows x, drop next blob)
+SeesBy shows read blob from (Err stopped) = read (drop from blob) ≡ Err (reason_of stopped)
+
+-- what a call that reads a buffer at a place answers, and the part at which it stops
+pub record SeenBy {X A : Type 0} (shows : X → A) (lies : X → Type 0) (read : List ℕ → Result (A × List ℕ) CertReason)
+    (used : List ℕ → ℕ) (blob : List ℕ) (from : ℕ) (result : Result (X × ℕ) Stopped) : Type 0 where
+  pub sees : SeesBy shows read blob from result
+  pub placed : Places lies blob (from + used (drop from blob)) (map_err stuck_of result)
+
+abbrev pub SeenIn : {X A : Type 0} → (X → A) → (X → Type 0) → Grammar CertReason A → List ℕ → ℕ
+    → Result (X × ℕ) Stopped → Type 0
+SeenIn shows lies layout blob from result = SeenBy shows lies layout.read layout.used blob from result
+
+-- ---- a row of items
+
+-- a name that is refused ends there
+abbrev pub NameLies : List ℕ → ℕ → Stuck → Type 0
+NameLies blob end (stucks.Name name) = Lies blob end name
+NameLies blob end stuck = Unit {0}
+
+-- an item stands there, up to the next place; or none does, for that very reason
+abbrev pub IsPassed : {A : Type 0} → Grammar CertReason A → List ℕ → ℕ → Result ℕ Stopped → Type 0
+IsPassed {A = A} item bytes from (Ok next) =
+    (v : A) × (item.read (drop from bytes) ≡ Ok (v, drop next bytes)) × (next ≡ end_of item bytes from) × (from < next)
+    × (next ≤ length bytes)
+IsPassed item bytes from (Err stopped) =
+    (item.read (drop from bytes) ≡ Err (reason_of stopped)) × NameLies bytes (end_of item bytes from) stopped.stuck
+
+-- all of the bytes from a place on are items; or the first place where none stands is refused, for that very reason
+abbrev pub ArePassed : {A : Type 0} → Grammar CertReason A → List ℕ → ℕ → Result Unit Stopped → Type 0
+ArePassed {A = A} item bytes from (Ok done) = (vs : List A) × (read_all item (drop from bytes) ≡ Ok vs)
+ArePassed item bytes from (Err stopped) =
+    (read_all item (drop from bytes) ≡ Err (reason_of stopped))
+    × NameLies bytes (from + used_row item (drop from bytes)) stopped.stuck
+
+-- the values that a block's bytes are, where they are some
+abbrev pub values_or_none : {E A : Type 0} → Result (List A) E → List A
+values_or_none (Ok vs) = vs
+values_or_none (Err e) = []
+
+abbrev pub values_in : {A : Type 0} → Grammar CertReason A → Part → List A
+values_in item block = values_or_none (read_all item block.bytes.now)
+
+-- the block's bytes are items
+abbrev pub AreItems : {A : Type 0} → Grammar CertReason A → Part → Type 0
+AreItems {A = A} item block = (vs : List A) × (read_all item block.bytes.now ≡ Ok vs)

@@ -1,0 +1,62 @@
+//! The lists of a certificate, whose items are passed one after another.
+
+ghost use Rattle.std.specs.Prelude.{◌≤◌, IfOk, length};
+ghost use Rattle.picky_layout.specs.Grammar.{Grammar};
+ghost use Rattle.picky_layout.specs.Many.{read_many};
+ghost use Rattle.picky_layout.specs.Row.{Solid, read_all};
+ghost use Rattle.picky_layout.specs.Wire.{string};
+ghost use Rattle.picky_wire.specs.View.{Lies, end_of};
+ghost use Rattle.picky_cert_blob.specs.Reason.{CertReason, in_part};
+ghost use Rattle.picky_cert_blob.specs.Used.{used_inside, used_row};
+ghost use Rattle.picky_cert_blob.specs.View.{AreItems, ArePassed, IsPassed, SeenBy, values_in};
+
+use crate::fields::string_in;
+use crate::part::CertPart;
+use crate::stopped::Stopped;
+use picky_wire::Part;
+
+/// A kind of items of a list.
+pub trait Item {
+    type Value;
+
+    ghost item: { Grammar CertReason Self.Value };
+
+    /// The place after the item that stands at a place.
+    fn pass<'a>(bytes: &'a [u8], from: usize) -> Result<usize, Stopped<'a>>
+        ensures { IsPassed item bytes.now from result };
+
+    ghost solid: { Solid item.piece };
+}
+
+/// A list inside a string.
+pub fn list_at<'a, I: Item>(
+    blob: &'a [u8],
+    from: usize,
+    part: CertPart,
+) -> Result<(Part<'a>, usize), Stopped<'a>>
+    ensures seen { SeenBy (values_in I.item) (Lies blob.now (end_of string blob.now from)) (read_many (in_part part) I.item)
+        (used_inside (read_all I.item) (used_row I.item)) blob.now from result }
+    ensures items { IfOk result (λ found. AreItems I.item found.0) }
+{
+    let (block, next) = string_in(blob, from, part)?;
+    let (front, _) = blob.split_at(next);
+    match pass_all::<I>(front, block.at) {
+        Ok(()) => Ok((block, next)),
+        Err(stopped) => Err(stopped),
+    }
+}
+
+/// Passes the items that stand from a place on, up to the end of the bytes.
+fn pass_all<'a, I: Item>(bytes: &'a [u8], from: usize) -> Result<(), Stopped<'a>>
+    requires { from ≤ length bytes.now }
+    ensures { ArePassed I.item bytes.now from result }
+{
+    let mut at = from;
+    'items: while at < bytes.len() {
+        match I::pass(bytes, at) {
+            Ok(next) => at = next,
+            Err(stopped) => return Err(stopped),
+        }
+    }
+    Ok(())
+}

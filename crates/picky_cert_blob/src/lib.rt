@@ -1,0 +1,24 @@
+//! All parts of an OpenSSH certificate, seen where they stand in its bytes (PROTOCOL.certkeys).
+#![tactic(auto)]
+
+mod body;
+mod fields;
+mod grants;
+mod head;
+mod items;
+mod kinds;
+pub mod laws;
+mod part;
+mod signature;
+mod stopped;
+mod subject;
+mod terms;
+
+pub use body::{BodyView, body_at};
+pub use grants::GrantsView;
+pub use head::HeadView;
+pub use part::CertPart;
+pub use signature::{SignatureView, signature_at};
+pub use stopped::Stopped;
+pub use subject::{fits_subject, subject_kind};
+pub use terms::TermsView;

@@ -1,0 +1,95 @@
+//! For what a certificate is, for whom, and how long it is valid.
+
+ghost use Rattle.std.specs.Prelude.{⊤, IfOk};
+ghost use Rattle.picky_layout.specs.Wire.{string};
+ghost use Rattle.picky_wire.specs.View.{Lies, end_of};
+ghost use Rattle.picky_cert_blob.specs.Items.{principal_item};
+ghost use Rattle.picky_cert_blob.specs.Layout.{principals as principals_layout, terms as terms_layout, type_number, valid_after, valid_before};
+ghost use Rattle.picky_cert_blob.specs.Seen.{terms_seen, TermsLie};
+ghost use Rattle.picky_cert_blob.specs.View.{AreItems, SeenIn, values_in};
+
+use crate::fields::{text_in, uint32_in, uint64_in};
+use crate::items::list_at;
+use crate::kinds::Principals;
+use crate::part::CertPart;
+use crate::stopped::Stopped;
+use picky_cert_parts::SshCertType;
+use picky_wire::{Part, Stuck, Timestamp};
+
+/// The terms of a certificate, as parts of the buffer.
+#[derive(Clone, Copy, Debug, PartialEq, Eq)]
+pub struct TermsView<'a> {
+    pub serial: u64,
+    pub cert_type: SshCertType,
+    pub key_id: Part<'a>,
+    pub principals: Part<'a>,
+    pub after: Timestamp,
+    pub before: Timestamp,
+}
+
+/// The terms that stand at a place, and the place after them.
+#[tactic(auto, unfolding(crate::specs::Layout::terms))]
+pub fn terms_at<'a>(blob: &'a [u8], from: usize) -> Result<(TermsView<'a>, usize), Stopped<'a>>
+    ensures seen { SeenIn terms_seen (TermsLie blob.now from) terms_layout blob.now from result }
+    ensures items { IfOk result (λ found. AreItems principal_item found.0.principals) }
+{
+    let (serial, next) = uint64_in(blob, from, CertPart::Serial)?;
+    let (cert_type, next) = type_at(blob, next)?;
+    let (key_id, next) = text_in(blob, next, CertPart::KeyId)?;
+    let (principals, next) = principals_at(blob, next)?;
+    let (after, next) = after_at(blob, next)?;
+    let (before, next) = before_at(blob, next)?;
+    Ok((
+        TermsView {
+            serial,
+            cert_type,
+            key_id,
+            principals,
+            after,
+            before,
+        },
+        next,
+    ))
+}
+
+/// The type of the certificate, by its number.
+#[tactic(auto, unfolding(crate::specs::Layout::type_number))]
+fn type_at<'a>(blob: &'a [u8], from: usize) -> Result<(SshCertType, usize), Stopped<'a>>
+    ensures { SeenIn (λ t. t) (λ _. ⊤) type_number blob.now from result }
+{
+    let (number, next) = uint32_in(blob, from, CertPart::CertType)?;
+    match SshCertType::try_from_number(number) {
+        Ok(cert_type) => Ok((cert_type, next)),
+        Err(_) => Err(Stopped {
+            part: CertPart::CertType,
+            stuck: Stuck::Number(number),
+        }),
+    }
+}
+
+/// The principals.
+#[tactic(auto, unfolding(crate::specs::Layout::principals))]
+fn principals_at<'a>(blob: &'a [u8], from: usize) -> Result<(Part<'a>, usize), Stopped<'a>>
+    ensures seen { SeenIn (values_in principal_item) (Lies blob.now (end_of string blob.now from)) principals_layout blob.now from result }
+    ensures items { IfOk result (λ found. AreItems principal_item found.0) }
+{
+    list_at::<Principals>(blob, from, CertPart::Principals)
+}
+
+/// The moment from which the certificate is valid.
+#[tactic(auto, unfolding(crate::specs::Layout::valid_after))]
+fn after_at<'a>(blob: &'a [u8], from: usize) -> Result<(Timestamp, usize), Stopped<'a>>
+    ensures { SeenIn (λ t. t) (λ _. ⊤) valid_after blob.now from result }
+{
+    let (secs, next) = uint64_in(blob, from, CertPart::After)?;
+    Ok((Timestamp(secs), next))
+}
+
+/// The moment at which it is valid no more.
+#[tactic(auto, unfolding(crate::specs::Layout::valid_before))]
+fn before_at<'a>(blob: &'a [u8], from: usize) -> Result<(Timestamp, usize), Stopped<'a>>
+    ensures { SeenIn (λ t. t) (λ _. ⊤) valid_before blob.now from result }
+{
+    let (secs, next) = uint64_in(blob, from, CertPart::Before)?;
+    Ok((Timestamp(secs), next))
+}
