@@ -1,0 +1,13 @@
+pub mod ByteLemmas
+pub mod KeepLaws
+pub mod LineLemmas
+pub mod LineLaws
+pub mod NameLemmas
+pub mod SignedLaws
+pub mod EqualityLemmas
+pub mod LawLemmas
+pub mod ByteLaws
+pub mod WrittenLemmas
+pub mod WrittenLaws
+pub mod ReadBackLaws
+pub mod CanonicalLaws

@@ -1,0 +1,444 @@
+-- A name for which a certificate is refused is text.
+use Rattle.std.specs.Prelude.{◌≡◌, Bool, true, false, List, [], ◌∷◌, ℕ, zero, suc, length, Option, Some, None, Result, Ok, Err}
+use Rattle.std.specs.Prelude.{◌<◌, ◌^◌, ◌==◌, if◌then◌else◌, IfErr, ok_or}
+use Rattle.std.specs.Str.{IsUtf8}
+use Rattle.std.proofs.Common.{ap, refl, subst, sym, arith}
+use Rattle.picky_layout.specs.Flaw.{Flaw, Reason, Why, Flawed, Length, Magic, Name, Number, Short, NotUtf8, Big}
+use Rattle.picky_layout.specs.Combine.{at, each, narrow, placed, tag}
+use Rattle.picky_layout.specs.carried.Outcome.{map_err_ok}
+use Rattle.picky_layout.specs.Entry.{entry}
+use Rattle.picky_layout.specs.Grammar.{Grammar}
+use Rattle.picky_layout.specs.Inside.{begins, inside}
+use Rattle.picky_layout.specs.Many.{row}
+use Rattle.picky_layout.specs.Named.{named}
+use Rattle.picky_layout.specs.Mpint.{mpint}
+use Rattle.picky_layout.specs.Narrowed.{Narrowing, meant}
+use Rattle.picky_layout.specs.Numbers.{byte, uint64}
+use Rattle.picky_layout.specs.Outcome.{and_then, map_err}
+use Rattle.picky_layout.specs.Row.{Solid, after, read_all, read_within}
+use Rattle.picky_layout.specs.Table.{Table, find_entry}
+use Rattle.picky_layout.specs.Wire.{of_length, string, text, uint32}
+use Rattle.picky_wire.specs.Moment.{moment}
+use Rattle.picky_keys.specs.NameTables.{key_types}
+use Rattle.picky_keys.specs.declared.curve.EcCurve.{EcCurve}
+use Rattle.picky_keys.specs.declared.kind.KeyKind.{KeyKind}
+use Rattle.picky_keys.specs.declared.kind.KeyKind.TheVariants as kinds
+use Rattle.picky_sshpub.specs.Blob.{blob, ec_fields, ed_fields, ed_key, fields_of, key_type, rsa_fields, sk_ecdsa_fields, sk_ed_fields}
+use Rattle.picky_cert_names.specs.Names.{cert_key_type_name, is_sk}
+use Rattle.picky_cert_names.specs.NameTables.{cert_key_types, option_types, signature_formats}
+use Rattle.picky_cert_names.specs.declared.cert_key_type.SshCertKeyType.{SshCertKeyType}
+use Rattle.picky_cert_names.specs.ExtensionType.{extension_named}
+use Rattle.picky_cert_names.specs.declared.error.SshCriticalOptionError.{SshCriticalOptionError}
+use Rattle.picky_cert_names.specs.declared.error.SshExtensionError.{SshExtensionError}
+use Rattle.picky_cert_names.specs.declared.error.SshSignatureError.{SshSignatureError}
+use Rattle.picky_cert_names.specs.declared.error.SshCriticalOptionError.TheVariants as option_errors
+use Rattle.picky_cert_names.specs.declared.error.SshSignatureError.TheVariants as signature_errors
+use Rattle.picky_cert_names.specs.declared.signature_format.SshSignatureFormat.{SshSignatureFormat}
+use Rattle.picky_cert_names.specs.FromWire.{extension_error, option_error, signature_error}
+use Rattle.picky_cert_parts.specs.NumberTable.{cert_types}
+use Rattle.picky_cert_parts.specs.CriticalOption.{critical_option, option_payload, option_type}
+use Rattle.picky_cert_parts.specs.Extension.{extension, extension_payload, extension_type}
+use Rattle.picky_cert_parts.specs.Field.{field}
+use Rattle.picky_cert_parts.specs.Signature.{fields_when, signature, signature_counter, signature_flags, signature_format}
+use Rattle.picky_cert_parts.specs.Signature.{signature_payload, signature_total, sk_fields, standard_fields}
+use Rattle.picky_wire.specs.Flaws.{wire_error}
+use Rattle.picky_wire.specs.declared.view.Stuck.{Stuck}
+use Rattle.picky_wire.specs.declared.view.Stuck.TheVariants as stucks
+use Rattle.picky_cert_blob.specs.Items.{extension_item, option_item, principal_item}
+use Rattle.picky_cert_blob.specs.Layout.{body, cert_name, critical_options, extensions, grants, head, head_for, head_of, issuer, principals}
+use Rattle.picky_cert_blob.specs.Layout.{signature_part, terms, type_number, valid_after, valid_before}
+use Rattle.picky_cert_blob.specs.Reason.{CertReason, extension_why, in_key, in_part, option_why, signature_why, the, within}
+use Rattle.picky_cert_blob.specs.Subject.{subject_kind}
+use Rattle.picky_cert_blob.specs.View.{SeenIn}
+use Rattle.picky_cert_blob.specs.carried.Items.{extension_item_solid, option_item_solid, principal_item_solid}
+use Rattle.picky_cert_blob.specs.declared.part.CertPart.{CertPart}
+use Rattle.picky_cert_blob.specs.declared.part.CertPart.TheVariants as parts
+use Rattle.picky_cert_blob.specs.declared.stopped.Stopped.{Stopped}
+use Rattle.picky_cert.specs.declared.view.CertView.{CertView}
+use Rattle.picky_cert.specs.Certificate.{certificate}
+use Rattle.picky_cert.specs.View.{cert_seen, CertLies, IsRefusal}
+use Rattle.picky_cert_names.proofs.TypeNameLaws.{cert_key_type_name_utf8}
+
+-- the name, where it is for one
+abbrev NamesText : Why → Type 0
+NamesText (Name name) = IsUtf8 name
+NamesText (Flawed flaw) = Unit {0}
+NamesText Length = Unit {0}
+NamesText Magic = Unit {0}
+NamesText (Number n) = Unit {0}
+
+-- so of a field of a blob, and of a part of a certificate
+abbrev InBlob : Reason → Type 0
+InBlob reason = NamesText reason.1
+
+abbrev InCert : CertReason → Type 0
+InCert reason = NamesText reason.1
+
+-- ---- for which reasons layouts are refused
+
+-- each reason for which the reading is refused is such a one
+abbrev RefusesAs : {E A : Type 0} → (E → Type 0) → (List ℕ → Result (A × List ℕ) E) → Type 0
+RefusesAs {E = E} P read = (bytes : List ℕ) (e : E) → read bytes ≡ Err e → P e
+
+done_refuses : {E A : Type 0} (P : E → Type 0) (x : A) → RefusesAs P (λ bytes. Ok (x, bytes))
+done_refuses P x bytes e is = cc is
+
+step_refuses : {E A B : Type 0} (P : E → Type 0) (r : Result A E) (next : A → Result B E)
+    → ((e : E) → r ≡ Err e → P e) → ((x : A) (e : E) → r ≡ Ok x → next x ≡ Err e → P e) → (e : E) → and_then r next ≡ Err e → P e
+step_refuses P (Ok x) next first later e is = later x e refl is
+step_refuses P (Err d) next first later e is = first e (ap Err (cc is))
+
+-- one field, and then what its value decides
+both_refuses : {E A B : Type 0} (P : E → Type 0) (read : List ℕ → Result (A × List ℕ) E)
+    (next : A × List ℕ → Result (B × List ℕ) E) → RefusesAs P read
+    → ((a : A) → RefusesAs P (λ rest. next (a, rest))) → RefusesAs P (λ bytes. and_then (read bytes) next)
+both_refuses P read next first later bytes e is =
+    step_refuses P (read bytes) next (first bytes) (λ x d was. later x.0 x.1 d) e is
+
+err_refused : {D E A : Type 0} (P : E → Type 0) (f : D → E) (r : Result A D) → ((d : D) → r ≡ Err d → P (f d))
+    → (e : E) → map_err f r ≡ Err e → P e
+err_refused P f (Ok x) own e is = cc is
+err_refused P f (Err d) own e is =
+    let same : f d ≡ e = cc is in
+    subst P same (own d refl)
+
+tag_refuses : {D E A : Type 0} (P : E → Type 0) (f : D → E) (G : Grammar D A) → RefusesAs (λ d. P (f d)) G.read
+    → RefusesAs P (tag f G).read
+tag_refuses P f G own bytes e is = err_refused P f (G.read bytes) (own bytes) e is
+
+-- a field of the wire, where any flaw will do
+flawed_refuses : {E A : Type 0} (P : E → Type 0) (f : Flaw → E) (G : Grammar Flaw A) → ((flaw : Flaw) → P (f flaw))
+    → RefusesAs P (tag f G).read
+flawed_refuses P f G each = tag_refuses P f G (λ bytes flaw is. each flaw)
+
+then_refused : {E A B : Type 0} (r : Result A E) (f : A → B) (e : E) → and_then {B = B} r (λ x. Ok (f x)) ≡ Err e → r ≡ Err e
+then_refused (Ok x) f e is = cc is
+then_refused (Err d) f e is = ap Err (cc is)
+
+test_refuses : {E A : Type 0} (P : E → Type 0) (b : Bool) (x : A) (d e : E) → P d → (if b then Ok x else Err d) ≡ Err e → P e
+test_refuses P true x d e own is = cc is
+test_refuses P false x d e own is =
+    let same : d ≡ e = cc is in
+    subst P same own
+
+-- a field that may say less than its kind
+narrow_refuses : {E A B : Type 0} (P : E → Type 0) (G : Grammar E A) (M : Narrowing E A B) → RefusesAs P G.read
+    → ((bytes : List ℕ) (a : A) (rest : List ℕ) (e : E) → G.read bytes ≡ Ok (a, rest) → M.decide a ≡ Err e → P e)
+    → RefusesAs P (narrow G M).read
+narrow_refuses P G M first value bytes e is =
+    step_refuses P (G.read bytes) (meant M) (first bytes)
+    (λ x d was refused. value bytes x.0 x.1 d was (then_refused (M.decide x.0) (λ b. (b, x.1)) d refused)) e is
+
+entry_refuses : {E A : Type 0} (P : E → Type 0) (o : Option A) (unknown e : E) → P unknown → ok_or o unknown ≡ Err e → P e
+entry_refuses P (Some a) unknown e own is = cc is
+entry_refuses P None unknown e own is =
+    let same : unknown ≡ e = cc is in
+    subst P same own
+
+-- a name that no entry of a table has
+named_refuses : {E A : Type 0} (P : E → Type 0) (G : Grammar E (List ℕ)) (why : List ℕ → E) (T : Table (List ℕ) A)
+    → RefusesAs P G.read → ((bytes name rest : List ℕ) → G.read bytes ≡ Ok (name, rest) → P (why name))
+    → RefusesAs P (narrow G (entry why T)).read
+named_refuses P G why T first named =
+    narrow_refuses P G (entry why T) first
+    (λ bytes name rest e was. entry_refuses P (find_entry T name) (why name) e (named bytes name rest was))
+
+text_is_utf8 : (bytes name rest : List ℕ) → text.read bytes ≡ Ok (name, rest) → IsUtf8 name
+unfolding text
+text_is_utf8 bytes name rest is =
+    let piece = (text.sound bytes name rest is).1 in
+    subst IsUtf8 (sym piece.2.1) piece.2.0
+
+tagged_is_utf8 : {E : Type 0} (f : Flaw → E) (bytes name rest : List ℕ) → (tag f text).read bytes ≡ Ok (name, rest) → IsUtf8 name
+tagged_is_utf8 f bytes name rest is = text_is_utf8 bytes name rest (map_err_ok f (text.read bytes) (name, rest) is)
+
+-- a row of values
+within_refuses : {E A : Type 0} (P : E → Type 0) (G : Grammar E A) → RefusesAs P G.read → (most : ℕ) (bytes : List ℕ) (e : E)
+    → read_within G most bytes ≡ Err e → P e
+within_refuses P G own zero bytes e is = cc is
+within_refuses P G own (suc most) [] e is = cc is
+within_refuses P G own (suc most) (b ∷ bytes) e is =
+    step_refuses P (G.read (b ∷ bytes)) (λ first. after first.0 (read_within G most first.1)) (own (b ∷ bytes))
+    (λ first d was refused.
+    within_refuses P G own most first.1 d (then_refused (read_within G most first.1) (λ vs. first.0 ∷ vs) d refused)) e is
+
+all_refuses : {E A : Type 0} (P : E → Type 0) (G : Grammar E A) → RefusesAs P G.read → (bytes : List ℕ) (e : E)
+    → read_all G bytes ≡ Err e → P e
+unfolding read_all
+all_refuses P G own bytes e is = within_refuses P G own (length bytes) bytes e is
+
+list_refuses : {E A : Type 0} (P : E → Type 0) (cut : Flaw → E) (G : Grammar E A) (solid : Solid G.piece) → ((flaw : Flaw) → P (cut flaw))
+    → RefusesAs P G.read → RefusesAs P (inside cut (row G solid)).read
+list_refuses P cut G solid each own =
+    narrow_refuses P (tag cut string) (row G solid) (flawed_refuses P cut string each)
+    (λ bytes block rest e was. all_refuses P G own block e)
+
+front_refuses : {E A : Type 0} (P : E → Type 0) (cut : Flaw → E) (G : Grammar E A) → ((flaw : Flaw) → P (cut flaw)) → RefusesAs P G.read
+    → RefusesAs P (inside cut (begins G)).read
+front_refuses P cut G each own =
+    narrow_refuses P (tag cut string) (begins G) (flawed_refuses P cut string each)
+    (λ bytes block rest e was refused. own block e (then_refused (G.read block) (λ first. first.0) e refused))
+
+-- ---- the fields of a public key
+
+at_refuses : {A : Type 0} (i : ℕ) (G : Grammar Flaw A) → RefusesAs InBlob (at i G).read
+at_refuses i G = flawed_refuses InBlob (placed i) G (λ flaw. tt)
+
+ed_key_refuses : RefusesAs InBlob (ed_key 1).read
+unfolding ed_key
+ed_key_refuses =
+    narrow_refuses InBlob (at 1 string) (of_length (1, Length) 32) (at_refuses 1 string)
+    (λ bytes v rest e was. test_refuses InBlob (length v == 32) v (1, Length) e tt)
+
+rsa_refuses : RefusesAs InBlob rsa_fields.read
+unfolding rsa_fields
+rsa_refuses =
+    both_refuses InBlob (at 1 mpint).read _ (at_refuses 1 mpint) (λ e.
+    both_refuses InBlob (at 2 mpint).read _ (at_refuses 2 mpint) (λ n. done_refuses InBlob _))
+
+ec_refuses : (curve : EcCurve) → RefusesAs InBlob (ec_fields curve).read
+unfolding ec_fields
+ec_refuses curve =
+    both_refuses InBlob (at 1 text).read _ (at_refuses 1 text) (λ identifier.
+    both_refuses InBlob (at 2 string).read _ (at_refuses 2 string) (λ point. done_refuses InBlob _))
+
+ed_refuses : RefusesAs InBlob ed_fields.read
+unfolding ed_fields
+ed_refuses = both_refuses InBlob (ed_key 1).read _ ed_key_refuses (λ key. done_refuses InBlob _)
+
+sk_ecdsa_refuses : RefusesAs InBlob sk_ecdsa_fields.read
+unfolding sk_ecdsa_fields
+sk_ecdsa_refuses =
+    both_refuses InBlob (at 1 text).read _ (at_refuses 1 text) (λ identifier.
+    both_refuses InBlob (at 2 string).read _ (at_refuses 2 string) (λ point.
+    both_refuses InBlob (at 3 text).read _ (at_refuses 3 text) (λ application. done_refuses InBlob _)))
+
+sk_ed_refuses : RefusesAs InBlob sk_ed_fields.read
+unfolding sk_ed_fields
+sk_ed_refuses =
+    both_refuses InBlob (ed_key 1).read _ ed_key_refuses (λ key.
+    both_refuses InBlob (at 2 text).read _ (at_refuses 2 text) (λ application. done_refuses InBlob _))
+
+fields_refuse : (kind : KeyKind) → RefusesAs InBlob (fields_of kind).read
+fields_refuse kinds.Rsa = rsa_refuses
+fields_refuse (kinds.Ec curve) = ec_refuses curve
+fields_refuse (kinds.Ed algorithm) = ed_refuses
+fields_refuse kinds.SkEcdsaSha2NistP256 = sk_ecdsa_refuses
+fields_refuse kinds.SkEd25519 = sk_ed_refuses
+
+blob_refuses : RefusesAs InBlob blob.read
+unfolding blob key_type
+blob_refuses =
+    both_refuses InBlob (named 0 key_types).read _
+    (named_refuses InBlob (at 0 text) (λ name. (0, Name name)) key_types (at_refuses 0 text)
+    (λ bytes name rest is. tagged_is_utf8 (placed 0) bytes name rest is)) fields_refuse
+
+-- ---- the head
+
+the_refuses : {A : Type 0} (part : CertPart) (G : Grammar Flaw A) → RefusesAs InCert (the part G).read
+the_refuses part G = flawed_refuses InCert (in_part part) G (λ flaw. tt)
+
+within_key_refuses : {A : Type 0} (part : CertPart) (G : Grammar Reason A) → RefusesAs InBlob G.read → RefusesAs InCert (within part G).read
+within_key_refuses part G own = tag_refuses InCert (in_key part) G own
+
+cert_name_refuses : RefusesAs InCert cert_name.read
+unfolding cert_name
+cert_name_refuses =
+    named_refuses InCert (the parts.Name text) (λ name. (parts.Name, Name name)) cert_key_types (the_refuses parts.Name text)
+    (λ bytes name rest is. tagged_is_utf8 (in_part parts.Name) bytes name rest is)
+
+head_for_refuses : (t : SshCertKeyType) (kind : KeyKind) → RefusesAs InCert (head_for t kind).read
+unfolding head_for
+head_for_refuses t kind =
+    both_refuses InCert (the parts.Nonce string).read _ (the_refuses parts.Nonce string) (λ nonce.
+    both_refuses InCert (within parts.Subject (fields_of kind)).read _
+    (within_key_refuses parts.Subject (fields_of kind) (fields_refuse kind)) (λ key. done_refuses InCert _))
+
+head_of_refuses : (t : SshCertKeyType) (kind : Option KeyKind) → RefusesAs InCert (head_of t kind).read
+head_of_refuses t (Some kind) bytes e is = head_for_refuses t kind bytes e is
+head_of_refuses t None bytes e is =
+    let same : (parts.Name, Name (cert_key_type_name t)) ≡ e = cc is in
+    subst InCert same (cert_key_type_name_utf8 t)
+
+head_refuses : RefusesAs InCert head.read
+unfolding head
+head_refuses =
+    both_refuses InCert cert_name.read _ cert_name_refuses (λ t. head_of_refuses t (subject_kind t))
+
+-- ---- the terms
+
+type_refuses : RefusesAs InCert type_number.read
+unfolding type_number
+type_refuses =
+    narrow_refuses InCert (the parts.CertType uint32) (entry (λ n. (parts.CertType, Number n)) cert_types)
+    (the_refuses parts.CertType uint32)
+    (λ bytes n rest e was. entry_refuses InCert (find_entry cert_types n) (parts.CertType, Number n) e tt)
+
+after_refuses : RefusesAs InCert valid_after.read
+unfolding valid_after
+after_refuses = narrow_refuses InCert (the parts.After uint64) (each moment) (the_refuses parts.After uint64) (λ bytes n rest e was is. cc is)
+
+before_refuses : RefusesAs InCert valid_before.read
+unfolding valid_before
+before_refuses = narrow_refuses InCert (the parts.Before uint64) (each moment) (the_refuses parts.Before uint64) (λ bytes n rest e was is. cc is)
+
+principal_refuses : RefusesAs InCert principal_item.read
+unfolding principal_item
+principal_refuses = the_refuses parts.Principals text
+
+principals_refuse : RefusesAs InCert principals.read
+unfolding principals
+principals_refuse =
+    list_refuses InCert (in_part parts.Principals) principal_item principal_item_solid (λ flaw. tt) principal_refuses
+
+terms_refuse : RefusesAs InCert terms.read
+unfolding terms
+terms_refuse =
+    both_refuses InCert (the parts.Serial uint64).read _ (the_refuses parts.Serial uint64) (λ serial.
+    both_refuses InCert type_number.read _ type_refuses (λ cert_type.
+    both_refuses InCert (the parts.KeyId text).read _ (the_refuses parts.KeyId text) (λ key_id.
+    both_refuses InCert principals.read _ principals_refuse (λ names.
+    both_refuses InCert valid_after.read _ after_refuses (λ after.
+    both_refuses InCert valid_before.read _ before_refuses (λ before. done_refuses InCert _))))))
+
+-- ---- the grants
+
+abbrev InOption : SshCriticalOptionError → Type 0
+InOption e = NamesText (option_why e)
+
+option_flaw : (flaw : Flaw) → InOption (option_error (wire_error flaw))
+option_flaw Short = tt
+option_flaw NotUtf8 = tt
+option_flaw Big = tt
+
+option_field_refuses : {A : Type 0} (G : Grammar Flaw A) → RefusesAs InOption (field option_error G).read
+option_field_refuses G = flawed_refuses InOption (λ flaw. option_error (wire_error flaw)) G option_flaw
+
+critical_option_refuses : RefusesAs InOption critical_option.read
+unfolding critical_option option_type option_payload
+critical_option_refuses =
+    both_refuses InOption (narrow (field option_error text) (entry option_errors.UnsupportedCriticalOptionType option_types)).read _
+    (named_refuses InOption (field option_error text) option_errors.UnsupportedCriticalOptionType option_types
+    (option_field_refuses text) (λ bytes name rest is. tagged_is_utf8 (λ flaw. option_error (wire_error flaw)) bytes name rest is))
+    (λ name. both_refuses InOption (field option_error string).read _ (option_field_refuses string) (λ payload. done_refuses InOption _))
+
+option_refuses : RefusesAs InCert option_item.read
+unfolding option_item
+option_refuses = tag_refuses InCert (λ e. (parts.Options, option_why e)) critical_option critical_option_refuses
+
+options_refuse : RefusesAs InCert critical_options.read
+unfolding critical_options
+options_refuse = list_refuses InCert (in_part parts.Options) option_item option_item_solid (λ flaw. tt) option_refuses
+
+abbrev InExtension : SshExtensionError → Type 0
+InExtension e = NamesText (extension_why e)
+
+extension_flaw : (flaw : Flaw) → InExtension (extension_error (wire_error flaw))
+extension_flaw Short = tt
+extension_flaw NotUtf8 = tt
+extension_flaw Big = tt
+
+extension_field_refuses : {A : Type 0} (G : Grammar Flaw A) → RefusesAs InExtension (field extension_error G).read
+extension_field_refuses G = flawed_refuses InExtension (λ flaw. extension_error (wire_error flaw)) G extension_flaw
+
+one_extension_refuses : RefusesAs InExtension extension.read
+unfolding extension extension_type extension_payload
+one_extension_refuses =
+    both_refuses InExtension (narrow (field extension_error text) (each extension_named)).read _
+    (narrow_refuses InExtension (field extension_error text) (each extension_named) (extension_field_refuses text) (λ bytes name rest e was is. cc is))
+    (λ name. both_refuses InExtension (field extension_error string).read _ (extension_field_refuses string)
+    (λ payload. done_refuses InExtension _))
+
+extension_refuses : RefusesAs InCert extension_item.read
+unfolding extension_item
+extension_refuses = tag_refuses InCert (λ e. (parts.Extensions, extension_why e)) extension one_extension_refuses
+
+extensions_refuse : RefusesAs InCert extensions.read
+unfolding extensions
+extensions_refuse =
+    list_refuses InCert (in_part parts.Extensions) extension_item extension_item_solid (λ flaw. tt) extension_refuses
+
+issuer_refuses : RefusesAs InCert issuer.read
+unfolding issuer
+issuer_refuses =
+    front_refuses InCert (in_part parts.IssuerString) (within parts.Issuer blob) (λ flaw. tt)
+    (within_key_refuses parts.Issuer blob blob_refuses)
+
+grants_refuse : RefusesAs InCert grants.read
+unfolding grants
+grants_refuse =
+    both_refuses InCert critical_options.read _ options_refuse (λ options.
+    both_refuses InCert extensions.read _ extensions_refuse (λ more.
+    both_refuses InCert (the parts.Reserved string).read _ (the_refuses parts.Reserved string) (λ reserved.
+    both_refuses InCert issuer.read _ issuer_refuses (λ key. done_refuses InCert _))))
+
+-- ---- the signature
+
+abbrev InSignature : SshSignatureError → Type 0
+InSignature e = NamesText (signature_why e)
+
+signature_flaw : (flaw : Flaw) → InSignature (signature_error (wire_error flaw))
+signature_flaw Short = tt
+signature_flaw NotUtf8 = tt
+signature_flaw Big = tt
+
+signature_field_refuses : {A : Type 0} (G : Grammar Flaw A) → RefusesAs InSignature (field signature_error G).read
+signature_field_refuses G = flawed_refuses InSignature (λ flaw. signature_error (wire_error flaw)) G signature_flaw
+
+format_refuses : RefusesAs InSignature signature_format.read
+unfolding signature_format
+format_refuses =
+    named_refuses InSignature (field signature_error text) signature_errors.UnsupportedSignatureFormat signature_formats
+    (signature_field_refuses text) (λ bytes name rest is. tagged_is_utf8 (λ flaw. signature_error (wire_error flaw)) bytes name rest is)
+
+when_refuses : (sk : Bool) (format : SshSignatureFormat) → RefusesAs InSignature (fields_when sk format).read
+unfolding sk_fields standard_fields signature_payload signature_flags signature_counter
+when_refuses true format =
+    both_refuses InSignature (field signature_error string).read _ (signature_field_refuses string) (λ payload.
+    both_refuses InSignature (field signature_error byte).read _ (signature_field_refuses byte) (λ flags.
+    both_refuses InSignature (field signature_error uint32).read _ (signature_field_refuses uint32) (λ counter. done_refuses InSignature _)))
+when_refuses false format =
+    both_refuses InSignature (field signature_error string).read _ (signature_field_refuses string) (λ payload. done_refuses InSignature _)
+
+signature_refuses : RefusesAs InSignature signature.read
+unfolding signature signature_total
+signature_refuses =
+    both_refuses InSignature (field signature_error uint32).read _ (signature_field_refuses uint32) (λ total.
+    both_refuses InSignature signature_format.read _ format_refuses (λ format. when_refuses (is_sk format) format))
+
+signature_part_refuses : RefusesAs InCert signature_part.read
+unfolding signature_part
+signature_part_refuses = tag_refuses InCert (λ e. (parts.Signature, signature_why e)) signature signature_refuses
+
+-- ---- the certificate
+
+body_refuses : RefusesAs InCert body.read
+unfolding body
+body_refuses =
+    both_refuses InCert head.read _ head_refuses (λ h.
+    both_refuses InCert terms.read _ terms_refuse (λ t.
+    both_refuses InCert grants.read _ grants_refuse (λ g. done_refuses InCert _)))
+
+cert_refuses : RefusesAs InCert certificate.read
+unfolding certificate
+cert_refuses =
+    both_refuses InCert body.read _ body_refuses (λ b.
+    both_refuses InCert signature_part.read _ signature_part_refuses (λ s. done_refuses InCert _))
+
+refused_is_text : (bytes : List ℕ) (part : CertPart) (stuck : Stuck) → length bytes < 2 ^ 32
+    → SeenIn {X = CertView} cert_seen (CertLies bytes) certificate bytes 0 (Err (record { part = part; stuck = stuck }))
+    → IsRefusal (record { part = part; stuck = stuck })
+refused_is_text bytes part (stucks.Name name) short seen = record {
+  short = omega (arith, seen.placed.ends, seen.placed.within);
+  utf8 = cert_refuses bytes (part, Name name.bytes.now) seen.sees;
+}
+refused_is_text bytes part stucks.Short short seen = tt
+refused_is_text bytes part stucks.NotUtf8 short seen = tt
+refused_is_text bytes part stucks.Length short seen = tt
+refused_is_text bytes part (stucks.Number n) short seen = tt
+
+-- A name at which a view is stopped is text.
+pub seen_is_refusal : (bytes : List ℕ) (r : Result (CertView × ℕ) Stopped) → length bytes < 2 ^ 32
+    → SeenIn cert_seen (CertLies bytes) certificate bytes 0 r → IfErr r IsRefusal
+seen_is_refusal bytes (Ok found) short seen = tt
+seen_is_refusal bytes (Err stopped) short seen = refused_is_text bytes stopped.part stopped.stuck short seen

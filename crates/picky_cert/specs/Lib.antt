@@ -1,0 +1,11 @@
+pub mod carried
+pub mod Certificate
+pub mod Spelled
+pub mod Keeps
+pub mod View
+pub mod Shown
+pub mod CertRefusal
+pub mod Want
+pub mod Line
+pub mod LineRefusal
+pub mod SourceLine

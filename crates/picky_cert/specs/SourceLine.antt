@@ -1,0 +1,13 @@
+-- A certificate's line in front of a source's bytes: what it means, and the order of its refusals.
+use Rattle.std.specs.Prelude.{List, ℕ, Result, Ok}
+use Rattle.picky_layout.specs.Outcome.{and_then}
+use Rattle.picky_sshpub.specs.SourceLine.{read_line}
+use Rattle.picky_cert_names.specs.declared.error.SshCertificateError.{SshCertificateError}
+use Rattle.picky_cert_names.specs.FromWire.{certificate_error}
+use Rattle.picky_cert.specs.declared.certificate.SshCertificate.{SshCertificate}
+use Rattle.picky_cert.specs.LineRefusal.{line_meaning}
+
+-- the certificate that the source's bytes begin with and what is left, or the first reason why there is none
+unfoldable pub source_meaning : List ℕ → Result (SshCertificate × List ℕ) SshCertificateError
+source_meaning bytes =
+    and_then (read_line certificate_error bytes) (λ line. and_then (line_meaning line.0) (λ c. Ok (c, line.1)))

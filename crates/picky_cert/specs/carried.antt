@@ -1,0 +1,2 @@
+pub mod LineOwn
+pub mod SourceLine

@@ -1,0 +1,23 @@
+//! OpenSSH certificates: their bytes seen where they stand, as values, and in lines (PROTOCOL.certkeys; sshd(8)).
+#![tactic(auto)]
+
+mod blob_bytes;
+mod certificate;
+mod copy;
+pub mod laws;
+mod line;
+mod lists;
+mod refusal;
+mod source_line;
+mod view;
+mod written;
+
+pub use certificate::SshCertificate;
+pub use picky_cert_blob::CertPart;
+pub use picky_cert_parts::{
+    OtherName, SshCertKeyType, SshCertType, SshCertTypeError, SshCertificateError,
+    SshCriticalOption, SshCriticalOptionError, SshCriticalOptionType, SshExtension,
+    SshExtensionError, SshExtensionType, SshSignature, SshSignatureBlob, SshSignatureError,
+    SshSignatureFormat, names,
+};
+pub use view::CertView;

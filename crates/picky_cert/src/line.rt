@@ -1,0 +1,141 @@
+//! A certificate's line (sshd(8)), read.
+
+ghost use Rattle.std.specs.Prelude.{◌≡◌, ◌≢◌, ◌^◌, ◌<◌, IfErr, length, not};
+ghost use Rattle.std.specs.Option.{option_copied};
+ghost use Rattle.picky_wire.specs.Gives.{Gives};
+ghost use Rattle.picky_wire.specs.declared.error.IoKind.TheVariants as io_kinds;
+ghost use Rattle.picky_sshpub.specs.LineRefusal.{is_short_text};
+ghost use Rattle.picky_cert.specs.LineRefusal.{blob_certificate, body_certificate, line_meaning, word_type, words_meaning};
+
+use crate::certificate::SshCertificate;
+use crate::refusal::refusal;
+use crate::view::certificate_at;
+use picky_cert_parts::{SshCertKeyType, SshCertificateError};
+use picky_text::{Base64Error, decode, rest_of_line, rest_of_text, split_word};
+use picky_wire::{NoMemory, Text};
+use std::alloc::Global;
+use std::str;
+
+/// How many bytes a length of the wire can't say.
+const TOO_MANY: usize = 1 << 32;
+
+impl SshCertificate {
+    /// The certificate and the comment of one line. The signature isn't verified.
+    ///
+    /// `name SP base64 [SP comment]`, and what follows the line is ignored. The name inside the bytes decides the type.
+    /// Refuses, in order: `InvalidCertificateKeyType`, `TooLong`, `Base64DecodeError`, the bytes' by field.
+    #[tactic(auto, unfolding(crate::specs::LineRefusal::line_meaning), using(picky_text::proofs::WordLaws::text_rests))]
+    pub fn from_str(alloc: Global, text: &str) -> Result<SshCertificate, SshCertificateError>
+        ensures { Gives SshCertificateError.NoMemory (λ c. c) result (line_meaning text.now) }
+    {
+        let (name, after_name) = split_word(text.as_bytes());
+        let (body, after_body) = split_word(after_name);
+        let comment = rest_of_text(text, text.len() - after_body.len());
+        certificate_of_words(alloc, name, body, Some(comment))
+    }
+}
+
+/// What a line means. Its bytes need not be UTF-8.
+#[tactic(auto, unfolding(crate::specs::LineRefusal::line_meaning))]
+pub fn certificate_of_line(
+    alloc: Global,
+    line: &[u8],
+) -> Result<SshCertificate, SshCertificateError>
+    ensures gives { Gives SshCertificateError.NoMemory (λ c. c) result (line_meaning line.now) }
+    ensures no_fault { IfErr result (λ e. e ≢ SshCertificateError.CertificateProcessingError io_kinds.ReadFault) }
+{
+    let (name, after_name) = split_word(line);
+    let (body, after_body) = split_word(after_name);
+    certificate_of_words(alloc, name, body, rest_of_line(after_body))
+}
+
+/// What a name, a body and a comment mean, which is none where it isn't UTF-8.
+#[tactic(auto, unfolding(crate::specs::LineRefusal::words_meaning))]
+fn certificate_of_words(
+    alloc: Global,
+    name: &[u8],
+    body: &[u8],
+    comment: Option<&str>,
+) -> Result<SshCertificate, SshCertificateError>
+    ensures gives { Gives SshCertificateError.NoMemory (λ c. c) result
+        (words_meaning name.now body.now (option_copied comment.entry)) }
+    ensures no_fault { IfErr result (λ e. e ≢ SshCertificateError.CertificateProcessingError io_kinds.ReadFault) }
+{
+    match type_of_word(alloc, name) {
+        Ok(_) => {}
+        Err(e) => return Err(e),
+    }
+    if body.len() >= TOO_MANY || is_too_long(comment) {
+        return Err(SshCertificateError::TooLong);
+    }
+    match certificate_of_body(alloc, body) {
+        Ok(certificate) => match comment {
+            Some(comment) => match Text::new(alloc, comment) {
+                Ok(comment) => Ok(with_comment(certificate, comment)),
+                Err(_) => Err(SshCertificateError::NoMemory),
+            },
+            None => Err(SshCertificateError::InvalidUtf8),
+        },
+        Err(e) => Err(e),
+    }
+}
+
+/// The same certificate, with this comment.
+fn with_comment(mut certificate: SshCertificate, comment: Text) -> SshCertificate
+    ensures { result ≡ record certificate { comment = comment } }
+{
+    certificate.comment = comment;
+    certificate
+}
+
+/// The type of certificates that a word names.
+#[tactic(auto, unfolding(crate::specs::LineRefusal::word_type), using(picky_wire::proofs::ViewLemmas::tests))]
+fn type_of_word(alloc: Global, word: &[u8]) -> Result<SshCertKeyType, SshCertificateError>
+    ensures gives { Gives SshCertificateError.NoMemory (λ row. row) result (word_type word.now) }
+    ensures no_fault { IfErr result (λ e. e ≢ SshCertificateError.CertificateProcessingError io_kinds.ReadFault) }
+{
+    match str::from_utf8(word) {
+        Ok(word) => SshCertKeyType::try_from_name(alloc, word),
+        Err(_) => Err(SshCertificateError::InvalidUtf8),
+    }
+}
+
+/// Whether there is a text that a length of the wire can't say.
+fn is_too_long(text: Option<&str>) -> bool
+    ensures { result ≡ not (is_short_text (option_copied text.entry)) }
+{
+    match text {
+        Some(text) => text.len() >= TOO_MANY,
+        None => false,
+    }
+}
+
+/// The certificate of a body.
+#[tactic(auto, unfolding(crate::specs::LineRefusal::body_certificate), using(crate::proofs::LineLemmas::no_longer_than_base64))]
+fn certificate_of_body(alloc: Global, body: &[u8]) -> Result<SshCertificate, SshCertificateError>
+    requires { length body.now < 2 ^ 32 }
+    ensures gives { Gives SshCertificateError.NoMemory (λ c. c) result (body_certificate body.now) }
+    ensures no_fault { IfErr result (λ e. e ≢ SshCertificateError.CertificateProcessingError io_kinds.ReadFault) }
+{
+    match decode(alloc, body) {
+        Ok(blob) => certificate_of_blob(alloc, blob.as_slice()),
+        Err(Base64Error::NotBase64) => Err(SshCertificateError::Base64DecodeError),
+        Err(Base64Error::NoMemory) => Err(SshCertificateError::NoMemory),
+    }
+}
+
+/// The certificate that the bytes begin with.
+#[tactic(auto, using(crate::proofs::LineLemmas::part_is_no_fault))]
+fn certificate_of_blob(alloc: Global, blob: &[u8]) -> Result<SshCertificate, SshCertificateError>
+    requires { length blob.now < 2 ^ 32 }
+    ensures gives { Gives SshCertificateError.NoMemory (λ c. c) result (blob_certificate blob.now) }
+    ensures no_fault { IfErr result (λ e. e ≢ SshCertificateError.CertificateProcessingError io_kinds.ReadFault) }
+{
+    match certificate_at(blob) {
+        Ok((view, _)) => match view.to_certificate(alloc) {
+            Ok(certificate) => Ok(certificate),
+            Err(NoMemory) => Err(SshCertificateError::NoMemory),
+        },
+        Err(stopped) => Err(refusal(alloc, &stopped)),
+    }
+}
