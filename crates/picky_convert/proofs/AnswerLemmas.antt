@@ -39,6 +39,7 @@ form_fault : (form : Form) → IsReadFault (fault_as form)
 form_fault forms.Envelope = refl
 form_fault forms.Ppk = refl
 form_fault forms.PuttyPublic = refl
+form_fault forms.Certificate = refl
 form_fault forms.PublicLine = refl
 
 pub input_fault_is : (input : List ℕ) → IsReadFault (input_fault input)
@@ -87,12 +88,14 @@ refusal_of : (e : ReadError) → Refusal e
 refusal_of input_errors.NoMemory = Wants refl
 refusal_of (input_errors.Private e) = Other refl
 refusal_of (input_errors.Public e) = Other refl
+refusal_of (input_errors.Certificate e) = Other refl
 refusal_of (input_errors.Putty e) = Other refl
 
 form_refusal_fault : (form : Form) → IsFault (input_refusal (fault_as form))
 form_refusal_fault forms.Envelope = refl
 form_refusal_fault forms.Ppk = refl
 form_refusal_fault forms.PuttyPublic = refl
+form_refusal_fault forms.Certificate = refl
 form_refusal_fault forms.PublicLine = refl
 
 no_fault_of_want : (e : ReadError) → e ≡ input_errors.NoMemory → IsFault (input_refusal e) → ⊥

@@ -7,6 +7,8 @@ use Rattle.picky_sshpub.specs.declared.error.SshPublicKeyError.{SshPublicKeyErro
 use Rattle.picky_sshpub.specs.declared.error.SshPublicKeyError.TheVariants as public
 use Rattle.picky_sshkey_blob.specs.declared.error.SshPrivateKeyError.{SshPrivateKeyError}
 use Rattle.picky_sshkey_blob.specs.declared.error.SshPrivateKeyError.TheVariants as private
+use Rattle.picky_cert_names.specs.declared.error.SshCertificateError.{SshCertificateError}
+use Rattle.picky_cert_names.specs.declared.error.SshCertificateError.TheVariants as certificate
 use Rattle.picky_ppk_parts.specs.declared.error.PuttyError.{PuttyError}
 use Rattle.picky_ppk_parts.specs.declared.error.PuttyError.TheVariants as putty
 use Rattle.picky_key_text.specs.declared.error.ReadError.{ReadError}
@@ -15,7 +17,7 @@ use Rattle.picky_target.specs.declared.error.ConvertError.{ConvertError}
 use Rattle.picky_target.specs.declared.error.ConvertError.TheVariants as convert
 use Rattle.picky_convert.specs.declared.error.Status.{Status}
 use Rattle.picky_convert.specs.declared.error.Status.TheVariants as statuses
-use Rattle.picky_convert.specs.Report.{input_name, input_path, name, path, private_name, public_name, putty_name, report, word}
+use Rattle.picky_convert.specs.Report.{certificate_name, input_name, input_path, name, path, private_name, public_name, putty_name, report, word}
 
 -- ---- a name is short
 
@@ -27,6 +29,10 @@ private_short : (e : SshPrivateKeyError) → length (private_name e) < 100
 private_short (private.IoError kind) = omega arith
 private_short e = omega arith
 
+certificate_short : (e : SshCertificateError) → length (certificate_name e) < 100
+certificate_short (certificate.CertificateProcessingError kind) = omega arith
+certificate_short e = omega arith
+
 putty_short : (e : PuttyError) → length (putty_name e) < 100
 putty_short (putty.IoError kind) = omega arith
 putty_short e = omega arith
@@ -34,6 +40,7 @@ putty_short e = omega arith
 input_short : (e : ReadError) → length (input_name e) < 100
 input_short (input.Private e) = private_short e
 input_short (input.Public e) = public_short e
+input_short (input.Certificate e) = certificate_short e
 input_short (input.Putty e) = putty_short e
 input_short input.NoMemory = omega arith
 

@@ -4,6 +4,8 @@ use Rattle.picky_sshpub.specs.declared.error.SshPublicKeyError.{SshPublicKeyErro
 use Rattle.picky_sshpub.specs.declared.error.SshPublicKeyError.TheVariants as public
 use Rattle.picky_sshkey_blob.specs.declared.error.SshPrivateKeyError.{SshPrivateKeyError}
 use Rattle.picky_sshkey_blob.specs.declared.error.SshPrivateKeyError.TheVariants as private
+use Rattle.picky_cert_names.specs.declared.error.SshCertificateError.{SshCertificateError}
+use Rattle.picky_cert_names.specs.declared.error.SshCertificateError.TheVariants as certificate
 use Rattle.picky_ppk_parts.specs.declared.error.PuttyError.{PuttyError}
 use Rattle.picky_ppk_parts.specs.declared.error.PuttyError.TheVariants as putty
 use Rattle.picky_key_text.specs.declared.error.ReadError.{ReadError}
@@ -43,6 +45,22 @@ private_name private.TooLong = codes "TooLong"
 private_name private.NoMemory = codes "NoMemory"
 private_name private.PublicKeyMismatch = codes "PublicKeyMismatch"
 
+abbrev pub certificate_name : SshCertificateError → List ℕ
+certificate_name (certificate.CertificateProcessingError kind) = codes "CertificateProcessingError"
+certificate_name (certificate.UnsupportedCertificateType name) = codes "UnsupportedCertificateType"
+certificate_name (certificate.SshCriticalOptionError e) = codes "SshCriticalOptionError"
+certificate_name (certificate.SshExtensionError e) = codes "SshExtensionError"
+certificate_name certificate.InvalidUtf8 = codes "InvalidUtf8"
+certificate_name certificate.Base64DecodeError = codes "Base64DecodeError"
+certificate_name (certificate.InvalidCertificateType e) = codes "InvalidCertificateType"
+certificate_name (certificate.InvalidCertificateKeyType name) = codes "InvalidCertificateKeyType"
+certificate_name (certificate.InvalidPublicKey e) = codes "InvalidPublicKey"
+certificate_name certificate.KeyError = codes "KeyError"
+certificate_name certificate.SubjectMismatch = codes "SubjectMismatch"
+certificate_name (certificate.SshSignatureError e) = codes "SshSignatureError"
+certificate_name certificate.TooLong = codes "TooLong"
+certificate_name certificate.NoMemory = codes "NoMemory"
+
 abbrev pub putty_name : PuttyError → List ℕ
 putty_name putty.EndOfInput = codes "EndOfInput"
 putty_name (putty.InvalidInput context expected actual) = codes "InvalidInput"
@@ -70,12 +88,14 @@ putty_name putty.NoMemory = codes "NoMemory"
 abbrev pub input_path : ReadError → List ℕ
 input_path (input.Private e) = codes "refused: input.private."
 input_path (input.Public e) = codes "refused: input.public."
+input_path (input.Certificate e) = codes "refused: input.cert."
 input_path (input.Putty e) = codes "refused: input.putty."
 input_path input.NoMemory = codes "refused: input."
 
 abbrev pub input_name : ReadError → List ℕ
 input_name (input.Private e) = private_name e
 input_name (input.Public e) = public_name e
+input_name (input.Certificate e) = certificate_name e
 input_name (input.Putty e) = putty_name e
 input_name input.NoMemory = codes "NoMemory"
 

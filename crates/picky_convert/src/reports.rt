@@ -1,9 +1,10 @@
 //! The line that says on standard error how a run ended.
 
 ghost use Rattle.std.specs.Prelude.{◌≡◌, ◌++◌, []};
-ghost use Rattle.picky_convert.specs.Report.{input_name as input_name_of, name as name_of, path as path_of, private_name as private_name_of, public_name as public_name_of, putty_name as putty_name_of, status_path, word as word_of};
+ghost use Rattle.picky_convert.specs.Report.{certificate_name as certificate_name_of, input_name as input_name_of, name as name_of, path as path_of, private_name as private_name_of, public_name as public_name_of, putty_name as putty_name_of, status_path, word as word_of};
 
 use crate::error::Status;
+use picky_cert::SshCertificateError;
 use picky_key_text::ReadError;
 use picky_ppk::PuttyError;
 use picky_sshkey::SshPrivateKeyError;
@@ -56,6 +57,7 @@ fn path(e: &ConvertError) -> &'static str
     match e {
         ConvertError::Input(ReadError::Private(_)) => "refused: input.private.",
         ConvertError::Input(ReadError::Public(_)) => "refused: input.public.",
+        ConvertError::Input(ReadError::Certificate(_)) => "refused: input.cert.",
         ConvertError::Input(ReadError::Putty(_)) => "refused: input.putty.",
         ConvertError::Input(ReadError::NoMemory) => "refused: input.",
         ConvertError::Private(_) => "refused: output.private.",
@@ -92,6 +94,7 @@ fn input_name(e: &ReadError) -> &'static str
     match e {
         ReadError::Private(e) => private_name(e),
         ReadError::Public(e) => public_name(e),
+        ReadError::Certificate(e) => certificate_name(e),
         ReadError::Putty(e) => putty_name(e),
         ReadError::NoMemory => "NoMemory",
     }
@@ -133,6 +136,27 @@ fn private_name(e: &SshPrivateKeyError) -> &'static str
         SshPrivateKeyError::TooLong => "TooLong",
         SshPrivateKeyError::NoMemory => "NoMemory",
         SshPrivateKeyError::PublicKeyMismatch => "PublicKeyMismatch",
+    }
+}
+
+fn certificate_name(e: &SshCertificateError) -> &'static str
+    ensures { result.now ≡ certificate_name_of e.now }
+{
+    match e {
+        SshCertificateError::CertificateProcessingError(_) => "CertificateProcessingError",
+        SshCertificateError::UnsupportedCertificateType(_) => "UnsupportedCertificateType",
+        SshCertificateError::SshCriticalOptionError(_) => "SshCriticalOptionError",
+        SshCertificateError::SshExtensionError(_) => "SshExtensionError",
+        SshCertificateError::InvalidUtf8 => "InvalidUtf8",
+        SshCertificateError::Base64DecodeError => "Base64DecodeError",
+        SshCertificateError::InvalidCertificateType(_) => "InvalidCertificateType",
+        SshCertificateError::InvalidCertificateKeyType(_) => "InvalidCertificateKeyType",
+        SshCertificateError::InvalidPublicKey(_) => "InvalidPublicKey",
+        SshCertificateError::KeyError => "KeyError",
+        SshCertificateError::SubjectMismatch => "SubjectMismatch",
+        SshCertificateError::SshSignatureError(_) => "SshSignatureError",
+        SshCertificateError::TooLong => "TooLong",
+        SshCertificateError::NoMemory => "NoMemory",
     }
 }
 

@@ -23,6 +23,9 @@ use Rattle.picky_suite.specs.Meanings.{Meanings}
 use Rattle.picky_sshpub.specs.declared.key.SshPublicKey.{SshPublicKey}
 use Rattle.picky_sshpub.specs.Key.{IsKey, IsNumber, IsText, IsEdKey}
 use Rattle.picky_sshpub.specs.Line.{IsPublicLine}
+use Rattle.picky_cert.specs.declared.certificate.SshCertificate.{SshCertificate}
+use Rattle.picky_cert.specs.Line.{IsCertificateLine}
+use Rattle.picky_cert.proofs.LineLaws.{line_keeps as certificate_keeps}
 use Rattle.picky_sshpub.proofs.ByteLaws.{bytes_joined}
 use Rattle.picky_sshpub.proofs.KeyLaws.{number_keeps, string_keeps, spelled_is_key}
 use Rattle.picky_sshkey_blob.specs.declared.key.SshBasePrivateKey.{SshBasePrivateKey}
@@ -49,7 +52,7 @@ use Rattle.picky_key_text.specs.declared.form.Form.{Form}
 use Rattle.picky_key_text.specs.declared.form.Form.TheVariants as forms
 use Rattle.picky_key_text.specs.declared.meaning.Meaning.{Meaning}
 use Rattle.picky_key_text.specs.Form.{form_of}
-use Rattle.picky_key_text.specs.Key.{public_key, public_meaning, private_meaning}
+use Rattle.picky_key_text.specs.Key.{certificate_meaning, public_key, public_meaning, private_meaning}
 use Rattle.picky_key_text.specs.Kept.{IsKept}
 use Rattle.picky_key_text.specs.Order.{reading}
 use Rattle.picky_key_text.specs.PpkText.{IsUnsealed, AreOpened, IsPpkText}
@@ -240,6 +243,11 @@ line_kept text key says =
           (text_of _ (rest_of_line_is_text (after_body text) says.comment_utf8) says.comment_short);
     }
 
+certificate_kept : (text : List ℕ) (c : SshCertificate) → IsCertificateLine text c → IsKept (certificate_meaning c)
+certificate_kept text c says =
+    let kept = certificate_keeps text c says in
+    record { key = kept.said.head.key; comment = kept.comment }
+
 said_is_kept : (form : Form) (r : Reader) (text : List ℕ) (meaning : Meaning) → IsUtf8 text → IfSome r.pass IsUtf8
     → Means form r text meaning → IsKept meaning
 said_is_kept forms.Envelope r text meaning utf8 pass (key, says, same) =
@@ -247,6 +255,8 @@ said_is_kept forms.Envelope r text meaning utf8 pass (key, says, same) =
 said_is_kept forms.Ppk r text meaning utf8 pass says = ppk_kept r text meaning utf8 pass says
 said_is_kept forms.PuttyPublic r text meaning utf8 pass (says, same) =
     subst IsKept (sym same) (putty_public_kept text (public_key meaning) utf8 says)
+said_is_kept forms.Certificate r text meaning utf8 pass (c, says, same) =
+    subst IsKept (sym same) (certificate_kept text c says)
 said_is_kept forms.PublicLine r text meaning utf8 pass (says, same) =
     subst IsKept (sym same) (line_kept text (public_key meaning) says)
 

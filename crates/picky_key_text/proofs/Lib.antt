@@ -1,3 +1,5 @@
+pub mod FormLemmas
+pub mod EqualityLaws
 pub mod CountedLemmas
 pub mod PpkLemmas
 pub mod FileRefusalLemmas

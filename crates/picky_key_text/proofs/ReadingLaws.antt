@@ -9,6 +9,8 @@ use Rattle.picky_layout.specs.carried.Outcome.{and_then_ok, map_err_ok}
 use Rattle.picky_sshpub.specs.declared.key.SshPublicKey.{SshPublicKey}
 use Rattle.picky_sshpub.specs.LineRefusal.{line_meaning}
 use Rattle.picky_sshpub.proofs.LineLaws.{line_meaning_of, line_meaning_says}
+use Rattle.picky_cert.specs.LineRefusal.{line_meaning as certificate_of}
+use Rattle.picky_cert.proofs.LineLaws.{line_meaning_of as certificate_is_read, line_meaning_says as certificate_says}
 use Rattle.picky_suite.specs.Asked.{GivesAsked, LeavesSuite}
 use Rattle.picky_suite.specs.Failures.{IsAskedFault}
 use Rattle.picky_suite.specs.Meanings.{Meanings}
@@ -26,7 +28,7 @@ use Rattle.picky_key_text.specs.declared.form.Form.{Form}
 use Rattle.picky_key_text.specs.declared.form.Form.TheVariants as forms
 use Rattle.picky_key_text.specs.declared.meaning.Meaning.{Meaning}
 use Rattle.picky_key_text.specs.Form.{form_of}
-use Rattle.picky_key_text.specs.Key.{public_key, public_meaning}
+use Rattle.picky_key_text.specs.Key.{certificate_meaning, public_key, public_meaning}
 use Rattle.picky_key_text.specs.Order.{envelope_meaning, opened, file_key, file_asks, ppk_key, ppk_asks, reading_as, reading, asks, asks_as, fault_as, fault_of}
 use Rattle.picky_key_text.specs.Reader.{Reader}
 use Rattle.picky_key_text.specs.Reads.{Means, Reads}
@@ -60,6 +62,13 @@ reading_as_says forms.Ppk r text meaning bytes pass is =
 reading_as_says forms.PuttyPublic r text meaning bytes pass is =
     let key = public_of_reading (and_then (putty_meaning text) to_openssh) errors.Putty meaning is in
     (putty_key_says text (public_key meaning) bytes key.0, key.1)
+reading_as_says forms.Certificate r text meaning bytes pass is =
+    let step = and_then_ok (map_err errors.Certificate (certificate_of text)) (λ c. Ok (certificate_meaning c)) meaning is in
+    let same : certificate_meaning step.0 ≡ meaning = cc step.2 in (
+      step.0,
+      certificate_says text step.0 bytes (map_err_ok errors.Certificate (certificate_of text) step.0 step.1),
+      sym same,
+    )
 reading_as_says forms.PublicLine r text meaning bytes pass is =
     let key = public_of_reading (line_meaning text) errors.Public meaning is in
     (line_meaning_says text (public_key meaning) bytes key.0, key.1)
@@ -81,6 +90,9 @@ reading_as_of forms.Envelope r text meaning (key, says, same) =
 reading_as_of forms.Ppk r text meaning says = ap (map_err errors.Putty) (ppk_is_read r text meaning says)
 reading_as_of forms.PuttyPublic r text meaning (says, same) =
     ap (λ t. and_then (map_err errors.Putty t) (λ key. Ok (public_meaning key))) (putty_key_of text (public_key meaning) says)
+    ∙ ap Ok (sym same)
+reading_as_of forms.Certificate r text meaning (c, says, same) =
+    ap (λ t. and_then (map_err errors.Certificate t) (λ c. Ok (certificate_meaning c))) (certificate_is_read text c says)
     ∙ ap Ok (sym same)
 reading_as_of forms.PublicLine r text meaning (says, same) =
     ap (λ t. and_then (map_err errors.Public t) (λ key. Ok (public_meaning key))) (line_meaning_of text (public_key meaning) says)

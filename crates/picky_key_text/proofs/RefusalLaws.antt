@@ -11,6 +11,8 @@ use Rattle.picky_suite.specs.Meanings.{Meanings}
 use Rattle.picky_keys.specs.declared.curve.EcCurve.{EcCurve}
 use Rattle.picky_keys.specs.declared.curve.EcCurve.TheVariants.{NistP256, NistP384, NistP521}
 use Rattle.picky_wire.specs.Gives.{Gives}
+use Rattle.picky_cert.specs.LineRefusal.{line_meaning as certificate_of}
+use Rattle.picky_cert.proofs.LineLaws.{line_no_want as certificate_no_want}
 use Rattle.picky_sshpub.specs.declared.error.SshPublicKeyError.{SshPublicKeyError}
 use Rattle.picky_sshpub.specs.declared.error.SshPublicKeyError.TheVariants as public
 use Rattle.picky_sshpub.specs.declared.key.SshBasePublicKey.{SshBasePublicKey}
@@ -221,6 +223,10 @@ reading_as_own forms.PuttyPublic r text =
     then_as IsOwn (map_err errors.Putty (and_then (putty_meaning text) to_openssh)) _
     (mapped_as IsOwn errors.Putty (and_then (putty_meaning text) to_openssh) (λ e is. putty_own e (putty_public_own text e is)))
     (λ key. ok_as IsOwn _)
+reading_as_own forms.Certificate r text =
+    then_as IsOwn (map_err errors.Certificate (certificate_of text)) _
+    (mapped_as IsOwn errors.Certificate (certificate_of text) (λ e is. (λ fault. fault, certificate_no_want text e is)))
+    (λ c. ok_as IsOwn _)
 reading_as_own forms.PublicLine r text =
     then_as IsOwn (map_err errors.Public (line_meaning text)) _
     (mapped_as IsOwn errors.Public (line_meaning text) (λ e is. public_line_own e (line_own text e is).1))

@@ -4,6 +4,7 @@ use Rattle.picky_sshpub.specs.declared.key.SshBasePublicKey.{SshBasePublicKey}
 use Rattle.picky_sshpub.specs.declared.key.SshPublicKey.{SshPublicKey}
 use Rattle.picky_sshkey_blob.specs.declared.key.SshBasePrivateKey.{SshBasePrivateKey}
 use Rattle.picky_sshkey_blob.specs.Key.{public_part as private_public_part}
+use Rattle.picky_cert.specs.declared.certificate.SshCertificate.{SshCertificate}
 use Rattle.picky_key_text.specs.declared.meaning.Key.{Key}
 use Rattle.picky_key_text.specs.declared.meaning.Key.TheVariants.{Private, Public}
 use Rattle.picky_key_text.specs.declared.meaning.Meaning.{Meaning}
@@ -20,6 +21,10 @@ public_key meaning = record { inner_key = public_part meaning.key; comment = mea
 -- the meaning of a public key and its comment
 abbrev pub public_meaning : SshPublicKey → Meaning
 public_meaning key = record { key = Public key.inner_key; comment = key.comment }
+
+-- the meaning of a certificate: its subject's key, and its own comment
+abbrev pub certificate_meaning : SshCertificate → Meaning
+certificate_meaning c = record { key = Public c.public_key.inner_key; comment = c.comment }
 
 -- and of a private key and its comment
 abbrev pub private_meaning : SshBasePrivateKey → List ℕ → Meaning

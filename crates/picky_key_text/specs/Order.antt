@@ -6,6 +6,7 @@ use Rattle.picky_sshpub.specs.LineRefusal.{line_meaning}
 use Rattle.picky_sshkey_blob.specs.declared.error.SshPrivateKeyError.TheVariants as private
 use Rattle.picky_sshkey.specs.declared.private_key.SshPrivateKey.{SshPrivateKey}
 use Rattle.picky_sshkey.specs.PrivateRefusal.{text_key, text_asks}
+use Rattle.picky_cert.specs.LineRefusal.{line_meaning as certificate_of}
 use Rattle.picky_ppk_parts.specs.declared.error.PuttyError.{PuttyError}
 use Rattle.picky_ppk_parts.specs.declared.error.PuttyError.TheVariants as putty
 use Rattle.picky_putty_public.specs.PuttyRefusal.{putty_meaning, to_openssh}
@@ -21,7 +22,7 @@ use Rattle.picky_key_text.specs.declared.form.Form.{Form}
 use Rattle.picky_key_text.specs.declared.form.Form.TheVariants as forms
 use Rattle.picky_key_text.specs.declared.meaning.Meaning.{Meaning}
 use Rattle.picky_key_text.specs.Form.{form_of}
-use Rattle.picky_key_text.specs.Key.{public_meaning, private_meaning}
+use Rattle.picky_key_text.specs.Key.{certificate_meaning, public_meaning, private_meaning}
 use Rattle.picky_key_text.specs.Reader.{Reader}
 
 -- ---- a PuTTY private key file
@@ -58,6 +59,8 @@ reading_as forms.Envelope r text =
 reading_as forms.Ppk r text = map_err errors.Putty (ppk_key r text)
 reading_as forms.PuttyPublic r text =
     and_then (map_err errors.Putty (and_then (putty_meaning text) to_openssh)) (λ key. Ok (public_meaning key))
+reading_as forms.Certificate r text =
+    and_then (map_err errors.Certificate (certificate_of text)) (λ c. Ok (certificate_meaning c))
 reading_as forms.PublicLine r text =
     and_then (map_err errors.Public (line_meaning text)) (λ key. Ok (public_meaning key))
 
@@ -70,6 +73,7 @@ abbrev pub asks_as : Form → Option (List ℕ) → List ℕ → Bool
 asks_as forms.Envelope pass text = text_asks pass text
 asks_as forms.Ppk pass text = ppk_asks pass text
 asks_as forms.PuttyPublic pass text = false
+asks_as forms.Certificate pass text = false
 asks_as forms.PublicLine pass text = false
 
 unfoldable pub asks : Option (List ℕ) → List ℕ → Bool
@@ -80,6 +84,7 @@ abbrev pub fault_as : Form → ReadError
 fault_as forms.Envelope = errors.Private private.SuiteFault
 fault_as forms.Ppk = errors.Putty putty.SuiteFault
 fault_as forms.PuttyPublic = errors.Putty putty.SuiteFault
+fault_as forms.Certificate = errors.Putty putty.SuiteFault
 fault_as forms.PublicLine = errors.Putty putty.SuiteFault
 
 abbrev pub fault_of : List ℕ → ReadError

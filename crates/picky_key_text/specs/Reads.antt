@@ -1,6 +1,8 @@
 -- What a key text means under a passphrase and what a suite's calls mean, by its form.
 use Rattle.std.specs.Prelude.{◌≡◌, List, ℕ}
 use Rattle.picky_sshpub.specs.Line.{IsPublicLine}
+use Rattle.picky_cert.specs.declared.certificate.SshCertificate.{SshCertificate}
+use Rattle.picky_cert.specs.Line.{IsCertificateLine}
 use Rattle.picky_putty_public.specs.PuttyPublic.{IsPuttyPublic}
 use Rattle.picky_sshkey.specs.declared.private_key.SshPrivateKey.{SshPrivateKey}
 use Rattle.picky_sshkey.specs.PrivateText.{IsPrivateText}
@@ -8,7 +10,7 @@ use Rattle.picky_key_text.specs.declared.form.Form.{Form}
 use Rattle.picky_key_text.specs.declared.form.Form.TheVariants as forms
 use Rattle.picky_key_text.specs.declared.meaning.Meaning.{Meaning}
 use Rattle.picky_key_text.specs.Form.{form_of}
-use Rattle.picky_key_text.specs.Key.{public_key, public_meaning, private_meaning}
+use Rattle.picky_key_text.specs.Key.{certificate_meaning, public_key, public_meaning, private_meaning}
 use Rattle.picky_key_text.specs.PpkText.{IsPpkText}
 use Rattle.picky_key_text.specs.Reader.{Reader}
 
@@ -19,6 +21,8 @@ Means forms.Envelope r text meaning =
 Means forms.Ppk r text meaning = IsPpkText r text meaning
 Means forms.PuttyPublic r text meaning =
     IsPuttyPublic text (public_key meaning) × (meaning ≡ public_meaning (public_key meaning))
+Means forms.Certificate r text meaning =
+    (c : SshCertificate) × IsCertificateLine text c × (meaning ≡ certificate_meaning c)
 Means forms.PublicLine r text meaning =
     IsPublicLine text (public_key meaning) × (meaning ≡ public_meaning (public_key meaning))
 

@@ -1,5 +1,6 @@
 //! Why a key text means nothing.
 
+use picky_cert::SshCertificateError;
 use picky_ppk::PuttyError;
 use picky_sshkey::SshPrivateKeyError;
 use picky_sshpub::SshPublicKeyError;
@@ -14,6 +15,9 @@ pub enum ReadError {
     /// As a public key line it says no key.
     #[error("Public")]
     Public(SshPublicKeyError),
+    /// As a certificate it says no key.
+    #[error("Certificate")]
+    Certificate(SshCertificateError),
     /// As PuTTY's private or public key it says none.
     #[error("Putty")]
     Putty(PuttyError),

@@ -9,29 +9,30 @@ ghost use Rattle.picky_wire.specs.Count.{Rose};
 ghost use Rattle.picky_wire.specs.Gives.{Gives};
 ghost use Rattle.picky_layout.specs.Outcome.{and_then};
 ghost use Rattle.picky_putty_public.specs.PuttyRefusal.{putty_meaning, to_openssh};
-ghost use Rattle.picky_key_text.specs.Key.{public_meaning as public_meaning_of};
+ghost use Rattle.picky_key_text.specs.Key.{certificate_meaning as certificate_meaning_of, public_meaning as public_meaning_of};
 ghost use Rattle.picky_key_text.specs.Order.{asks, asks_as, envelope_meaning, fault_of, fault_as, reading, reading_as};
 ghost use Rattle.picky_key_text.specs.Reads.{Reads};
-ghost use Rattle.picky_key_text.specs.inner.Refusals.{envelope_refusal as envelope_refusal_of, putty_refusal as putty_refusal_of, line_refusal as line_refusal_of};
+ghost use Rattle.picky_key_text.specs.inner.Refusals.{certificate_refusal as certificate_refusal_of, envelope_refusal as envelope_refusal_of, putty_refusal as putty_refusal_of, line_refusal as line_refusal_of};
 
 use crate::error::ReadError;
 use crate::form::{Form, form_of};
 use crate::meaning::{Key, Meaning};
 use crate::ppk::ppk_key;
+use picky_cert::{SshCertificate, SshCertificateError};
 use picky_ppk::{PuttyError, PuttyPublicKey};
 use picky_sshkey::{SshPrivateKey, SshPrivateKeyError};
 use picky_sshpub::{SshPublicKey, SshPublicKeyError};
 use picky_suite::Suite;
 use std::alloc::Global;
 
-/// The key and the comment that a text means: a private key where it is OpenSSH's or PuTTY's private key, and else a public
-/// one. A text that isn't sealed is read whatever the passphrase, but that an envelope keeps it, and so refuses one of 2^32
+/// The key and the comment that a text means: a private key where it is OpenSSH's or PuTTY's private key, a certificate's
+/// subject's key where it is one, and else a public one. A text that isn't sealed is read whatever the passphrase, but that an envelope keeps it, and so refuses one of 2^32
 /// bytes or more.
 ///
 /// The form is chosen by the text's beginning (docs/FORMATS.md, "Key text"). Refuses, in order: by the form `Private` with
 /// `SshPrivateKey::from_pem_str`'s refusals; `Putty` with those of `Ppk::from_str`, for a sealed file `Encrypted` without a
 /// passphrase and those of `Ppk::decrypt`, and then those of `Ppk::base_key`; `Putty` with those of
-/// `PuttyPublicKey::from_str` and `to_openssh`; `Public` with `SshPublicKey::from_str`'s.
+/// `PuttyPublicKey::from_str` and `to_openssh`; `Certificate` with `SshCertificate::from_str`'s; `Public` with `SshPublicKey::from_str`'s.
 pub fn read_text<S: Suite>(
     alloc: Global,
     suite: &mut S,
@@ -94,6 +95,10 @@ fn read_as<S: Suite>(
             Ok(key) => Ok(public_meaning(key)),
             Err(e) => Err(putty_refusal(e)),
         },
+        Form::Certificate => match SshCertificate::from_str(alloc, input) {
+            Ok(certificate) => Ok(certificate_meaning(certificate)),
+            Err(e) => Err(certificate_refusal(e)),
+        },
         Form::PublicLine => match SshPublicKey::from_str(alloc, input) {
             Ok(key) => Ok(public_meaning(key)),
             Err(e) => Err(line_refusal(e)),
@@ -139,6 +144,21 @@ fn public_meaning(key: SshPublicKey) -> Meaning
     }
 }
 
+/// The subject's key of a certificate, and its comment.
+fn certificate_meaning(certificate: SshCertificate) -> Meaning
+    ensures { result ≡ certificate_meaning_of certificate }
+{
+    let SshCertificate {
+        public_key,
+        comment,
+        ..
+    } = certificate;
+    Meaning {
+        key: Key::Public(public_key.inner_key),
+        comment,
+    }
+}
+
 /// An envelope's refusal as the text's, where want of memory is the outer want.
 fn envelope_refusal(e: SshPrivateKeyError) -> ReadError
     ensures { result ≡ envelope_refusal_of e }
@@ -166,5 +186,15 @@ fn line_refusal(e: SshPublicKeyError) -> ReadError
     match e {
         SshPublicKeyError::NoMemory => ReadError::NoMemory,
         e => ReadError::Public(e),
+    }
+}
+
+/// And of a certificate.
+fn certificate_refusal(e: SshCertificateError) -> ReadError
+    ensures { result ≡ certificate_refusal_of e }
+{
+    match e {
+        SshCertificateError::NoMemory => ReadError::NoMemory,
+        e => ReadError::Certificate(e),
     }
 }

@@ -1,5 +1,11 @@
 -- Each target's text is read in its own form.
-use Rattle.std.proofs.Common.{◌≡◌, ℕ, List, ◌∷◌, ◌++◌, refl}
+use Rattle.std.specs.Prelude.{Bool, true, false, if◌then◌else◌, is_some}
+use Rattle.std.proofs.Common.{◌≡◌, ℕ, List, [], ◌∷◌, ◌++◌, refl, ap, ◌∙◌}
+use Rattle.picky_layout.specs.Table.{find_entry}
+use Rattle.picky_text.proofs.WordLaws.{words_at_space}
+use Rattle.picky_sshpub.proofs.ByteLaws.{name_is_word}
+use Rattle.picky_cert_names.specs.Names.{cert_key_type_name}
+use Rattle.picky_cert_names.specs.NameTables.{cert_key_types}
 use Rattle.picky_keys.specs.declared.curve.EcCurve.TheVariants.{NistP256, NistP384, NistP521}
 use Rattle.picky_keys.specs.declared.curve.EdAlgorithm.TheVariants.{Ed25519}
 use Rattle.picky_keys.specs.declared.kind.KeyKind.{KeyKind}
@@ -20,7 +26,7 @@ use Rattle.picky_ppk_file.specs.declared.file.PpkFile.{PpkFile}
 use Rattle.picky_ppk_file.specs.File.{version_of}
 use Rattle.picky_ppk_file.specs.Written.{end_of, file_lines, file_text, line_of}
 use Rattle.picky_putty_public.specs.PuttyPublic.{putty_public, header as putty_header}
-use Rattle.picky_key_text.specs.Form.{envelope_start, form_of, ppk_start, putty_public_start}
+use Rattle.picky_key_text.specs.Form.{envelope_start, form_of, is_certificate, ppk_start, putty_public_start}
 use Rattle.picky_key_text.specs.declared.form.Form.TheVariants as forms
 
 pub envelope_form : (content : List ℕ) → form_of (pem_text content) ≡ forms.Envelope
@@ -41,16 +47,36 @@ pub putty_form : (blob comment : List ℕ) → form_of (putty_public blob commen
 unfolding putty_public text_of putty_header envelope_start ppk_start putty_public_start
 putty_form blob comment = refl
 
-name_form : (kind : KeyKind) (a b c : List ℕ) → form_of (kind_name kind ++ a ++ b ++ c) ≡ forms.PublicLine
+-- a key type's name is no certificate type's
+no_cert_name : (kind : KeyKind) → is_some (find_entry cert_key_types (kind_name kind)) ≡ false
+unfolding kind_name curve_key_type ed_key_type cert_key_types cert_key_type_name
+no_cert_name kinds.Rsa = refl
+no_cert_name (kinds.Ec NistP256) = refl
+no_cert_name (kinds.Ec NistP384) = refl
+no_cert_name (kinds.Ec NistP521) = refl
+no_cert_name (kinds.Ed Ed25519) = refl
+no_cert_name kinds.SkEcdsaSha2NistP256 = refl
+no_cert_name kinds.SkEd25519 = refl
+
+no_certificate : (kind : KeyKind) (rest : List ℕ) → is_certificate (kind_name kind ++ 32 ∷ rest) ≡ false
+no_certificate kind rest =
+    ap (λ word. is_some (find_entry cert_key_types word)) (words_at_space (kind_name kind) rest (name_is_word kind)).0
+    ∙ no_cert_name kind
+
+line_unless : (b : Bool) → b ≡ false → (if b then forms.Certificate else forms.PublicLine) ≡ forms.PublicLine
+line_unless true is = cc is
+line_unless false is = refl
+
+name_form : (kind : KeyKind) (a b c : List ℕ) → form_of (kind_name kind ++ 32 ∷ a ++ b ++ c) ≡ forms.PublicLine
 unfolding kind_name curve_key_type ed_key_type envelope_start ppk_start putty_public_start
-name_form kinds.Rsa a b c = refl
-name_form (kinds.Ec NistP256) a b c = refl
-name_form (kinds.Ec NistP384) a b c = refl
-name_form (kinds.Ec NistP521) a b c = refl
-name_form (kinds.Ed Ed25519) a b c = refl
-name_form kinds.SkEcdsaSha2NistP256 a b c = refl
-name_form kinds.SkEd25519 a b c = refl
+name_form kinds.Rsa a b c = line_unless _ (no_certificate kinds.Rsa (a ++ b ++ c))
+name_form (kinds.Ec NistP256) a b c = line_unless _ (no_certificate (kinds.Ec NistP256) (a ++ b ++ c))
+name_form (kinds.Ec NistP384) a b c = line_unless _ (no_certificate (kinds.Ec NistP384) (a ++ b ++ c))
+name_form (kinds.Ec NistP521) a b c = line_unless _ (no_certificate (kinds.Ec NistP521) (a ++ b ++ c))
+name_form (kinds.Ed Ed25519) a b c = line_unless _ (no_certificate (kinds.Ed Ed25519) (a ++ b ++ c))
+name_form kinds.SkEcdsaSha2NistP256 a b c = line_unless _ (no_certificate kinds.SkEcdsaSha2NistP256 (a ++ b ++ c))
+name_form kinds.SkEd25519 a b c = line_unless _ (no_certificate kinds.SkEd25519 (a ++ b ++ c))
 
 pub line_form : (key : SshPublicKey) → form_of (public_line_of key) ≡ forms.PublicLine
 unfolding public_line_of
-line_form key = name_form (kind_of key.inner_key) (32 ∷ line_body key) (32 ∷ key.comment) _
+line_form key = name_form (kind_of key.inner_key) (line_body key) (32 ∷ key.comment) _

@@ -1,6 +1,6 @@
 pub mod SearchLemmas
 pub mod TestLemmas
-pub mod EqualityLemmas
+pub mod EqualityLaws
 pub mod SizeLemmas
 pub mod EnvelopeLemmas
 pub mod PublicLemmas

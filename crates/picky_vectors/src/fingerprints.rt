@@ -1,6 +1,6 @@
 //! The digests that ssh-keygen shows of a key.
 
-use crate::fakes::hex_of;
+use crate::hex_texts::hex_of;
 use crate::keys::{KEY_ROWS, KeyRow};
 use crate::runs::writes;
 use picky_sshpub::SshPublicKey;

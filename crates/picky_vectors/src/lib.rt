@@ -1,13 +1,10 @@
-//! The tests of the repository: what no clause says. Values of other programs and of the standards,
-//! printed texts, each call with an allocator where memory is ample, and streams that fail in mid-stream.
+//! The tests of keys, files and the program: what no clause says. Values of other programs and of the standards,
+//! printed texts, and each call with an allocator where memory is ample. Those of fields, lines and suites are in
+//! picky_field_vectors, those of certificates in picky_cert_vectors.
 //!
-//! All its items are tests or what they share, so that no other crate is proved with its tests.
+//! All items of the three are tests or what they share, so that no other crate is proved with its tests.
 #![tactic(auto)]
 
-#[cfg(test)]
-mod adapters;
-#[cfg(test)]
-mod base64_and_rows;
 #[cfg(test)]
 mod blobs;
 #[cfg(test)]
@@ -15,15 +12,9 @@ mod conversions;
 #[cfg(test)]
 mod copies;
 #[cfg(test)]
-mod failing_streams;
-#[cfg(test)]
-mod fakes;
-#[cfg(test)]
-mod fields;
-#[cfg(test)]
 mod fingerprints;
 #[cfg(test)]
-mod issuers;
+mod hex_texts;
 #[cfg(test)]
 mod key_lines;
 #[cfg(test)]
@@ -31,13 +22,7 @@ mod key_texts;
 #[cfg(test)]
 mod keys;
 #[cfg(test)]
-mod lists;
-#[cfg(test)]
-mod macs;
-#[cfg(test)]
 mod meanings;
-#[cfg(test)]
-mod ppk_blocks;
 #[cfg(test)]
 mod ppk_comments;
 #[cfg(test)]
@@ -48,8 +33,6 @@ mod ppk_files;
 mod ppk_key_refusals;
 #[cfg(test)]
 mod ppk_limits;
-#[cfg(test)]
-mod ppk_lines;
 #[cfg(test)]
 mod ppk_refusals;
 #[cfg(test)]
@@ -62,6 +45,8 @@ mod ppk_secrets;
 mod ppk_texts;
 #[cfg(test)]
 mod ppk_views;
+#[cfg(test)]
+mod printed_cert_errors;
 #[cfg(test)]
 mod printed_errors;
 #[cfg(test)]
@@ -99,14 +84,4 @@ mod sealed_keys;
 #[cfg(test)]
 mod statuses;
 #[cfg(test)]
-mod suites;
-#[cfg(test)]
 mod target_texts;
-#[cfg(test)]
-mod views;
-#[cfg(test)]
-mod wire_rows;
-#[cfg(test)]
-mod wire_values;
-#[cfg(test)]
-mod words_and_quotes;

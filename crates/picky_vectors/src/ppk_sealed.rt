@@ -1,6 +1,6 @@
 //! Sealed PuTTY private key files: PuTTYgen's, read and written, and those of the suite for tests, whose cipher is a toy.
 
-use crate::fakes::hex_of;
+use crate::hex_texts::hex_of;
 use crate::ppk_files::{is_kept, is_written, p256_ppk, ppk_of, row_ppk};
 use crate::ppk_texts::{PPK_ROWS, PpkRow, SEALED_V2, SEALED_V3, TOY_V2, TOY_V3};
 use picky_ppk::{

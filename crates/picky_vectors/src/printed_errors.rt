@@ -14,7 +14,7 @@ use std::process::Abort;
 use std::test::Fail;
 
 /// Each error prints its name.
-fn prints<E: Display>(
+pub fn prints<E: Display>(
     rt: &(impl Abort + AllocGlobal),
     rows: &[(E, &str)],
 ) -> Result<(), AllocError> {
@@ -26,7 +26,7 @@ fn prints<E: Display>(
 }
 
 /// A text of no name.
-fn some_text(alloc: Global) -> Result<Text, Fail> {
+pub fn some_text(alloc: Global) -> Result<Text, Fail> {
     Ok(Text::new(alloc, "ssh-dss")?)
 }
 

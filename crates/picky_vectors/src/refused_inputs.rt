@@ -13,6 +13,11 @@ const BASE64_DECODE_ERROR: Refusal = (1, "keyconv: refused: input.public.Base64D
 
 const KEY_ERROR: Refusal = (1, "keyconv: refused: input.public.KeyError\n");
 
+const CERTIFICATE_PROCESSING_ERROR: Refusal = (
+    1,
+    "keyconv: refused: input.cert.CertificateProcessingError\n",
+);
+
 const PEM_ERROR: Refusal = (1, "keyconv: refused: input.private.PemError\n");
 
 const END_OF_INPUT: Refusal = (1, "keyconv: refused: input.putty.EndOfInput\n");
@@ -43,9 +48,9 @@ static INPUTS: [(&str, &[u8], Refusal); 17] = [
         END_OF_INPUT,
     ),
     (
-        "a certificate",
+        "a certificate that is cut",
         b"ssh-ed25519-cert-v01@openssh.com AAAA",
-        UNKNOWN_KEY_TYPE,
+        CERTIFICATE_PROCESSING_ERROR,
     ),
     (
         "another key type",

@@ -1,6 +1,7 @@
 //! How a run ends: its status, its line on standard error, and what devices that fail make of both.
 
 use crate::runs::{ended, run_on};
+use picky_cert_parts::SshCertificateError;
 use picky_convert::{ConvertError, ReadError, Status, word};
 use picky_putty_public::PuttyError;
 use picky_sshpub::SshPublicKeyError;
@@ -58,7 +59,7 @@ const USAGE: &str =
     "keyconv: usage: keyconv openssh|ppk2|ppk3|ssh-pub|putty-pub|cert|tbs|fingerprint|sample\n";
 
 // A status, its exit code and its line (docs/FORMATS.md, "The line on standard error").
-const REPORTS: [(Status, u8, &str); 12] = [
+const REPORTS: [(Status, u8, &str); 14] = [
     (
         Status::Usage,
         2,
@@ -89,6 +90,18 @@ const REPORTS: [(Status, u8, &str); 12] = [
         Status::Refused(ConvertError::Input(ReadError::Public(SshPublicKeyError::TooLong))),
         1,
         "keyconv: refused: input.public.TooLong\n",
+    ),
+    (
+        Status::Refused(ConvertError::Input(ReadError::Certificate(SshCertificateError::TooLong))),
+        1,
+        "keyconv: refused: input.cert.TooLong\n",
+    ),
+    (
+        Status::Refused(ConvertError::Input(ReadError::Certificate(
+            SshCertificateError::SubjectMismatch,
+        ))),
+        1,
+        "keyconv: refused: input.cert.SubjectMismatch\n",
     ),
     (
         Status::Refused(ConvertError::Putty(PuttyError::TooManyLines)),

@@ -3,6 +3,8 @@ use Rattle.picky_sshpub.specs.declared.error.SshPublicKeyError.{SshPublicKeyErro
 use Rattle.picky_sshpub.specs.declared.error.SshPublicKeyError.TheVariants as public
 use Rattle.picky_sshkey_blob.specs.declared.error.SshPrivateKeyError.{SshPrivateKeyError}
 use Rattle.picky_sshkey_blob.specs.declared.error.SshPrivateKeyError.TheVariants as private
+use Rattle.picky_cert_names.specs.declared.error.SshCertificateError.{SshCertificateError}
+use Rattle.picky_cert_names.specs.declared.error.SshCertificateError.TheVariants as certificate
 use Rattle.picky_ppk_parts.specs.declared.error.PuttyError.{PuttyError}
 use Rattle.picky_ppk_parts.specs.declared.error.PuttyError.TheVariants as putty
 use Rattle.picky_key_text.specs.declared.error.ReadError.{ReadError}
@@ -19,3 +21,7 @@ putty_refusal e = errors.Putty e
 abbrev pub line_refusal : SshPublicKeyError → ReadError
 line_refusal public.NoMemory = errors.NoMemory
 line_refusal e = errors.Public e
+
+abbrev pub certificate_refusal : SshCertificateError → ReadError
+certificate_refusal certificate.NoMemory = errors.NoMemory
+certificate_refusal e = errors.Certificate e

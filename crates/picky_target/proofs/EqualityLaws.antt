@@ -5,8 +5,8 @@ use Rattle.picky_sshkey_blob.specs.declared.error.SshPrivateKeyError.{SshPrivate
 use Rattle.picky_sshkey_blob.specs.contracts.error.SshPrivateKeyErrorPartialEq.TheImpl as private
 use Rattle.picky_ppk_parts.specs.declared.error.PuttyError.{PuttyError}
 use Rattle.picky_ppk_parts.specs.contracts.error.PuttyErrorPartialEq.TheImpl as putty
-use Rattle.picky_key_text.specs.declared.error.ReadError.{ReadError}
 use Rattle.picky_key_text.specs.contracts.error.ReadErrorPartialEq.TheImpl as read
+use Rattle.picky_key_text.proofs.EqualityLaws.{read_equal}
 use Rattle.picky_target.specs.declared.error.ConvertError.{ConvertError}
 use Rattle.picky_target.specs.declared.error.ConvertError.TheVariants as errors
 use Rattle.picky_target.specs.contracts.error.ConvertErrorPartialEq.TheImpl as convert
@@ -16,9 +16,6 @@ private_equal = search rules
 
 putty_equal : (a b : PuttyError) → IsTrue (putty.ghosts.eq a b) ↔ (a ≡ b)
 putty_equal = search rules
-
-read_equal : (a b : ReadError) → IsTrue (read.ghosts.eq a b) ↔ (a ≡ b)
-read_equal = search rules
 
 -- A refusal with another inside is equal where that is.
 wrapped : {A B : Type 0} (f : A → B) (x y : A) (b : Bool) → (IsTrue b ↔ (x ≡ y)) → (f x ≡ f y → x ≡ y) → IsTrue b ↔ (f x ≡ f y)

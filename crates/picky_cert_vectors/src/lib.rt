@@ -1,0 +1,27 @@
+//! The tests of certificates: those of ssh-keygen, read, printed and run, and why certificates are refused.
+#![tactic(auto)]
+
+#[cfg(test)]
+mod cert_fault_rows;
+#[cfg(test)]
+mod cert_faults;
+#[cfg(test)]
+mod cert_fields;
+#[cfg(test)]
+mod cert_keys;
+#[cfg(test)]
+mod cert_lines;
+#[cfg(test)]
+mod cert_names;
+#[cfg(test)]
+mod cert_refusals;
+#[cfg(test)]
+mod cert_runs;
+#[cfg(test)]
+mod cert_streams;
+#[cfg(test)]
+mod certs;
+#[cfg(test)]
+mod runs;
+#[cfg(test)]
+mod zero_cert;
