@@ -1,7 +1,9 @@
-"""What the benches of the libraries share: strings of the wire, a program over a copy of the crates, and its runs."""
+"""What the benches share: strings of the wire, a program over a copy of the crates, and the runs of a program."""
 import os
 import shutil
 import subprocess
+import sys
+import time
 from pathlib import Path
 
 ROOT = Path(__file__).resolve().parents[1]
@@ -49,3 +51,29 @@ def timed(program, text, words):
         _, child.returncode, usage = os.wait4(child.pid, 0)
     peak = next(line for line in status.splitlines() if line.startswith("VmHWM:"))
     return [int(word) for word in printed.split()], int(peak.split()[1]), usage.ru_utime + usage.ru_stime
+
+
+def fastest(command, source, rounds=9):
+    """The best time of some rounds over a file as standard input, in seconds, and the peak memory in KiB."""
+    best, peak = None, 0
+    for _ in range(rounds):
+        with open(source, "rb") as stdin, open(os.devnull, "wb") as out:
+            start = time.perf_counter()
+            child = subprocess.Popen(command, stdin=stdin, stdout=out)
+            _, status, usage = os.wait4(child.pid, 0)
+            spent = time.perf_counter() - start
+        if status != 0:
+            sys.exit(f"{command}: status {status}")
+        best = spent if best is None else min(best, spent)
+        peak = max(peak, usage.ru_maxrss)
+    return best, small_peak(command, source) or peak
+
+
+def small_peak(command, source):
+    """The peak memory by time(1), where it is there: a child's own count begins with what this process takes."""
+    if not Path("/usr/bin/time").exists():
+        return None
+    with open(source, "rb") as stdin:
+        ran = subprocess.run(["/usr/bin/time", "-f", "%M", *command], stdin=stdin, stdout=subprocess.DEVNULL,
+                             stderr=subprocess.PIPE, text=True, check=True)
+    return int(ran.stderr.split()[-1])
