@@ -22,6 +22,8 @@ mod cert_streams;
 #[cfg(test)]
 mod certs;
 #[cfg(test)]
+mod issued;
+#[cfg(test)]
 mod runs;
 #[cfg(test)]
 mod zero_cert;

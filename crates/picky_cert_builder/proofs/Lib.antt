@@ -1,0 +1,3 @@
+mod FitLaws
+mod MadeLaws
+mod SortLemmas

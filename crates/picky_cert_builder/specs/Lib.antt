@@ -1,0 +1,11 @@
+pub mod ByName
+pub mod Algorithm
+pub mod Terms
+pub mod Fit
+pub mod Issuer
+pub mod Permits
+pub mod Request
+pub mod Draft
+pub mod Keeps
+pub mod Built
+pub mod inner

@@ -1,0 +1,141 @@
+//! The certificate that is asked for, before it is signed, and what is signed of it.
+
+ghost use Rattle.std.specs.Prelude.{◌≡◌, true, IfOk};
+ghost use Rattle.picky_wire.specs.Gives.{Gives};
+ghost use Rattle.picky_cert_blob.specs.Subject.{fits_subject};
+ghost use Rattle.picky_cert_builder.specs.Draft.{certificate_of, if_short, requested};
+ghost use Rattle.picky_cert_builder.specs.inner.Drafted.{IsWhole, draft_shown};
+
+use crate::builder::SshCertificateBuilder;
+use crate::defaults::{extensions_by_name, list_or_empty, options_by_name, or_zero, text_or_empty};
+use crate::error::SshCertificateGenerationError;
+use crate::issuer::IssuerKey;
+use crate::terms::FitTerms;
+use picky_cert::{SshCertificate, SshCertificateError, SshSignature, SshSignatureBlob};
+use picky_keys::{Issuer, SignatureAlgorithm};
+use picky_sshpub::SshPublicKey;
+use picky_wire::{Bytes, NoMemory, Text, TryClone};
+use std::alloc::Global;
+
+/// A certificate with an empty signature, who is to sign it and by which algorithm, and the bytes that are signed.
+#[derive(Drop)]
+pub struct Draft {
+    pub certificate: SshCertificate,
+    pub issuer: Issuer,
+    pub algorithm: SignatureAlgorithm,
+    pub message: Bytes,
+}
+
+/// The certificate that is asked for.
+///
+/// Refuses, in order: as `RequestTerms::judge`; `TooLong`, where 2^32 bytes or more would be signed.
+#[tactic(auto, unfolding(crate::specs::Draft::requested), using(crate::proofs::FitLaws::judged_fits))]
+pub fn make_draft(
+    alloc: Global,
+    builder: &SshCertificateBuilder,
+    nonce: &[u8; 32],
+) -> Result<Draft, SshCertificateGenerationError>
+    ensures gives { Gives SshCertificateGenerationError.NoMemory draft_shown result (requested builder.now nonce.now) }
+    ensures whole { IfOk result IsWhole }
+{
+    match builder.terms().judge() {
+        Ok(fit) => match &builder.public_key {
+            Some(key) => match &builder.issuer {
+                Some(issuer) => draft_of(alloc, builder, &fit, key, issuer, nonce),
+                None => Err(SshCertificateGenerationError::MissingSignatureKey),
+            },
+            None => Err(SshCertificateGenerationError::MissingPublicKey),
+        },
+        Err(e) => Err(e),
+    }
+}
+
+/// The certificate of these terms, subject and issuer.
+///
+/// Refuses: `TooLong`, where 2^32 bytes or more would be signed.
+#[tactic(auto, unfolding(picky_cert::specs::LineRefusal::signed_text))]
+fn draft_of(
+    alloc: Global,
+    builder: &SshCertificateBuilder,
+    fit: &FitTerms,
+    key: &SshPublicKey,
+    issuer: &IssuerKey,
+    nonce: &[u8; 32],
+) -> Result<Draft, SshCertificateGenerationError>
+    requires { fits_subject fit.now.cert_key_type key.now.inner_key ≡ true }
+    ensures gives { Gives SshCertificateGenerationError.NoMemory draft_shown result
+        (if_short (certificate_of builder.now fit.now key.now issuer.now nonce.now) fit.now.signature_algo) }
+    ensures whole { IfOk result IsWhole }
+{
+    let certificate = match unsigned_certificate(alloc, builder, fit, key, issuer, nonce) {
+        Ok(certificate) => certificate,
+        Err(NoMemory) => return Err(SshCertificateGenerationError::NoMemory),
+    };
+    let issuer = match issuer.to_issuer(alloc) {
+        Ok(issuer) => issuer,
+        Err(NoMemory) => return Err(SshCertificateGenerationError::NoMemory),
+    };
+    match certificate.signed_bytes(alloc) {
+        Ok(message) => Ok(Draft {
+            certificate,
+            issuer,
+            algorithm: fit.signature_algo,
+            message,
+        }),
+        Err(SshCertificateError::NoMemory) => Err(SshCertificateGenerationError::NoMemory),
+        Err(_) => Err(SshCertificateGenerationError::TooLong),
+    }
+}
+
+/// The certificate of these terms, subject and issuer, with an empty signature. Refuses: `NoMemory`.
+fn unsigned_certificate(
+    alloc: Global,
+    builder: &SshCertificateBuilder,
+    fit: &FitTerms,
+    key: &SshPublicKey,
+    issuer: &IssuerKey,
+    nonce: &[u8; 32],
+) -> Result<SshCertificate, NoMemory>
+    ensures { IfOk result (λ c. c ≡ certificate_of builder.now fit.now key.now issuer.now nonce.now) }
+{
+    let public_key = key.try_clone(alloc)?;
+    let nonce = nonce_bytes(alloc, nonce)?;
+    let key_id = text_or_empty(alloc, &builder.key_id)?;
+    let valid_principals = list_or_empty(alloc, &builder.valid_principals)?;
+    let critical_options = options_by_name(alloc, &builder.critical_options)?;
+    let extensions = extensions_by_name(alloc, fit.cert_type, &builder.extensions)?;
+    let inner_key = issuer.public_part(alloc)?;
+    let comment = text_or_empty(alloc, &builder.comment)?;
+    Ok(SshCertificate {
+        cert_key_type: fit.cert_key_type,
+        public_key,
+        nonce,
+        serial: or_zero(builder.serial),
+        cert_type: fit.cert_type,
+        key_id,
+        valid_principals,
+        valid_after: fit.valid_after,
+        valid_before: fit.valid_before,
+        critical_options,
+        extensions,
+        signature_key: SshPublicKey {
+            inner_key,
+            comment: Text::from_string(String::new(alloc)),
+        },
+        signature: SshSignature {
+            format: fit.format,
+            blob: SshSignatureBlob::Standard(Bytes::from_vec(Vec::new(alloc))),
+        },
+        comment,
+    })
+}
+
+/// The nonce as bytes. Refuses: `NoMemory`.
+fn nonce_bytes(alloc: Global, nonce: &[u8; 32]) -> Result<Bytes, NoMemory>
+    ensures { IfOk result (λ bytes. bytes ≡ nonce.now) }
+{
+    match Bytes::new(alloc, nonce) {
+        Ok(bytes) => Ok(bytes),
+        Err(_) => Err(NoMemory),
+    }
+}

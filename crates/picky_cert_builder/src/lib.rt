@@ -1,0 +1,20 @@
+//! OpenSSH certificates made and signed by a device that is handed in (PROTOCOL.certkeys).
+#![tactic(auto)]
+
+mod algorithm;
+mod build;
+mod builder;
+mod defaults;
+mod draft;
+mod error;
+mod issuer;
+pub mod laws;
+mod permits;
+mod sort;
+mod terms;
+
+pub use algorithm::{default_algorithm, format_of};
+pub use builder::{BuildCertificate, SshCertificateBuilder};
+pub use error::SshCertificateGenerationError;
+pub use issuer::IssuerKey;
+pub use terms::{FitTerms, RequestTerms};
