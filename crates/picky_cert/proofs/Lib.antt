@@ -11,3 +11,4 @@ pub mod WrittenLemmas
 pub mod WrittenLaws
 pub mod ReadBackLaws
 pub mod CanonicalLaws
+pub mod FormedLaws

@@ -11,7 +11,7 @@ ghost use Rattle.picky_cert.specs.declared.view.CertView.{CertView as View};
 ghost use Rattle.picky_cert.specs.Certificate.{certificate, said, signed_in, certified};
 ghost use Rattle.picky_cert.specs.Keeps.{IsCertificate, IsWellFormed};
 ghost use Rattle.picky_cert.specs.Line.{IsCertificateLine, IsKept};
-ghost use Rattle.picky_cert.specs.LineRefusal.{line_meaning, line_text};
+ghost use Rattle.picky_cert.specs.LineRefusal.{line_meaning, line_text, signed_text};
 ghost use Rattle.picky_cert.specs.Want.{IsReadFault, WantsMemory};
 ghost use Rattle.picky_cert_parts.specs.Signature.{blob_fits, total_of};
 ghost use Rattle.picky_cert.specs.Shown.{cert_shown};
@@ -71,6 +71,13 @@ pub fn signed_bytes_are_seen()
 pub fn written_bytes_bind_what_is_said()
     ensures { (c d : Certificate) (more : List ℕ) → IsCertificate c → IsCertificate d → IsWellFormed c → IsWellFormed d
         → signed_of d ≡ signed_of c ++ more → said c ≡ said d }
+{}
+
+/// What `signed_bytes` gives is of a well-formed certificate, and a certificate whose line is read back has that line.
+#[tactic(auto, using(crate::proofs::FormedLaws::signed_is_formed, crate::proofs::FormedLaws::kept_is_written))]
+pub fn what_is_written_is_formed()
+    ensures signed { (c : Certificate) (bytes : List ℕ) → signed_text c ≡ Ok bytes → IsWellFormed c }
+    ensures line { (c : Certificate) → IsKept c → line_text c ≡ Ok (line_of c) }
 {}
 
 /// The bytes that are written are a piece, and are read back, without the comments that they don't have.

@@ -1,3 +1,5 @@
 mod FitLaws
-mod MadeLaws
+mod IssuerLemmas
+pub mod MadeLaws
+pub mod OwnLaws
 mod SortLemmas

@@ -1,6 +1,6 @@
 -- A certificate that is made has its parts in their ranges, is well formed, and is read back once it is signed.
 use Rattle.std.specs.Prelude.{◌≡◌, ◌<◌, ◌^◌, ◌++◌, Bool, true, false, List, [], ◌∷◌, ℕ, Option, Some, None, Ok, All, length}
-use Rattle.std.specs.Prelude.{if◌then◌else◌, not}
+use Rattle.std.specs.Prelude.{Err, if◌then◌else◌, not}
 use Rattle.std.specs.Option.{IfSome, ok_or}
 use Rattle.std.specs.Str.{trim_end}
 use Rattle.std.proofs.Common.{refl, sym, ap, subst, arith}
@@ -18,6 +18,8 @@ use Rattle.picky_wire.specs.Principals.{IsPrincipal}
 use Rattle.picky_cert_names.specs.declared.signature_format.SshSignatureFormat.{SshSignatureFormat}
 use Rattle.picky_cert_names.specs.declared.signature_format.SshSignatureFormat.TheVariants as formats
 use Rattle.picky_cert_names.specs.Names.{is_sk}
+use Rattle.picky_cert_names.specs.declared.error.SshCertificateError.TheVariants as refusals
+use Rattle.picky_cert_names.specs.declared.error.SshSignatureError.TheVariants as signatures
 use Rattle.picky_text.specs.Lines.{HasNo}
 use Rattle.picky_sshpub.specs.declared.key.SshPublicKey.{SshPublicKey}
 use Rattle.picky_sshpub.specs.Key.{IsKey, IsString, IsText}
@@ -28,17 +30,16 @@ use Rattle.picky_cert_parts.specs.declared.cert_type.SshCertType.{SshCertType}
 use Rattle.picky_cert_parts.specs.declared.cert_type.SshCertType.TheVariants.{Client, Host}
 use Rattle.picky_cert_parts.specs.declared.extension.SshExtension.{SshExtension}
 use Rattle.picky_cert_parts.specs.Extension.{IsExtension}
+use Rattle.picky_cert_parts.specs.Signature.{blob_fits}
 use Rattle.picky_cert_parts.specs.CriticalOption.{IsOption}
 use Rattle.picky_cert_blob.specs.Subject.{fits_subject}
-use Rattle.picky_cert_blob.proofs.SubjectLaws.{fits_where_kind}
 use Rattle.picky_cert.specs.declared.certificate.SshCertificate.{SshCertificate}
-use Rattle.picky_cert.specs.Certificate.{said}
 use Rattle.picky_cert.specs.Keeps.{IsCertificate, IsWellFormed}
-use Rattle.picky_cert.specs.LineRefusal.{line_meaning}
+use Rattle.picky_cert.specs.Line.{IsKept}
+use Rattle.picky_cert.specs.LineRefusal.{line_meaning, line_text}
 use Rattle.picky_cert.specs.Spelled.{blob_of, line_of, signed_of}
+use Rattle.picky_cert.proofs.FormedLaws.{short_is_formed}
 use Rattle.picky_cert.proofs.ReadBackLaws.{line_reads_back}
-use Rattle.picky_cert.proofs.WrittenLemmas.{extensions_within, grants_within, issuer_within, options_within, principals_within}
-use Rattle.picky_cert.proofs.WrittenLemmas.{terms_within}
 use Rattle.picky_cert_builder.specs.declared.builder.SshCertificateBuilder.{SshCertificateBuilder}
 use Rattle.picky_cert_builder.specs.declared.error.SshCertificateGenerationError.TheVariants as errors
 use Rattle.picky_cert_builder.specs.declared.issuer.IssuerKey.{IssuerKey}
@@ -184,21 +185,6 @@ made_keeps b nonce u kept is_nonce is =
     (certificate_keeps b made.fit made.key made.issuer nonce kept is_nonce (judged_is_fit (terms_of b) made.fit made.judged) made.key_is
     made.issuer_is)
 
--- each list and the issuer's blob are within what is signed, which is short
-short_is_formed : (c : SshCertificate) → fits_subject c.cert_key_type c.public_key.inner_key ≡ true
-    → length (signed_of c) < 2 ^ 32 → IsWellFormed c
-short_is_formed c fits short =
-    let b = said c in
-    let terms = terms_within c in
-    let grants = grants_within c in
-    record {
-      fits = (fits_where_kind c.cert_key_type c.public_key.inner_key).0 fits;
-      principals = omega (arith, short, terms, principals_within b.terms);
-      options = omega (arith, short, grants, options_within b.grants);
-      extensions = omega (arith, short, grants, extensions_within b.grants);
-      issuer = omega (arith, short, grants, issuer_within b.grants);
-    }
-
 -- It is well formed.
 pub made_is_formed : (b : SshCertificateBuilder) (nonce : List ℕ) (u : Unsigned) → requested b nonce ≡ Ok u
     → IsWellFormed u.certificate
@@ -215,7 +201,27 @@ made_is_plain b nonce u is =
     subst (λ c. is_sk c.signature.format ≡ false) made.is
     (fit_is_plain (terms_of b) made.fit (judged_is_fit (terms_of b) made.fit made.judged))
 
--- Signed, it is read back from its line, whatever follows that, without the comments of its keys.
+-- Signed, it has a line that is read back, the comments of its keys aside.
+pub signed_is_kept : (b : SshCertificateBuilder) (nonce : List ℕ) (u : Unsigned) (bytes : List ℕ) → IsRequest b
+    → IsString nonce → IsString bytes → requested b nonce ≡ Ok u → HasNo 13 u.certificate.comment
+    → HasNo 10 u.certificate.comment → trim_end u.certificate.comment ≡ u.certificate.comment
+    → length (line_of (signed_with u.certificate bytes)) < 2 ^ 32 → IsKept (without_key_comments (signed_with u.certificate bytes))
+unfolding line_of blob_of signed_of
+signed_is_kept b nonce u bytes kept is_nonce is_bytes is no_cr no_lf trimmed short =
+    let keeps = made_keeps b nonce u kept is_nonce is in
+    record {
+      is = record { said = keeps.said; signature = is_bytes; comment = keeps.comment };
+      formed = made_is_formed b nonce u is;
+      signed = ap not (made_is_plain b nonce u is);
+      bare = refl;
+      no_cr = no_cr;
+      no_lf = no_lf;
+      trimmed = trimmed;
+      utf8 = keeps.comment.utf8;
+      short = short;
+    }
+
+-- So it is read back, whatever follows it.
 pub signed_is_read_back : (b : SshCertificateBuilder) (nonce : List ℕ) (u : Unsigned) (bytes more : List ℕ) → IsRequest b
     → IsString nonce → IsString bytes → requested b nonce ≡ Ok u → HasNo 13 u.certificate.comment
     → HasNo 10 u.certificate.comment → trim_end u.certificate.comment ≡ u.certificate.comment
@@ -223,17 +229,40 @@ pub signed_is_read_back : (b : SshCertificateBuilder) (nonce : List ℕ) (u : Un
     → line_meaning (line_of (signed_with u.certificate bytes) ++ more) ≡ Ok (without_key_comments (signed_with u.certificate bytes))
 unfolding line_of blob_of signed_of
 signed_is_read_back b nonce u bytes more kept is_nonce is_bytes is no_cr no_lf trimmed short =
-    let keeps = made_keeps b nonce u kept is_nonce is in
-    let formed = made_is_formed b nonce u is in
+    line_reads_back (without_key_comments (signed_with u.certificate bytes)) more
+    (signed_is_kept b nonce u bytes kept is_nonce is_bytes is no_cr no_lf trimmed short)
+
+-- ---- its subject, its comment and its line
+
+pub made_key : (b : SshCertificateBuilder) (nonce : List ℕ) (u : Unsigned) → requested b nonce ≡ Ok u
+    → b.public_key ≡ Some u.certificate.public_key
+made_key b nonce u is =
+    let made = requested_is_made b nonce u is in
+    subst (λ c. b.public_key ≡ Some c.public_key) made.is made.key_is
+
+pub made_comment : (b : SshCertificateBuilder) (nonce : List ℕ) (u : Unsigned) → requested b nonce ≡ Ok u
+    → or_empty b.comment ≡ u.certificate.comment
+made_comment b nonce u is = ap (λ c. c.comment) (requested_is_made b nonce u is).is
+
+-- a line that is written is short, and no other for the comments of its keys
+pub signed_line : (c : SshCertificate) (text : List ℕ) → line_text c ≡ Ok text
+    → (line_of (without_key_comments c) ≡ text) × (length (line_of c) < 2 ^ 32)
+unfolding line_text line_of blob_of signed_of
+signed_line c text is =
+    let subject = chosen (fits_subject c.cert_key_type c.public_key.inner_key) _ refusals.SubjectMismatch text is in
+    let format = chosen (blob_fits c.signature.format c.signature.blob) _ (refusals.SshSignatureError signatures.BlobMismatch) text subject.1 in
+    let short = chosen (is_short (line_of c)) (Ok (line_of c)) refusals.TooLong text format.1 in
+    (cc short.1, ltb-true (length (line_of c)) (2 ^ 32) short.0)
+
+-- Its line is refused by its length alone.
+pub made_line : (b : SshCertificateBuilder) (nonce : List ℕ) (u : Unsigned) (bytes : List ℕ) → requested b nonce ≡ Ok u
+    → line_text (signed_with u.certificate bytes)
+    ≡ (if is_short (line_of (signed_with u.certificate bytes)) then Ok (line_of (signed_with u.certificate bytes))
+    else Err refusals.TooLong)
+unfolding line_text
+made_line b nonce u bytes is =
+    let made = requested_is_made b nonce u is in
+    let fits = judged_fits b made.fit made.key made.judged made.key_is in
+    let fits_it = subst (λ c. fits_subject c.cert_key_type c.public_key.inner_key ≡ true) made.is fits in
     let plain = made_is_plain b nonce u is in
-    line_reads_back (without_key_comments (signed_with u.certificate bytes)) more (record {
-      is = record { said = keeps.said; signature = is_bytes; comment = keeps.comment };
-      formed = formed;
-      signed = ap not plain;
-      bare = refl;
-      no_cr = no_cr;
-      no_lf = no_lf;
-      trimmed = trimmed;
-      utf8 = keeps.comment.utf8;
-      short = short;
-    })
+    rw (fits_it, plain) refl

@@ -6,6 +6,6 @@ pub mod Issuer
 pub mod Permits
 pub mod Request
 pub mod Draft
+pub mod Drafted
 pub mod Keeps
 pub mod Built
-pub mod inner

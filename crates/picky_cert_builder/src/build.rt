@@ -5,13 +5,13 @@ ghost use Rattle.picky_layout.specs.Outcome.{map_ok};
 ghost use Rattle.picky_wire.specs.Count.{Rose};
 ghost use Rattle.picky_wire.specs.Gives.{Gives};
 ghost use Rattle.picky_cert.specs.Spelled.{signed_of};
-ghost use Rattle.picky_cert_builder.specs.Built.{Answers, LeavesSigner};
+ghost use Rattle.picky_cert_builder.specs.Built.{IsBuilt, LeavesSigner};
 ghost use Rattle.picky_cert_builder.specs.Draft.{requested};
 ghost use Rattle.picky_cert_builder.specs.Request.{unset};
-ghost use Rattle.picky_cert_builder.specs.inner.Drafted.{IsWhole, draft_shown};
+ghost use Rattle.picky_cert_builder.specs.Drafted.{IsWhole, draft_shown};
 
 use crate::builder::SshCertificateBuilder;
-use crate::draft::{Draft, make_draft};
+use crate::draft::Draft;
 use crate::error::SshCertificateGenerationError;
 use picky_cert::{SshCertificate, SshSignatureBlob};
 use picky_suite::{SignError, Signer};
@@ -30,7 +30,7 @@ impl SshCertificateBuilder {
         ensures { Gives SshCertificateGenerationError.NoMemory (λ bytes. bytes) result
             (map_ok (λ u. signed_of u.certificate) (requested self.now nonce.now)) }
     {
-        match make_draft(alloc, self, nonce) {
+        match self.draft(alloc, nonce) {
             Ok(draft) => {
                 let Draft { message, .. } = draft;
                 Ok(message)
@@ -49,15 +49,15 @@ impl SshCertificateBuilder {
         nonce: &[u8; 32],
         signer: &mut G,
     ) -> Result<SshCertificate, SshCertificateGenerationError>
-        ensures answers { Answers (G.signs signer.old) (requested self.old nonce.now)
+        ensures answers { IsBuilt (G.signs signer.old) (requested self.old nonce.now)
             (Rose (G.faults signer.old) (G.faults signer.new)) result }
         ensures signer { LeavesSigner G.signs G.faults (requested self.old nonce.now) result signer.old signer.new }
 
         ensures unset { OnOk result (self.new ≡ unset self.old) }
         ensures kept { OnErr result (self.new ≡ self.old) }
     {
-        match make_draft(alloc, self, nonce) {
-            Ok(draft) => match sign(alloc, draft, signer) {
+        match self.draft(alloc, nonce) {
+            Ok(draft) => match draft.sign(alloc, signer) {
                 Ok(certificate) => {
                     self.unset();
                     Ok(certificate)
@@ -78,29 +78,30 @@ impl SshCertificateBuilder {
     }
 }
 
-/// The certificate with the device's signature. Refuses: `SignatureError`.
-fn sign<G: Signer>(
-    alloc: Global,
-    draft: Draft,
-    signer: &mut G,
-) -> Result<SshCertificate, SshCertificateGenerationError>
-    requires { IsWhole draft }
-    ensures answers { Answers (G.signs signer.old) (Ok (draft_shown draft))
-        (Rose (G.faults signer.old) (G.faults signer.new)) result }
-    ensures signer { LeavesSigner G.signs G.faults (Ok (draft_shown draft)) result signer.old signer.new }
-{
-    let Draft {
-        mut certificate,
-        issuer,
-        algorithm,
-        message,
-    } = draft;
-    match signer.sign(alloc, &issuer, algorithm, message.as_slice()) {
-        Ok(bytes) => {
-            certificate.signature.blob = SshSignatureBlob::Standard(bytes);
-            Ok(certificate)
+impl Draft {
+    /// The certificate with the device's signature of exactly its signed bytes. Refuses: `SignatureError`.
+    pub fn sign<G: Signer>(
+        self,
+        alloc: Global,
+        signer: &mut G,
+    ) -> Result<SshCertificate, SshCertificateGenerationError>
+        requires { IsWhole self }
+        ensures answers { IsBuilt (G.signs signer.old) (Ok (draft_shown self)) (Rose (G.faults signer.old) (G.faults signer.new)) result }
+        ensures signer { LeavesSigner G.signs G.faults (Ok (draft_shown self)) result signer.old signer.new }
+    {
+        let Draft {
+            mut certificate,
+            issuer,
+            algorithm,
+            message,
+        } = self;
+        match signer.sign(alloc, &issuer, algorithm, message.as_slice()) {
+            Ok(bytes) => {
+                certificate.signature.blob = SshSignatureBlob::Standard(bytes);
+                Ok(certificate)
+            }
+            Err(SignError::Failed) => Err(SshCertificateGenerationError::SignatureError),
+            Err(SignError::NoMemory) => Err(SshCertificateGenerationError::NoMemory),
         }
-        Err(SignError::Failed) => Err(SshCertificateGenerationError::SignatureError),
-        Err(SignError::NoMemory) => Err(SshCertificateGenerationError::NoMemory),
     }
 }

@@ -17,19 +17,19 @@ use picky_wire::{List, Text, Timestamp};
 /// A certificate that is to be made. Each field may be unset.
 #[derive(Drop)]
 pub struct SshCertificateBuilder {
-    pub(crate) cert_key_type: Option<SshCertKeyType>,
-    pub(crate) public_key: Option<SshPublicKey>,
-    pub(crate) serial: Option<u64>,
-    pub(crate) cert_type: Option<SshCertType>,
-    pub(crate) key_id: Option<Text>,
-    pub(crate) valid_principals: Option<List<Text>>,
-    pub(crate) valid_after: Option<Timestamp>,
-    pub(crate) valid_before: Option<Timestamp>,
-    pub(crate) critical_options: Option<List<SshCriticalOption>>,
-    pub(crate) extensions: Option<List<SshExtension>>,
-    pub(crate) issuer: Option<IssuerKey>,
-    pub(crate) signature_algo: Option<SignatureAlgorithm>,
-    pub(crate) comment: Option<Text>,
+    pub cert_key_type: Option<SshCertKeyType>,
+    pub public_key: Option<SshPublicKey>,
+    pub serial: Option<u64>,
+    pub cert_type: Option<SshCertType>,
+    pub key_id: Option<Text>,
+    pub valid_principals: Option<List<Text>>,
+    pub valid_after: Option<Timestamp>,
+    pub valid_before: Option<Timestamp>,
+    pub critical_options: Option<List<SshCriticalOption>>,
+    pub extensions: Option<List<SshExtension>>,
+    pub issuer: Option<IssuerKey>,
+    pub signature_algo: Option<SignatureAlgorithm>,
+    pub comment: Option<Text>,
 }
 
 /// What makes certificates, as a method of one.

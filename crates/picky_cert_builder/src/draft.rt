@@ -1,10 +1,12 @@
 //! The certificate that is asked for, before it is signed, and what is signed of it.
 
 ghost use Rattle.std.specs.Prelude.{◌≡◌, true, IfOk};
+ghost use Rattle.std.specs.Option.{IfSome};
 ghost use Rattle.picky_wire.specs.Gives.{Gives};
 ghost use Rattle.picky_cert_blob.specs.Subject.{fits_subject};
 ghost use Rattle.picky_cert_builder.specs.Draft.{certificate_of, if_short, requested};
-ghost use Rattle.picky_cert_builder.specs.inner.Drafted.{IsWhole, draft_shown};
+ghost use Rattle.picky_cert_builder.specs.Drafted.{IsWhole, draft_shown};
+ghost use Rattle.picky_cert_builder.specs.Issuer.{issuer_of};
 
 use crate::builder::SshCertificateBuilder;
 use crate::defaults::{extensions_by_name, list_or_empty, options_by_name, or_zero, text_or_empty};
@@ -26,34 +28,37 @@ pub struct Draft {
     pub message: Bytes,
 }
 
-/// The certificate that is asked for.
-///
-/// Refuses, in order: as `RequestTerms::judge`; `TooLong`, where 2^32 bytes or more would be signed.
-#[tactic(auto, unfolding(crate::specs::Draft::requested), using(crate::proofs::FitLaws::judged_fits))]
-pub fn make_draft(
-    alloc: Global,
-    builder: &SshCertificateBuilder,
-    nonce: &[u8; 32],
-) -> Result<Draft, SshCertificateGenerationError>
-    ensures gives { Gives SshCertificateGenerationError.NoMemory draft_shown result (requested builder.now nonce.now) }
-    ensures whole { IfOk result IsWhole }
-{
-    match builder.terms().judge() {
-        Ok(fit) => match &builder.public_key {
-            Some(key) => match &builder.issuer {
-                Some(issuer) => draft_of(alloc, builder, &fit, key, issuer, nonce),
-                None => Err(SshCertificateGenerationError::MissingSignatureKey),
+impl SshCertificateBuilder {
+    /// The certificate that is asked for, and what a device signs of it (OpenSSH's PROTOCOL.certkeys).
+    ///
+    /// Refuses, in order: as `RequestTerms::judge`; `TooLong`, where 2^32 bytes or more would be signed.
+    #[tactic(auto, unfolding(crate::specs::Draft::requested), using(crate::proofs::FitLaws::judged_fits))]
+    pub fn draft(
+        &self,
+        alloc: Global,
+        nonce: &[u8; 32],
+    ) -> Result<Draft, SshCertificateGenerationError>
+        ensures gives { Gives SshCertificateGenerationError.NoMemory draft_shown result (requested self.now nonce.now) }
+        ensures whole { IfOk result IsWhole }
+        ensures issuer { IfOk result (λ draft. IfSome self.now.issuer (λ issuer. draft.issuer ≡ issuer_of issuer)) }
+    {
+        match self.terms().judge() {
+            Ok(fit) => match &self.public_key {
+                Some(key) => match &self.issuer {
+                    Some(issuer) => draft_of(alloc, self, &fit, key, issuer, nonce),
+                    None => Err(SshCertificateGenerationError::MissingSignatureKey),
+                },
+                None => Err(SshCertificateGenerationError::MissingPublicKey),
             },
-            None => Err(SshCertificateGenerationError::MissingPublicKey),
-        },
-        Err(e) => Err(e),
+            Err(e) => Err(e),
+        }
     }
 }
 
 /// The certificate of these terms, subject and issuer.
 ///
 /// Refuses: `TooLong`, where 2^32 bytes or more would be signed.
-#[tactic(auto, unfolding(picky_cert::specs::LineRefusal::signed_text))]
+#[tactic(auto, unfolding(picky_cert::specs::LineRefusal::signed_text), using(crate::proofs::IssuerLemmas::issuer_key_of))]
 fn draft_of(
     alloc: Global,
     builder: &SshCertificateBuilder,
@@ -66,6 +71,7 @@ fn draft_of(
     ensures gives { Gives SshCertificateGenerationError.NoMemory draft_shown result
         (if_short (certificate_of builder.now fit.now key.now issuer.now nonce.now) fit.now.signature_algo) }
     ensures whole { IfOk result IsWhole }
+    ensures issuer { IfOk result (λ draft. draft.issuer ≡ issuer_of issuer.now) }
 {
     let certificate = match unsigned_certificate(alloc, builder, fit, key, issuer, nonce) {
         Ok(certificate) => certificate,

@@ -1,10 +1,9 @@
 //! Who signs a certificate.
 
 ghost use Rattle.std.specs.Prelude.{◌≡◌, IfOk};
-ghost use Rattle.picky_keys.specs.PrivateKey.{issuer_key};
+ghost use Rattle.picky_keys.specs.declared.private_key.Issuer.TheVariants as asked;
 ghost use Rattle.picky_sshpub.specs.Key.{kind_of, public_key_of};
-ghost use Rattle.picky_sshkey_blob.specs.Key.{public_part};
-ghost use Rattle.picky_cert_builder.specs.Issuer.{issuer_part};
+ghost use Rattle.picky_cert_builder.specs.Issuer.{issuer_of, issuer_part, private_issuer as private_issuer_of};
 
 use picky_keys::{EcCurve, Issuer, KeyKind, PrivateKey, PublicKey};
 use picky_sshkey::SshBasePrivateKey;
@@ -40,9 +39,9 @@ impl IssuerKey {
         }
     }
 
-    /// The issuer that a device signs for. Refuses: `NoMemory`.
+    /// The issuer that a device signs for, with the secret where it is here. Refuses: `NoMemory`.
     pub fn to_issuer(&self, alloc: Global) -> Result<Issuer, NoMemory>
-        ensures { IfOk result (λ issuer. issuer_key issuer ≡ public_key_of (issuer_part self.now)) }
+        ensures { IfOk result (λ issuer. issuer ≡ issuer_of self.now) }
     {
         match self {
             IssuerKey::Private(key) => private_issuer(alloc, key),
@@ -68,7 +67,7 @@ impl TryClone for IssuerKey {
 
 /// A private key as an issuer; one whose secret another device keeps, by its public key.
 fn private_issuer(alloc: Global, key: &SshBasePrivateKey) -> Result<Issuer, NoMemory>
-    ensures { IfOk result (λ issuer. issuer_key issuer ≡ public_key_of (public_part key.now)) }
+    ensures { IfOk result (λ issuer. issuer ≡ private_issuer_of key.now) }
 {
     match key {
         SshBasePrivateKey::Rsa {
@@ -126,7 +125,7 @@ fn private_issuer(alloc: Global, key: &SshBasePrivateKey) -> Result<Issuer, NoMe
 
 /// A public key as an issuer.
 fn public_issuer(alloc: Global, key: &SshBasePublicKey) -> Result<Issuer, NoMemory>
-    ensures { IfOk result (λ issuer. issuer_key issuer ≡ public_key_of key.now) }
+    ensures { IfOk result (λ issuer. issuer ≡ asked.Public (public_key_of key.now)) }
 {
     match key {
         SshBasePublicKey::Rsa { e, n } => {

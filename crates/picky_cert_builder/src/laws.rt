@@ -1,14 +1,17 @@
 //! The laws of this crate, each as the contract of a function that does nothing else.
 
-ghost use Rattle.std.specs.Prelude.{◌≡◌, ◌↔◌, ◌<◌, ◌^◌, ◌++◌, List, ℕ, Ok, length};
+ghost use Rattle.std.specs.Prelude.{◌≡◌, ◌≢◌, ◌↔◌, ◌<◌, ◌^◌, ◌++◌, List, ℕ, Ok, Err, length, if◌then◌else◌};
 ghost use Rattle.std.specs.Str.{trim_end};
 ghost use Rattle.picky_text.specs.Lines.{HasNo};
 ghost use Rattle.picky_wire.specs.Equality.{IsEquality};
 ghost use Rattle.picky_sshpub.specs.Key.{IsString};
 ghost use Rattle.picky_cert.specs.Keeps.{IsCertificate, IsWellFormed};
-ghost use Rattle.picky_cert.specs.LineRefusal.{line_meaning};
+ghost use Rattle.picky_cert.specs.LineRefusal.{line_meaning, line_text};
+ghost use Rattle.picky_cert_names.specs.declared.error.SshCertificateError.TheVariants as refusals;
+ghost use Rattle.picky_sshpub.specs.LineRefusal.{is_short};
 ghost use Rattle.picky_cert.specs.Spelled.{line_of};
 ghost use Rattle.picky_cert_builder.specs.declared.builder.SshCertificateBuilder.{SshCertificateBuilder as Builder};
+ghost use Rattle.picky_cert_builder.specs.declared.error.SshCertificateGenerationError.{SshCertificateGenerationError as Refused};
 ghost use Rattle.picky_cert_builder.specs.declared.terms.FitTerms.{FitTerms as Fit};
 ghost use Rattle.picky_cert_builder.specs.declared.terms.RequestTerms.{RequestTerms as Terms};
 ghost use Rattle.picky_cert_builder.specs.Draft.{Unsigned, requested, signed_with};
@@ -39,6 +42,21 @@ pub fn what_is_made_is_read_back()
         → requested b nonce ≡ Ok u → HasNo 13 u.certificate.comment → HasNo 10 u.certificate.comment
         → trim_end u.certificate.comment ≡ u.certificate.comment → length (line_of (signed_with u.certificate bytes)) < 2 ^ 32
         → line_meaning (line_of (signed_with u.certificate bytes) ++ more) ≡ Ok (without_key_comments (signed_with u.certificate bytes)) }
+{}
+
+/// Signed, its line is refused by its length alone.
+#[tactic(auto, using(crate::proofs::MadeLaws::made_line))]
+pub fn what_is_signed_is_refused_by_its_length_alone()
+    ensures { (b : Builder) (nonce bytes : List ℕ) (u : Unsigned) → requested b nonce ≡ Ok u
+        → line_text (signed_with u.certificate bytes)
+        ≡ (if is_short (line_of (signed_with u.certificate bytes)) then Ok (line_of (signed_with u.certificate bytes)) else Err refusals.TooLong) }
+{}
+
+/// The order of refusals answers neither the device's fault nor want of memory: these are answers of the calls alone.
+#[tactic(auto, using(crate::proofs::OwnLaws::requested_is_own))]
+pub fn order_answers_no_fault()
+    ensures { (b : Builder) (nonce : List ℕ) (e : Refused) → requested b nonce ≡ Err e
+        → (e ≢ SshCertificateGenerationError.NoMemory) × (e ≢ SshCertificateGenerationError.SignatureError) }
 {}
 
 /// Two values are equal exactly where their contents are.

@@ -10,11 +10,14 @@ mod error;
 mod issuer;
 pub mod laws;
 mod permits;
+mod ranges;
 mod sort;
 mod terms;
 
 pub use algorithm::{default_algorithm, format_of};
 pub use builder::{BuildCertificate, SshCertificateBuilder};
+pub use draft::Draft;
 pub use error::SshCertificateGenerationError;
 pub use issuer::IssuerKey;
+pub use ranges::{request_keeps_its_ranges, signature_keeps_its_ranges};
 pub use terms::{FitTerms, RequestTerms};

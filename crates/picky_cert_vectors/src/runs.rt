@@ -1,7 +1,7 @@
 //! Runs of the program over streams in memory, without passphrases and fresh bytes.
 
 use picky_convert::{Status, run};
-use picky_suite::PlainSuite;
+use picky_suite::{HandedSigner, PlainSuite};
 use picky_wire::{List, MemorySink, NoMemory, SliceSource, Source, Text};
 use std::alloc::Global;
 use std::process::Abort;
@@ -50,6 +50,7 @@ pub fn run_on<S: Source>(
         None,
         &[],
         &mut PlainSuite::new(),
+        &mut HandedSigner::new(None),
         source,
         &mut out,
         &mut err,

@@ -1,4 +1,4 @@
--- What a draft of a certificate keeps.
+-- What a draft of a certificate shows, and what it keeps.
 use Rattle.std.specs.Prelude.{◌≡◌}
 use Rattle.picky_keys.specs.PrivateKey.{issuer_key}
 use Rattle.picky_sshpub.specs.Key.{public_key_of}
