@@ -3,32 +3,50 @@
 
 use hex::FromHexError;
 use picky_convert::{Status, run, word};
-use picky_suite::PlainSuite;
-use picky_wire::{SizeError, StdSink, StdSource, Text};
+use picky_suite::{HandedSigner, PlainSuite};
+use picky_wire::{Bytes, SizeError, StdSink, StdSource, Text};
 use std::env::VarError;
 use std::process::ExitCode;
 use std::{env, io};
 
-const HELP: &str = "usage: keyconv COMMAND < KEY
+const HELP: &str = "usage: keyconv COMMAND [OPTION VALUE]... < KEY
 
-Reads a key from standard input: an OpenSSH private key, a PuTTY private key file of version 2 or 3, a PuTTY public key or a
-public key line; of RSA, ECDSA, Ed25519 and the two kinds whose secret a device keeps. Writes to standard output, by the
-command:
+Reads a key from standard input: an OpenSSH private key, a PuTTY private key file of version 2 or 3, a PuTTY public key, a
+public key line or a certificate; of RSA, ECDSA, Ed25519 and the two kinds whose secret a device keeps. Writes to standard
+output, by the command:
 
   openssh      the private key and the comment as an OpenSSH private key
   ppk2, ppk3   the same as a PuTTY private key file of version 2 or 3; PuTTY has no keys whose secret a device keeps
   ssh-pub      the public key and the comment as a public key line, in its one spelling
   putty-pub    the same as a PuTTY public key
   fingerprint  the MD5, SHA-1 and SHA-256 fingerprints of the public key, a line each
+  cert         a certificate of the public key and the comment, with a signature that another device made
+  tbs          what that device has to sign for it, in hex
 
   --help       this text
   --version    the version
 
-Environment: KEYCONV_PASS_IN, the passphrase of a sealed key; KEYCONV_PASS_OUT, under which a private key is sealed;
-KEYCONV_FRESH, the fresh bytes that sealing takes, in hex.
+For cert and tbs standard input holds the issuer's key, a line that is exactly %%, and the key that is certified. Options, in
+any order, each followed by its value:
 
-This program has no ciphers: a key that is sealed, or is to be, ends with status 5. Take the passphrase off before with
-ssh-keygen -p or puttygen, and set it after with the same.
+  --type NAME        the type of certificates, as ssh-ed25519-cert-v01@openssh.com
+  --kind KIND        client, a user's, or host, a host's
+  --after SECONDS    valid from then on, in seconds since 1970
+  --before SECONDS   valid until then
+  --serial NUMBER    the serial number; 0 where none is given
+  --id TEXT          the name by which the issuer logs it
+  --principal NAME   a user or host name that it is for, once for each; where none is given, it is for all
+  --critical NAME    or NAME=TEXT: a critical option, once for each
+  --extension NAME   or NAME=TEXT: an extension, once for each; a user's certificate without any gets the five permits
+  --algorithm NAME   rsa-sha1, rsa-sha2-256, rsa-sha2-512, ecdsa-sha2-256, ecdsa-sha2-384, ecdsa-sha2-512 or ed25519, where it
+                     isn't the type's own
+
+Environment: KEYCONV_PASS_IN, the passphrase of sealed keys that are read; KEYCONV_PASS_OUT, under which a private key is sealed;
+KEYCONV_FRESH, the fresh bytes that sealing takes, or the 32 of a certificate's nonce, in hex; KEYCONV_SIGNATURE, the
+signature of the bytes that tbs printed in hex for the same options, input and fresh bytes, in hex.
+
+This program has no ciphers and signs nothing itself: a key that it would open or seal, and a certificate for which there is no
+signature, end with status 5. Take a passphrase off before with ssh-keygen -p or puttygen, and set it after with the same.
 
 Status: 0 done, 1 refused, 2 usage, 3 read fault, 4 write fault, 5 outside fault, 6 out of memory, 7 input over 16 MiB,
 8 input not UTF-8. A line on standard error says which.
@@ -42,12 +60,15 @@ const PASS_OUT: &str = "KEYCONV_PASS_OUT";
 
 const FRESH: &str = "KEYCONV_FRESH";
 
+const SIGNATURE: &str = "KEYCONV_SIGNATURE";
+
 /// What the environment gives.
 #[derive(Drop)]
 struct Given {
     pass_in: Option<String>,
     pass_out: Option<String>,
     fresh: Vec<u8>,
+    signature: Option<Bytes>,
 }
 
 fn main(rt: HostRuntime) -> ExitCode {
@@ -56,7 +77,7 @@ fn main(rt: HostRuntime) -> ExitCode {
             [word] if word.as_str() == "--help" => print(&rt, HELP),
             [word] if word.as_str() == "--version" => print(&rt, VERSION),
             words => match from_environment(&rt) {
-                Ok(given) => start(&rt, words, &given),
+                Ok(given) => start(&rt, words, given),
                 Err(status) => end(&rt, &status),
             },
         },
@@ -65,18 +86,26 @@ fn main(rt: HostRuntime) -> ExitCode {
 }
 
 /// Runs the command over the standard streams.
-fn start(rt: &HostRuntime, words: &[Text], given: &Given) -> ExitCode {
+fn start(rt: &HostRuntime, words: &[Text], given: Given) -> ExitCode {
+    let Given {
+        pass_in,
+        pass_out,
+        fresh,
+        signature,
+    } = given;
     let mut suite = PlainSuite::new();
+    let mut signer = HandedSigner::new(signature);
     let mut source = StdSource::new(rt.stdin());
     let mut out = StdSink::new(rt.stdout());
     let mut err = StdSink::new(rt.stderr());
     let status = run(
         rt.alloc(),
         words,
-        text_of(&given.pass_in),
-        text_of(&given.pass_out),
-        given.fresh.as_slice(),
+        text_of(&pass_in),
+        text_of(&pass_out),
+        fresh.as_slice(),
         &mut suite,
+        &mut signer,
         &mut source,
         &mut out,
         &mut err,
@@ -105,7 +134,7 @@ fn words(rt: &HostRuntime) -> Result<Vec<Text>, Status> {
     Ok(words)
 }
 
-/// The passphrases and the fresh bytes.
+/// The passphrases, the fresh bytes and the signature.
 fn from_environment(rt: &HostRuntime) -> Result<Given, Status> {
     let pass_in = variable(rt, PASS_IN)?;
     let pass_out = variable(rt, PASS_OUT)?;
@@ -113,11 +142,26 @@ fn from_environment(rt: &HostRuntime) -> Result<Given, Status> {
         Some(digits) => bytes_in(rt, digits.as_str())?,
         None => Vec::new(rt.alloc()),
     };
+    let signature = match variable(rt, SIGNATURE)? {
+        Some(digits) => signature_in(rt, digits.as_str())?,
+        None => None,
+    };
     Ok(Given {
         pass_in,
         pass_out,
         fresh,
+        signature,
     })
+}
+
+/// The signature in hex digits.
+fn signature_in(rt: &HostRuntime, digits: &str) -> Result<Option<Bytes>, Status> {
+    let bytes = bytes_in(rt, digits)?;
+    match Bytes::new(rt.alloc(), bytes.as_slice()) {
+        Ok(signature) => Ok(Some(signature)),
+        Err(SizeError::TooLong) => Err(Status::Usage),
+        Err(SizeError::NoMemory) => Err(Status::NoMemory),
+    }
 }
 
 /// The value of a variable, of fewer than 2^32 bytes, where it has one.

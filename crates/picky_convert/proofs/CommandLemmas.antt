@@ -3,23 +3,29 @@ use Rattle.std.proofs.Common.{◌≡◌, ◌⊎◌, inl, inr, subst, Bool, true,
 use Rattle.std.proofs.Common.{ℕ, List, [], ◌∷◌, length, get_or, Ok, refl, sym, ap, arith}
 use Rattle.std.specs.Str.{bytes_eq, IsUtf8}
 use Rattle.picky_layout.specs.carried.Outcome.{and_then_ok, map_err_ok}
-use Rattle.picky_layout.specs.Outcome.{map_err}
+use Rattle.picky_layout.specs.Outcome.{map_err, map_ok}
 use Rattle.picky_ppk_parts.specs.Config.{default_config}
 use Rattle.picky_target.specs.ReadBack.{IsConfig}
-use Rattle.picky_key_text.specs.declared.meaning.Meaning.{Meaning}
+use Rattle.picky_cert_target.specs.Certified.{Relation}
+use Rattle.picky_issuing.specs.declared.options.CertOptions.{CertOptions}
+use Rattle.picky_issuing.specs.Options.{options_named}
 use Rattle.picky_key_text.specs.Key.{public_part}
 use Rattle.picky_key_text.specs.Order.{reading}
-use Rattle.picky_key_text.specs.Reads.{Reads}
+use Rattle.picky_key_text.proofs.ReadingLaws.{reading_of as read}
 use Rattle.picky_target.specs.declared.error.ConvertError.TheVariants as errors
+use Rattle.picky_conversion.specs.Certify.{hex_line}
+use Rattle.picky_conversion.specs.Chain.{IsGiven}
+use Rattle.picky_conversion.specs.Convert.{conversion}
+use Rattle.picky_conversion.specs.Issue.{issued, issued_bytes}
+use Rattle.picky_conversion.specs.Made.{Made, ToSign, Whole, Writes}
+use Rattle.picky_conversion.specs.Outside.{Outside, reader}
+use Rattle.picky_conversion.proofs.ConvertLemmas.{conversion_is, conversion_valid, means_one, says_in}
+use Rattle.picky_conversion.proofs.IssuedLemmas.{issued_bytes_is, issued_from, issued_is, signed_of_it, unsigned_from, whole_of}
 use Rattle.picky_convert.specs.declared.command.Command.{Command}
 use Rattle.picky_convert.specs.declared.command.Command.TheVariants as commands
-use Rattle.picky_convert.specs.Chain.{IsGiven}
-use Rattle.picky_convert.specs.Command.{IsCommand, answer, command_of_word, IsAnswer, CanWrite, Names}
-use Rattle.picky_convert.specs.Command.{openssh, ppk2, ppk3, ssh_pub, putty_pub, fingerprint}
+use Rattle.picky_convert.specs.Command.{CanAnswer, IsAnswer, IsCommand, Names, alone, answer, command_of_word, fingerprints, with_options}
+use Rattle.picky_convert.specs.Command.{cert, fingerprint, openssh, ppk2, ppk3, putty_pub, ssh_pub, tbs}
 use Rattle.picky_convert.specs.Fingerprint.{fingerprint_text}
-use Rattle.picky_convert.specs.Outside.{Outside, reader}
-use Rattle.picky_key_text.proofs.ReadingLaws.{reading_of as read}
-use Rattle.picky_convert.proofs.ConvertLemmas.{conversion_is, conversion_valid, means_one, says_in}
 
 -- a list of one item
 pub one_word : {A : Type 0} (xs : List A) (x : A) → length xs ≡ 1 → x ≡ get_or xs 0 x → xs ≡ x ∷ []
@@ -27,12 +33,19 @@ one_word [] x len is = absurd (omega (arith, len))
 one_word (y ∷ []) x len is = ap (λ z. z ∷ []) (sym is)
 one_word (y ∷ z ∷ xs) x len is = absurd (omega (arith, len))
 
--- what a command writes is its answer to the key text
-pub answer_is : (o : Outside) (command : Command) (input text : List ℕ) → IsGiven o → IsCommand command → IsUtf8 input
-    → answer o command input ≡ Ok text → IsAnswer o command input text
-answer_is o (commands.Convert target) input text given fits utf8 done = conversion_is o target input text given fits utf8 done
-answer_is o commands.Fingerprint input text given fits utf8 done =
-    let steps = and_then_ok (map_err errors.Input (reading (reader o) input)) (λ m. Ok (fingerprint_text (public_part m.key))) text done in
+-- what a command writes is its answer to the source's text
+pub answer_is : (signs : Relation) (o : Outside) (command : Command) (input text : List ℕ) → IsGiven o → IsCommand command
+    → IsUtf8 input → Writes signs (answer o command input) text → IsAnswer signs o command input text
+answer_is signs o (commands.Convert target) input text given fits utf8 done =
+    conversion_is o target input text given fits utf8 (whole_of signs (conversion o target input) text done)
+answer_is signs o (commands.Certify options) input text given fits utf8 done =
+    let line = signed_of_it signs (issued o options input) text done in
+    issued_is signs o options input text line.0 given utf8 line.1 line.2
+answer_is signs o (commands.PrintSigned options) input text given fits utf8 done =
+    issued_bytes_is o options input text given utf8 (whole_of signs (issued_bytes o options input) text done)
+answer_is signs o commands.Fingerprint input text given fits utf8 done =
+    let plain = whole_of signs (fingerprints o input) text done in
+    let steps = and_then_ok (map_err errors.Input (reading (reader o) input)) (λ m. Ok (fingerprint_text (public_part m.key))) text plain in
     let means = map_err_ok errors.Input (reading (reader o) input) steps.0 steps.1 in
     let is : fingerprint_text (public_part steps.0.key) ≡ text = cc steps.2 in
     record {
@@ -42,13 +55,20 @@ answer_is o commands.Fingerprint input text given fits utf8 done =
       is = sym is;
     }
 
--- and there is one for what it can write
-pub answer_of : (o : Outside) (command : Command) (input : List ℕ) (meaning : Meaning) → Reads (reader o) input meaning
-    → CanWrite o command meaning → (text : List ℕ) × (answer o command input ≡ Ok text)
-answer_of o (commands.Convert target) input meaning reads can = conversion_valid o target input meaning reads can
-answer_of o commands.Fingerprint input meaning reads can =
+pub answer_of : (o : Outside) (command : Command) (input : List ℕ) → CanAnswer o command input
+    → (made : Made) × (answer o command input ≡ Ok made)
+answer_of o (commands.Convert target) input (meaning, reads, can) =
+    let text = conversion_valid o target input meaning reads can in
+    (Whole text.0, ap (map_ok Whole) text.1)
+answer_of o (commands.Certify options) input can =
+    let found = issued_from o options input can in
+    (ToSign found.0, ap (map_ok ToSign) found.1)
+answer_of o (commands.PrintSigned options) input can =
+    let found = unsigned_from o options input can in
+    (Whole (hex_line found.0), ap (λ says. map_ok Whole (map_ok hex_line says)) found.1)
+answer_of o commands.Fingerprint input (meaning, reads) =
     let means = read (reader o) input meaning reads in
-    (fingerprint_text (public_part meaning.key), rw means refl)
+    (Whole (fingerprint_text (public_part meaning.key)), rw means refl)
 
 -- ---- the commands that words name
 
@@ -83,8 +103,25 @@ word_fits word command is =
     (chosen_fits (bytes_eq word putty_pub) _ command _ tt
     (chosen_fits (bytes_eq word fingerprint) _ command None tt (λ none. cc none)))))) is
 
+with_fits : (make : CertOptions → Command) (options : Option CertOptions) (command : Command)
+    → ((o : CertOptions) → IsCommand (make o)) → with_options make options ≡ Some command → IsCommand command
+with_fits make (Some options) command each is = let same : make options ≡ command = cc is in subst IsCommand same (each options)
+with_fits make None command each is = cc is
+
+alone_fits : (word : List ℕ) (more : List (List ℕ)) (command : Command) → alone word more ≡ Some command → IsCommand command
+alone_fits word [] command is = word_fits word command is
+alone_fits word (next ∷ more) command is = cc is
+
+either_fits : (b : Bool) (one other : Option Command) (command : Command) → (one ≡ Some command → IsCommand command)
+    → (other ≡ Some command → IsCommand command) → (if b then one else other) ≡ Some command → IsCommand command
+either_fits true one other command first second is = first is
+either_fits false one other command first second is = second is
+
 -- The numbers of a named command are a value's.
 pub named_fits : (words : List (List ℕ)) (command : Command) → Names words command → IsCommand command
 named_fits [] command is = cc is
-named_fits (word ∷ []) command is = word_fits word command is
-named_fits (word ∷ next ∷ more) command is = cc is
+named_fits (word ∷ more) command is =
+    either_fits (bytes_eq word cert) _ _ command
+    (with_fits (λ o. commands.Certify o) (options_named more) command (λ o. tt))
+    (either_fits (bytes_eq word tbs) _ _ command
+    (with_fits (λ o. commands.PrintSigned o) (options_named more) command (λ o. tt)) (alone_fits word more command)) is

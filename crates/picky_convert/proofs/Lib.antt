@@ -1,10 +1,6 @@
-pub mod JudgedLemmas
-pub mod AnswerLemmas
-pub mod ConvertLemmas
 pub mod OutcomeLemmas
 pub mod CommandLemmas
 pub mod CauseLemmas
 pub mod RunLemmas
-pub mod LawLemmas
 pub mod EqualityLemmas
 pub mod ReportLemmas

@@ -1,47 +1,68 @@
 -- Lemmas on what is written for the bytes of a source, and on the status of a refusal.
-use Rattle.std.proofs.Common.{◌≡◌, ◌≤◌, ℕ, List, Bool, length, Ok, Err, refl, sym, ap, ◌∙◌, subst, ◌⊎◌, inl, inr}
+use Rattle.std.proofs.Common.{◌≡◌, ◌≤◌, ℕ, List, Bool, length, Result, Ok, Err, refl, sym, ap, ◌∙◌, subst, ◌⊎◌, inl, inr}
 use Rattle.std.proofs.lemmas.Bool.{le-ltb, le-leb, cases_Bool}
 use Rattle.std.proofs.lemmas.Str.{is_utf8-from_IsUtf8, IsUtf8-from_is_utf8}
 use Rattle.std.specs.Str.{IsUtf8, is_utf8}
-use Rattle.picky_layout.specs.Outcome.{map_err}
-use Rattle.picky_suite.specs.Asked.{LeavesSuite}
+use Rattle.picky_layout.specs.Outcome.{map_err, map_ok}
 use Rattle.picky_suite.specs.Failures.{IsAskedFault}
 use Rattle.picky_suite.specs.Meanings.{Meanings}
 use Rattle.picky_sshkey_blob.specs.declared.error.SshPrivateKeyError.TheVariants as private
 use Rattle.picky_ppk_parts.specs.declared.error.PuttyError.TheVariants as putty
+use Rattle.picky_cert_builder.specs.declared.error.SshCertificateGenerationError.TheVariants as requests
 use Rattle.picky_key_text.specs.declared.error.ReadError.TheVariants as input_errors
 use Rattle.picky_key_text.specs.Key.{public_part}
 use Rattle.picky_key_text.specs.Order.{reading}
 use Rattle.picky_target.specs.declared.error.ConvertError.{ConvertError}
 use Rattle.picky_target.specs.declared.error.ConvertError.TheVariants as errors
+use Rattle.picky_target.specs.declared.target.KeyTarget.{KeyTarget}
 use Rattle.picky_target.specs.Written.{written}
+use Rattle.picky_cert_target.specs.Certified.{Relation}
 use Rattle.picky_convert.specs.declared.command.Command.{Command}
 use Rattle.picky_convert.specs.declared.command.Command.TheVariants as commands
+use Rattle.picky_convert.specs.declared.error.Status.{Status}
 use Rattle.picky_convert.specs.declared.error.Status.TheVariants as statuses
-use Rattle.picky_convert.specs.Command.{answer, answering_asks, IsFaultTo}
-use Rattle.picky_convert.specs.Convert.{LeavesAskedSuite, conversion}
+use Rattle.picky_conversion.specs.Certify.{hex_line}
+use Rattle.picky_convert.specs.Command.{IsFaultFor, answer, answering_asks, fingerprints}
+use Rattle.picky_conversion.specs.Convert.{LeavesAskedSuite, conversion}
 use Rattle.picky_convert.specs.Fingerprint.{fingerprint_text}
-use Rattle.picky_convert.specs.Outside.{Outside, reader}
-use Rattle.picky_convert.specs.Run.{input_limit, outcome, outcome_asks}
-use Rattle.picky_convert.specs.Want.{IsFault, WantsMemory}
-use Rattle.picky_convert.specs.inner.Causes.{refusal_status}
-use Rattle.picky_convert.proofs.AnswerLemmas.{input_fault_is, output_fault_is, opening_asks, sealing_asks}
-use Rattle.picky_convert.proofs.JudgedLemmas.{IsOwn, next_is, reading_is_own, written_is_own}
+use Rattle.picky_conversion.specs.Issue.{issued, issued_bytes, unsigned}
+use Rattle.picky_conversion.specs.Made.{Answers, IsUnwritten, LeavesSigner, Made, ToSign, Whole, Writes, is_signed}
+use Rattle.picky_conversion.specs.Outside.{Outside, reader}
+use Rattle.picky_convert.specs.Run.{IsOutsideFault, IsTooLongFor, input_limit, outcome, outcome_asks, outcome_signs}
+use Rattle.picky_conversion.specs.Want.{IsFault, IsSignerFault, WantsMemory}
+use Rattle.picky_convert.specs.inner.Causes.{LeavesSignerAt, LeavesSuiteAt, Performs, refusal_status}
+use Rattle.picky_conversion.proofs.AnswerLemmas.{input_fault_is, output_fault_is, opening_asks, sealing_asks}
+use Rattle.picky_conversion.proofs.IssueLemmas.{issued_is_own, issuing_fault_asks, unsigned_is_own}
+use Rattle.picky_conversion.proofs.JudgedLemmas.{IsOwn, next_is, reading_is_own, written_is_own}
 
 -- ---- what a command refuses
 
-pub answer_is_own : (o : Outside) (command : Command) (text : List ℕ) (e : ConvertError) → answer o command text ≡ Err e → IsOwn e
+-- a refusal of what was mapped
+mapped_err : {A B : Type 0} (f : A → B) (r : Result A ConvertError) (e : ConvertError) → map_ok f r ≡ Err e → r ≡ Err e
+mapped_err f (Ok x) e is = cc is
+mapped_err f (Err g) e is = let same : g ≡ e = cc is in ap Err same
+
+conversion_is_own : (o : Outside) (target : KeyTarget) (text : List ℕ) (e : ConvertError) → conversion o target text ≡ Err e → IsOwn e
 unfolding conversion
-answer_is_own o (commands.Convert target) text e refused =
+conversion_is_own o target text e refused =
     next_is IsOwn (map_err errors.Input (reading (reader o) text)) (written o.meanings o.output target) e
     (reading_is_own (reader o) text) (λ meaning f was is. written_is_own o.meanings o.output target meaning f is) refused
+
+pub answer_is_own : (o : Outside) (command : Command) (text : List ℕ) (e : ConvertError) → answer o command text ≡ Err e → IsOwn e
+answer_is_own o (commands.Convert target) text e refused =
+    conversion_is_own o target text e (mapped_err Whole (conversion o target text) e refused)
+answer_is_own o (commands.Certify options) text e refused =
+    issued_is_own o options text e (mapped_err ToSign (issued o options text) e refused)
+answer_is_own o (commands.PrintSigned options) text e refused =
+    unsigned_is_own o options text e
+    (mapped_err hex_line (unsigned o options text) e (mapped_err Whole (issued_bytes o options text) e refused))
 answer_is_own o commands.Fingerprint text e refused =
     next_is IsOwn (map_err errors.Input (reading (reader o) text)) (λ meaning. Ok (fingerprint_text (public_part meaning.key))) e
-    (reading_is_own (reader o) text) (λ meaning f was is. cc is) refused
+    (reading_is_own (reader o) text) (λ meaning f was is. cc is) (mapped_err Whole (fingerprints o text) e refused)
 
 -- the suite's fault is one, and it was asked for the command
 pub fault_asks : (o : Outside) (command : Command) (input : List ℕ) (e : ConvertError) (rose : Type 0)
-    → IsFaultTo o command input e rose → IsFault e × IsAskedFault (answering_asks o command input) rose
+    → IsFaultFor o command input e rose → IsFault e × IsAskedFault (answering_asks o command input) rose
 fault_asks o (commands.Convert target) input e rose (inl fault) = (
   subst IsFault (sym fault.0) (input_fault_is input),
   (opening_asks o target input fault.1.0, fault.1.1),
@@ -50,16 +71,21 @@ fault_asks o (commands.Convert target) input e rose (inr fault) = (
   subst IsFault (sym fault.0) (output_fault_is target),
   (sealing_asks o target input fault.1.0, fault.1.1),
 )
+fault_asks o (commands.Certify options) input e rose fault = issuing_fault_asks o input e rose fault
+fault_asks o (commands.PrintSigned options) input e rose fault = issuing_fault_asks o input e rose fault
 fault_asks o commands.Fingerprint input e rose fault = (subst IsFault (sym fault.0) (input_fault_is input), fault.1)
 
 -- ---- the status of a refusal
 
-pub fault_from_status : (e : ConvertError) → refusal_status e ≡ statuses.OutsideFault → IsFault e
+pub fault_from_status : (e : ConvertError) → refusal_status e ≡ statuses.OutsideFault → IsFault e ⊎ (e ≡ errors.Request requests.SignatureError)
 fault_from_status errors.NoMemory is = cc is
-fault_from_status (errors.Input (input_errors.Private private.SuiteFault)) is = refl
-fault_from_status (errors.Input (input_errors.Putty putty.SuiteFault)) is = refl
-fault_from_status (errors.Private private.SuiteFault) is = refl
-fault_from_status (errors.Putty putty.SuiteFault) is = refl
+fault_from_status (errors.Input (input_errors.Private private.SuiteFault)) is = inl refl
+fault_from_status (errors.Input (input_errors.Putty putty.SuiteFault)) is = inl refl
+fault_from_status (errors.Issuer (input_errors.Private private.SuiteFault)) is = inl refl
+fault_from_status (errors.Issuer (input_errors.Putty putty.SuiteFault)) is = inl refl
+fault_from_status (errors.Request requests.SignatureError) is = inr refl
+fault_from_status (errors.Private private.SuiteFault) is = inl refl
+fault_from_status (errors.Putty putty.SuiteFault) is = inl refl
 fault_from_status e is = cc is
 
 pub status_from_fault : (e : ConvertError) → IsFault e → refusal_status e ≡ statuses.OutsideFault
@@ -67,28 +93,36 @@ status_from_fault (errors.Input (input_errors.Private e)) fault =
     ap (λ f. refusal_status (errors.Input (input_errors.Private f))) fault
 status_from_fault (errors.Input (input_errors.Putty e)) fault =
     ap (λ f. refusal_status (errors.Input (input_errors.Putty f))) fault
+status_from_fault (errors.Issuer (input_errors.Private e)) fault =
+    ap (λ f. refusal_status (errors.Issuer (input_errors.Private f))) fault
+status_from_fault (errors.Issuer (input_errors.Putty e)) fault =
+    ap (λ f. refusal_status (errors.Issuer (input_errors.Putty f))) fault
 status_from_fault (errors.Private e) fault = ap (λ f. refusal_status (errors.Private f)) fault
 status_from_fault (errors.Putty e) fault = ap (λ f. refusal_status (errors.Putty f)) fault
 status_from_fault e fault = absurd fault
 
-status_of_own : (e : ConvertError) → (e ≡ errors.NoMemory → ⊥) → (IsFault e → ⊥) → refusal_status e ≡ statuses.Refused e
-status_of_own errors.NoMemory memory fault = absurd (memory refl)
-status_of_own (errors.Input (input_errors.Private private.SuiteFault)) memory fault = absurd (fault refl)
-status_of_own (errors.Input (input_errors.Putty putty.SuiteFault)) memory fault = absurd (fault refl)
-status_of_own (errors.Private private.SuiteFault) memory fault = absurd (fault refl)
-status_of_own (errors.Putty putty.SuiteFault) memory fault = absurd (fault refl)
-status_of_own e memory fault = refl
+status_of_own : (e : ConvertError) → (e ≡ errors.NoMemory → ⊥) → (IsFault e → ⊥) → (IsSignerFault e → ⊥)
+    → refusal_status e ≡ statuses.Refused e
+status_of_own errors.NoMemory memory fault device = absurd (memory refl)
+status_of_own (errors.Input (input_errors.Private private.SuiteFault)) memory fault device = absurd (fault refl)
+status_of_own (errors.Input (input_errors.Putty putty.SuiteFault)) memory fault device = absurd (fault refl)
+status_of_own (errors.Issuer (input_errors.Private private.SuiteFault)) memory fault device = absurd (fault refl)
+status_of_own (errors.Issuer (input_errors.Putty putty.SuiteFault)) memory fault device = absurd (fault refl)
+status_of_own (errors.Request requests.SignatureError) memory fault device = absurd (device refl)
+status_of_own (errors.Private private.SuiteFault) memory fault device = absurd (fault refl)
+status_of_own (errors.Putty putty.SuiteFault) memory fault device = absurd (fault refl)
+status_of_own e memory fault device = refl
 
 own_status : (e : ConvertError) → IsOwn e → refusal_status e ≡ statuses.Refused e
-own_status e own = status_of_own e (λ is. own.0 (subst WantsMemory (sym is) refl)) own.1
+own_status e own = status_of_own e (λ is. own.0 (subst WantsMemory (sym is) refl)) own.1 own.2
 
 -- ---- the outcome of bytes
 
--- the bytes are a text that is converted
-pub outcome_done : (o : Outside) (command : Command) (input text : List ℕ) → length input ≤ input_limit → IsUtf8 input
-    → answer o command input ≡ Ok text → outcome o command input ≡ Ok text
+-- the bytes are a text for which the command comes to something
+pub outcome_done : (o : Outside) (command : Command) (input : List ℕ) (made : Made) → length input ≤ input_limit → IsUtf8 input
+    → answer o command input ≡ Ok made → outcome o command input ≡ Ok made
 unfolding outcome
-outcome_done o command input text short utf8 done =
+outcome_done o command input made short utf8 done =
     rw (le-ltb input_limit (length input) short, is_utf8-from_IsUtf8 input utf8, done) refl
 
 -- the bytes are a text that is refused
@@ -107,6 +141,18 @@ outcome_no_text o command input short not_utf8 = elim (cases_Bool (is_utf8 input
   | inr other ↦ rw (le-ltb input_limit (length input) short, other) refl
 ]
 
+-- of bytes that are a text the signer is asked as the command asks it
+outcome_signs_as : (o : Outside) (command : Command) (input : List ℕ) → length input ≤ input_limit → IsUtf8 input
+    → outcome_signs o command input ≡ is_signed (answer o command input)
+unfolding outcome
+outcome_signs_as o command input short utf8 =
+    rw (le-ltb input_limit (length input) short, is_utf8-from_IsUtf8 input utf8) (signed_mapped (answer o command input))
+  where
+    signed_mapped : (r : Result Made ConvertError) → is_signed (map_err statuses.Refused r) ≡ is_signed r
+    signed_mapped (Ok (Whole text)) = refl
+    signed_mapped (Ok (ToSign u)) = refl
+    signed_mapped (Err e) = refl
+
 -- of bytes that are a text the suite is asked as the command asks it
 outcome_asks_as : (o : Outside) (command : Command) (input : List ℕ) → length input ≤ input_limit → IsUtf8 input
     → outcome_asks o command input ≡ answering_asks o command input
@@ -116,55 +162,96 @@ outcome_asks_as o command input short utf8 =
 
 -- ---- what a command answers, as a run's status
 
-pub refused_status : (o : Outside) (command : Command) (input : List ℕ) (e : ConvertError) (rose : Type 0)
-    → length input ≤ input_limit → IsUtf8 input
-    → (e ≡ errors.NoMemory) ⊎ IsFaultTo o command input e rose ⊎ (answer o command input ≡ Err e)
-    → (refusal_status e ≡ statuses.NoMemory)
-    ⊎ ((refusal_status e ≡ statuses.OutsideFault) × IsAskedFault (outcome_asks o command input) rose)
-    ⊎ (outcome o command input ≡ Err (refusal_status e))
-refused_status o command input e rose short utf8 (inl want) = inl (ap refusal_status want)
-refused_status o command input e rose short utf8 (inr (inl fault)) =
-    let asked = fault_asks o command input e rose fault in
+pub text_performs : (signs : Relation) (o : Outside) (command : Command) (input text : List ℕ) → length input ≤ input_limit
+    → IsUtf8 input → Writes signs (answer o command input) text → Writes signs (outcome o command input) text
+text_performs signs o command input text short utf8 (made, is, of) = (made, outcome_done o command input made short utf8 is, of)
+
+-- why there is no text of what it came to
+left_performs : (signs : Relation) (o : Outside) (command : Command) (input : List ℕ) (e : ConvertError)
+    (suite_rose signer_rose : Type 0) (made : Made) → outcome o command input ≡ Ok made → IsUnwritten signs made signer_rose e
+    → ((refusal_status e ≡ statuses.OutsideFault) × IsOutsideFault o command input suite_rose signer_rose)
+    ⊎ ((refusal_status e ≡ statuses.Refused errors.TooLong) × IsTooLongFor signs (outcome o command input))
+left_performs signs o command input e suite_rose signer_rose (Whole text) is left = absurd left
+left_performs signs o command input e suite_rose signer_rose (ToSign u) is (inl device) =
+    inl (ap refusal_status device.0, inr (ap is_signed is, device.1))
+left_performs signs o command input e suite_rose signer_rose (ToSign u) is (inr long) =
+    inr (ap refusal_status long.0, (ToSign u, is, long.1))
+
+pub refused_performs : {X Y : Type 0} (signs : Relation) (view : X → List ℕ) (seen : Y → List ℕ) (o : Outside) (command : Command)
+    (input : List ℕ) (suite_rose signer_rose : Type 0) (e : ConvertError) → length input ≤ input_limit → IsUtf8 input
+    → Answers {X = X} signs view (answer o command input) (λ f. IsFaultFor o command input f suite_rose) signer_rose (Err e)
+    → Performs {X = Y} signs seen o command input suite_rose signer_rose (Err (refusal_status e))
+refused_performs signs view seen o command input suite_rose signer_rose e short utf8 (inl want) = inl (ap refusal_status want)
+refused_performs signs view seen o command input suite_rose signer_rose e short utf8 (inr (inl fault)) =
+    let asked = fault_asks o command input e suite_rose fault in
     inr (inl (
       status_from_fault e asked.0,
-      (outcome_asks_as o command input short utf8 ∙ asked.1.0, asked.1.1),
+      inl (outcome_asks_as o command input short utf8 ∙ asked.1.0, asked.1.1),
     ))
-refused_status o command input e rose short utf8 (inr (inr refused)) =
+refused_performs signs view seen o command input suite_rose signer_rose e short utf8 (inr (inr (inl (made, is, left)))) =
+    elim (left_performs signs o command input e suite_rose signer_rose made (outcome_done o command input made short utf8 is) left) [
+      | inl device ↦ inr (inl device)
+      | inr long ↦ inr (inr (inl long))
+    ]
+refused_performs signs view seen o command input suite_rose signer_rose e short utf8 (inr (inr (inr refused))) =
     let is = own_status e (answer_is_own o command input e refused) in
-    inr (inr (outcome_refused o command input e short utf8 refused ∙ ap Err (sym is)))
+    inr (inr (inr (outcome_refused o command input e short utf8 refused ∙ ap Err (sym is))))
 
--- the same refusal of another value leaves the suite as it did
-pub still_leaves : {S A B : Type 0} (meanings : S → Meanings) (faults : S → ℕ) (asked : Bool) (e : ConvertError) (old new : S)
-    → LeavesAskedSuite {A = A} meanings faults asked (Err e) old new
-    → LeavesAskedSuite {A = B} meanings faults asked (Err e) old new
-still_leaves meanings faults asked e old new leaves = record {
-  kept = leaves.kept;
-  counted = λ f is fault. let same : f ≡ e = cc is in leaves.counted e refl (subst IsFault same fault);
-  calm = λ calm. leaves.calm (λ f is fault. let same : f ≡ e = cc is in calm e refl (subst IsFault same fault));
-  unasked = leaves.unasked;
-}
+-- ---- the devices
 
 pub done_leaves : {S A B : Type 0} (meanings : S → Meanings) (faults : S → ℕ) (o : Outside) (command : Command)
     (input : List ℕ) (x : A) (y : B) (old new : S) → length input ≤ input_limit → IsUtf8 input
     → LeavesAskedSuite meanings faults (answering_asks o command input) (Ok x) old new
-    → LeavesSuite meanings faults statuses.OutsideFault (outcome_asks o command input) (Ok y) old new
+    → LeavesSuiteAt meanings faults (outcome_asks o command input) (Ok y) old new
 done_leaves meanings faults o command input x y old new short utf8 leaves = record {
   kept = leaves.kept;
-  counted = λ is. cc is;
-  calm = leaves.calm (λ f is fault. cc is);
+  calm = λ other. leaves.calm (λ f is fault. cc is);
   unasked = λ no. leaves.unasked (sym (outcome_asks_as o command input short utf8) ∙ no);
 }
 
 pub refused_leaves_suite : {S A B : Type 0} (meanings : S → Meanings) (faults : S → ℕ) (o : Outside) (command : Command)
     (input : List ℕ) (e : ConvertError) (old new : S) → length input ≤ input_limit → IsUtf8 input
     → LeavesAskedSuite {A = A} meanings faults (answering_asks o command input) (Err e) old new
-    → LeavesSuite {A = B} meanings faults statuses.OutsideFault (outcome_asks o command input) (Err (refusal_status e)) old new
+    → LeavesSuiteAt {A = B} meanings faults (outcome_asks o command input) (Err (refusal_status e)) old new
 refused_leaves_suite meanings faults o command input e old new short utf8 leaves = record {
   kept = leaves.kept;
-  counted = λ is. let same : refusal_status e ≡ statuses.OutsideFault = cc is in leaves.counted e refl (fault_from_status e same);
   calm = λ other. leaves.calm (λ f is fault.
-      let same : f ≡ e = cc is in other (status_from_fault e (subst IsFault same fault)));
+      let same : f ≡ e = cc is in other (ap Err (status_from_fault e (subst IsFault same fault))));
   unasked = λ no. leaves.unasked (sym (outcome_asks_as o command input short utf8) ∙ no);
 }
 
-pub ruleset outcomes = (outcome_done, outcome_no_text)
+pub done_signs : {S A B : Type 0} (signs : S → Relation) (faults : S → ℕ) (o : Outside) (command : Command)
+    (input : List ℕ) (x : A) (y : B) (old new : S) → length input ≤ input_limit → IsUtf8 input
+    → LeavesSigner signs faults (is_signed (answer o command input)) (Ok x) old new
+    → LeavesSignerAt signs faults (outcome_signs o command input) (Ok y) old new
+done_signs signs faults o command input x y old new short utf8 leaves = record {
+  kept = leaves.kept;
+  calm = λ other. leaves.calm (λ is. cc is);
+  unasked = λ no. leaves.unasked (sym (outcome_signs_as o command input short utf8) ∙ no);
+}
+
+pub refused_signs : {S A B : Type 0} (signs : S → Relation) (faults : S → ℕ) (o : Outside) (command : Command)
+    (input : List ℕ) (e : ConvertError) (old new : S) → length input ≤ input_limit → IsUtf8 input
+    → LeavesSigner {A = A} signs faults (is_signed (answer o command input)) (Err e) old new
+    → LeavesSignerAt {A = B} signs faults (outcome_signs o command input) (Err (refusal_status e)) old new
+refused_signs signs faults o command input e old new short utf8 leaves = record {
+  kept = leaves.kept;
+  calm = λ other. leaves.calm (λ is.
+      let same : e ≡ errors.Request requests.SignatureError = cc is in other (ap (λ f. Err (refusal_status f)) same));
+  unasked = λ no. leaves.unasked (sym (outcome_signs_as o command input short utf8) ∙ no);
+}
+
+-- bytes that are no text ask neither
+pub untouched_suite : {S A : Type 0} (meanings : S → Meanings) (faults : S → ℕ) (asked : Bool) (r : Result A Status) (s : S)
+    → LeavesSuiteAt meanings faults asked r s s
+untouched_suite meanings faults asked r s = record { kept = refl; calm = λ other. refl; unasked = λ no. refl }
+
+pub untouched_signer : {S A : Type 0} (signs : S → Relation) (faults : S → ℕ) (asked : Bool) (r : Result A Status) (s : S)
+    → LeavesSignerAt signs faults asked r s s
+untouched_signer signs faults asked r s = record {
+  kept = λ k a m b. (λ x. x, λ x. x);
+  calm = λ other. refl;
+  unasked = λ no. refl;
+}
+
+pub ruleset outcomes = (outcome_no_text, untouched_suite, untouched_signer)

@@ -13,11 +13,13 @@ use Rattle.picky_ppk_parts.specs.declared.error.PuttyError.{PuttyError}
 use Rattle.picky_ppk_parts.specs.declared.error.PuttyError.TheVariants as putty
 use Rattle.picky_key_text.specs.declared.error.ReadError.{ReadError}
 use Rattle.picky_key_text.specs.declared.error.ReadError.TheVariants as input
+use Rattle.picky_cert_builder.specs.declared.error.SshCertificateGenerationError.{SshCertificateGenerationError}
+use Rattle.picky_cert_builder.specs.declared.error.SshCertificateGenerationError.TheVariants as requests
 use Rattle.picky_target.specs.declared.error.ConvertError.{ConvertError}
 use Rattle.picky_target.specs.declared.error.ConvertError.TheVariants as convert
 use Rattle.picky_convert.specs.declared.error.Status.{Status}
 use Rattle.picky_convert.specs.declared.error.Status.TheVariants as statuses
-use Rattle.picky_convert.specs.Report.{certificate_name, input_name, input_path, name, path, private_name, public_name, putty_name, report, word}
+use Rattle.picky_convert.specs.Report.{certificate_name, input_name, input_path, issuer_path, name, path, private_name, public_name, putty_name, report, request_name, word}
 
 -- ---- a name is short
 
@@ -48,14 +50,25 @@ input_path_short : (e : ReadError) → length (input_path e) < 100
 input_path_short (input.Private e) = omega arith
 input_path_short e = omega arith
 
+issuer_path_short : (e : ReadError) → length (issuer_path e) < 100
+issuer_path_short (input.Private e) = omega arith
+issuer_path_short e = omega arith
+
+request_short : (e : SshCertificateGenerationError) → length (request_name e) < 100
+request_short (requests.UnsupportedCertificateKeyType t) = omega arith
+request_short e = omega arith
+
 name_short : (e : ConvertError) → length (name e) < 100
 name_short (convert.Input e) = input_short e
+name_short (convert.Issuer e) = input_short e
+name_short (convert.Request e) = request_short e
 name_short (convert.Private e) = private_short e
 name_short (convert.Putty e) = putty_short e
 name_short e = omega arith
 
 path_short : (e : ConvertError) → length (path e) < 100
 path_short (convert.Input e) = input_path_short e
+path_short (convert.Issuer e) = issuer_path_short e
 path_short e = omega arith
 
 word_short : (status : Status) → length (word status) < 200

@@ -1,24 +1,29 @@
--- What a command line names, and what is written for a key text.
-use Rattle.std.specs.Prelude.{◌≡◌, List, [], ◌∷◌, ℕ, Bool, codes, Option, Some, None, Result, Ok, Err, ◌⊎◌, if◌then◌else◌}
+-- What a command line names, and what is written for the bytes of a source that are text.
+use Rattle.std.specs.Prelude.{◌≡◌, ◌⊎◌, List, [], ◌∷◌, ℕ, Bool, codes, Option, Some, None, Result, Ok, Err, if◌then◌else◌}
 use Rattle.std.specs.Str.{bytes_eq}
-use Rattle.picky_layout.specs.Outcome.{and_then, map_err}
-use Rattle.picky_suite.specs.Failures.{IsAskedFault}
+use Rattle.picky_layout.specs.Outcome.{and_then, map_err, map_ok}
 use Rattle.picky_kv_words.specs.declared.choices.PpkVersionKey.TheVariants.{V2, V3}
 use Rattle.picky_ppk_parts.specs.Config.{default_config}
+use Rattle.picky_issuing.specs.declared.options.CertOptions.{CertOptions}
+use Rattle.picky_issuing.specs.Options.{options_named}
 use Rattle.picky_key_text.specs.declared.meaning.Meaning.{Meaning}
 use Rattle.picky_key_text.specs.Key.{public_part}
-use Rattle.picky_key_text.specs.Order.{asks, fault_of as input_fault, reading}
+use Rattle.picky_key_text.specs.Order.{asks, reading}
 use Rattle.picky_key_text.specs.Reads.{Reads}
 use Rattle.picky_target.specs.declared.error.ConvertError.{ConvertError}
 use Rattle.picky_target.specs.declared.error.ConvertError.TheVariants as errors
-use Rattle.picky_target.specs.declared.target.Target.TheVariants as targets
+use Rattle.picky_target.specs.declared.target.KeyTarget.TheVariants as targets
 use Rattle.picky_target.specs.Carried.{Carries}
 use Rattle.picky_target.specs.ReadBack.{IsTarget}
+use Rattle.picky_cert_target.specs.Certified.{Relation}
 use Rattle.picky_convert.specs.declared.command.Command.{Command}
 use Rattle.picky_convert.specs.declared.command.Command.TheVariants as commands
-use Rattle.picky_convert.specs.Outside.{Outside, reader}
+use Rattle.picky_conversion.specs.Outside.{Outside, reader}
+use Rattle.picky_conversion.specs.Certify.{IsReadFault}
+use Rattle.picky_conversion.specs.Convert.{conversion, converting_asks, IsConversion, IsFaultOf}
 use Rattle.picky_convert.specs.Fingerprint.{fingerprint_text}
-use Rattle.picky_convert.specs.Convert.{conversion, converting_asks, IsConversion, IsFaultOf}
+use Rattle.picky_conversion.specs.Issue.{CanIssue, CanIssueBytes, IsIssued, IsIssuedBytes, IsIssuingFault, issued, issued_bytes, issuing_asks}
+use Rattle.picky_conversion.specs.Made.{Made, ToSign, Whole}
 
 unfoldable pub openssh : List ℕ
 openssh = codes "openssh"
@@ -38,7 +43,13 @@ putty_pub = codes "putty-pub"
 unfoldable pub fingerprint : List ℕ
 fingerprint = codes "fingerprint"
 
--- the command of a word; PuTTY's files are sealed with the default configuration
+unfoldable pub cert : List ℕ
+cert = codes "cert"
+
+unfoldable pub tbs : List ℕ
+tbs = codes "tbs"
+
+-- the command of a word alone; PuTTY's files are sealed with the default configuration
 abbrev pub command_of_word : List ℕ → Option Command
 command_of_word word =
     if bytes_eq word openssh then Some (commands.Convert targets.OpenSsh)
@@ -49,43 +60,59 @@ command_of_word word =
     else if bytes_eq word fingerprint then Some commands.Fingerprint
     else None
 
--- the command of a command line, which is one word
+-- nothing follows the word
+abbrev pub alone : List ℕ → List (List ℕ) → Option Command
+alone word [] = command_of_word word
+alone word (next ∷ more) = None
+
+abbrev pub with_options : (CertOptions → Command) → Option CertOptions → Option Command
+with_options command (Some options) = Some (command options)
+with_options command None = None
+
+-- the command of a command line: two take options
 abbrev pub command_of : List (List ℕ) → Option Command
 command_of [] = None
-command_of (word ∷ []) = command_of_word word
-command_of (word ∷ next ∷ more) = None
+command_of (word ∷ more) =
+    if bytes_eq word cert then with_options (λ options. commands.Certify options) (options_named more)
+    else if bytes_eq word tbs then with_options (λ options. commands.PrintSigned options) (options_named more)
+    else alone word more
 
 -- its numbers are a value's
 abbrev pub IsCommand : Command → Type 0
 IsCommand (commands.Convert target) = IsTarget target
+IsCommand (commands.Certify options) = Unit {0}
+IsCommand (commands.PrintSigned options) = Unit {0}
 IsCommand commands.Fingerprint = Unit {0}
 
 -- the words name the command
 abbrev pub Names : List (List ℕ) → Command → Type 0
 Names words command = command_of words ≡ Some command
 
--- the text that the command writes for a key text, or the first reason why it writes none
-abbrev pub answer : Outside → Command → List ℕ → Result (List ℕ) ConvertError
-answer o (commands.Convert target) text = conversion o target text
-answer o commands.Fingerprint text =
+-- the fingerprints of the key that a text means, or the first reason why there are none
+abbrev pub fingerprints : Outside → List ℕ → Result (List ℕ) ConvertError
+fingerprints o text =
     and_then (map_err errors.Input (reading (reader o) text)) (λ meaning. Ok (fingerprint_text (public_part meaning.key)))
+
+-- what the command comes to for a source's text before a device signs, or the first reason why it comes to nothing
+abbrev pub answer : Outside → Command → List ℕ → Result Made ConvertError
+answer o (commands.Convert target) text = map_ok Whole (conversion o target text)
+answer o (commands.Certify options) text = map_ok ToSign (issued o options text)
+answer o (commands.PrintSigned options) text = map_ok Whole (issued_bytes o options text)
+answer o commands.Fingerprint text = map_ok Whole (fingerprints o text)
 
 -- the suite is asked for it
 abbrev pub answering_asks : Outside → Command → List ℕ → Bool
 answering_asks o (commands.Convert target) text = converting_asks o target text
+answering_asks o (commands.Certify options) text = issuing_asks o text
+answering_asks o (commands.PrintSigned options) text = issuing_asks o text
 answering_asks o commands.Fingerprint text = asks o.pass_in text
 
 -- the refusal is the suite's fault
-abbrev pub IsFaultTo : Outside → Command → List ℕ → ConvertError → Type 0 → Type 0
-IsFaultTo o (commands.Convert target) text e rose = IsFaultOf o target text e rose
-IsFaultTo o commands.Fingerprint text e rose =
-    (e ≡ errors.Input (input_fault text)) × IsAskedFault (asks o.pass_in text) rose
-
--- what a command answers: its text, or the first reason; in its place want of memory may come, or the suite's fault
-abbrev pub AnswersTo : {X : Type 0} → (X → List ℕ) → Outside → Command → List ℕ → Type 0 → Result X ConvertError → Type 0
-AnswersTo view o command input rose (Ok text) = answer o command input ≡ Ok (view text)
-AnswersTo view o command input rose (Err e) =
-    (e ≡ errors.NoMemory) ⊎ IsFaultTo o command input e rose ⊎ (answer o command input ≡ Err e)
+abbrev pub IsFaultFor : Outside → Command → List ℕ → ConvertError → Type 0 → Type 0
+IsFaultFor o (commands.Convert target) text e rose = IsFaultOf o target text e rose
+IsFaultFor o (commands.Certify options) text e rose = IsIssuingFault o text e rose
+IsFaultFor o (commands.PrintSigned options) text e rose = IsIssuingFault o text e rose
+IsFaultFor o commands.Fingerprint text e rose = IsReadFault o text e rose
 
 -- the text is the fingerprints of the one key that the key text means
 pub record IsFingerprint (o : Outside) (input text : List ℕ) : Type 0 where
@@ -94,12 +121,17 @@ pub record IsFingerprint (o : Outside) (input text : List ℕ) : Type 0 where
   pub one : (other : Meaning) → Reads (reader o) input other → other ≡ meaning
   pub is : text ≡ fingerprint_text (public_part meaning.key)
 
--- the text is what the command writes for the key text
-abbrev pub IsAnswer : Outside → Command → List ℕ → List ℕ → Type 0
-IsAnswer o (commands.Convert target) input text = IsConversion o target input text
-IsAnswer o commands.Fingerprint input text = IsFingerprint o input text
+-- the text is what the command writes for a source's text
+abbrev pub IsAnswer : Relation → Outside → Command → List ℕ → List ℕ → Type 0
+IsAnswer signs o (commands.Convert target) input text = IsConversion o target input text
+IsAnswer signs o (commands.Certify options) input text = IsIssued signs o options input text
+IsAnswer signs o (commands.PrintSigned options) input text = IsIssuedBytes o options input text
+IsAnswer signs o commands.Fingerprint input text = IsFingerprint o input text
 
--- the command writes a text for the meaning: the target carries it, and each key has fingerprints
-abbrev pub CanWrite : Outside → Command → Meaning → Type 0
-CanWrite o (commands.Convert target) meaning = Carries o.output target meaning
-CanWrite o commands.Fingerprint meaning = Unit {0}
+-- the source's text is one for which the command comes to something: the target carries its meaning, each key has fingerprints,
+-- and a request comes to a certificate
+abbrev pub CanAnswer : Outside → Command → List ℕ → Type 0
+CanAnswer o (commands.Convert target) input = (meaning : Meaning) × Reads (reader o) input meaning × Carries o.output target meaning
+CanAnswer o (commands.Certify options) input = CanIssue o options input
+CanAnswer o (commands.PrintSigned options) input = CanIssueBytes o options input
+CanAnswer o commands.Fingerprint input = (meaning : Meaning) × Reads (reader o) input meaning

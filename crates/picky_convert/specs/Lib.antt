@@ -1,7 +1,3 @@
-pub mod Outside
-pub mod Want
-pub mod Convert
-pub mod Chain
 pub mod Fingerprint
 pub mod Command
 pub mod Run

@@ -10,6 +10,8 @@ use Rattle.picky_ppk_parts.specs.declared.error.PuttyError.{PuttyError}
 use Rattle.picky_ppk_parts.specs.declared.error.PuttyError.TheVariants as putty
 use Rattle.picky_key_text.specs.declared.error.ReadError.{ReadError}
 use Rattle.picky_key_text.specs.declared.error.ReadError.TheVariants as input
+use Rattle.picky_cert_builder.specs.declared.error.SshCertificateGenerationError.{SshCertificateGenerationError}
+use Rattle.picky_cert_builder.specs.declared.error.SshCertificateGenerationError.TheVariants as requests
 use Rattle.picky_target.specs.declared.error.ConvertError.{ConvertError}
 use Rattle.picky_target.specs.declared.error.ConvertError.TheVariants as convert
 use Rattle.picky_convert.specs.declared.error.Status.{Status}
@@ -99,15 +101,41 @@ input_name (input.Certificate e) = certificate_name e
 input_name (input.Putty e) = putty_name e
 input_name input.NoMemory = codes "NoMemory"
 
+-- and of the issuer's text
+abbrev pub issuer_path : ReadError → List ℕ
+issuer_path (input.Private e) = codes "refused: issuer.private."
+issuer_path (input.Public e) = codes "refused: issuer.public."
+issuer_path (input.Certificate e) = codes "refused: issuer.cert."
+issuer_path (input.Putty e) = codes "refused: issuer.putty."
+issuer_path input.NoMemory = codes "refused: issuer."
+
+abbrev pub request_name : SshCertificateGenerationError → List ℕ
+request_name (requests.UnsupportedCertificateKeyType t) = codes "UnsupportedCertificateKeyType"
+request_name requests.IncorrectSignatureAlgorithm = codes "IncorrectSignatureAlgorithm"
+request_name requests.MissingPublicKey = codes "MissingPublicKey"
+request_name requests.MissingCertificateType = codes "MissingCertificateType"
+request_name requests.InvalidTime = codes "InvalidTime"
+request_name requests.MissingSignatureKey = codes "MissingSignatureKey"
+request_name requests.HostCertificateExtensions = codes "HostCertificateExtensions"
+request_name requests.HostCertificateCriticalOptions = codes "HostCertificateCriticalOptions"
+request_name requests.NoKeyType = codes "NoKeyType"
+request_name requests.SignatureError = codes "SignatureError"
+request_name requests.TooLong = codes "TooLong"
+request_name requests.NoMemory = codes "NoMemory"
+
 -- of a conversion's
 abbrev pub path : ConvertError → List ℕ
 path (convert.Input e) = input_path e
+path (convert.Issuer e) = issuer_path e
+path (convert.Request e) = codes "refused: request."
 path (convert.Private e) = codes "refused: output.private."
 path (convert.Putty e) = codes "refused: output.putty."
 path e = codes "refused: "
 
 abbrev pub name : ConvertError → List ℕ
 name (convert.Input e) = input_name e
+name (convert.Issuer e) = input_name e
+name (convert.Request e) = request_name e
 name convert.NoPrivateKey = codes "NoPrivateKey"
 name convert.CommentNotCarried = codes "CommentNotCarried"
 name (convert.Private e) = private_name e

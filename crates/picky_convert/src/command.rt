@@ -1,26 +1,29 @@
 //! The commands.
 
-ghost use Rattle.std.specs.Prelude.{◌≡◌, ◌≤◌, length, string_bytes, MatchOption};
+ghost use Rattle.std.specs.Prelude.{◌≡◌, ◌⊎◌, ◌≤◌, ◌∷◌, length, string_bytes, IfOk, MatchOption};
 ghost use Rattle.std.specs.Option.{option_copied};
 ghost use Rattle.std.specs.Str.{IsUtf8};
-ghost use Rattle.picky_suite.specs.Asked.{GivesAsked, LeavesSuite};
 ghost use Rattle.picky_wire.specs.Count.{Rose};
 ghost use Rattle.picky_ppk_parts.specs.Config.{default_config};
 ghost use Rattle.picky_key_text.specs.Order.{asks};
-ghost use Rattle.picky_target.specs.Output.{Output};
-ghost use Rattle.picky_convert.specs.Command.{AnswersTo, answering_asks, command_of as command_named, command_of_word};
-ghost use Rattle.picky_convert.specs.Convert.{LeavesAskedSuite};
-ghost use Rattle.picky_convert.specs.Run.{input_limit, outcome, outcome_asks};
-ghost use Rattle.picky_convert.specs.inner.Causes.{outside, refusal_status};
+ghost use Rattle.picky_conversion.specs.Certify.{IsReadFault};
+ghost use Rattle.picky_convert.specs.Command.{IsFaultFor, answer, answering_asks, command_of as command_named, command_of_word, fingerprints};
+ghost use Rattle.picky_conversion.specs.Convert.{LeavesAskedSuite};
+ghost use Rattle.picky_conversion.specs.Made.{Answers, AnswersPlain, LeavesSigner, is_signed};
+ghost use Rattle.picky_convert.specs.Run.{input_limit, outcome_asks, outcome_signs};
+ghost use Rattle.picky_conversion.specs.Outside.{outside};
+ghost use Rattle.picky_convert.specs.inner.Causes.{LeavesSignerAt, LeavesSuiteAt, Performs, refusal_status};
 
-use crate::conversion::{convert, input_refusal};
 use crate::error::Status;
 use crate::fingerprint::fingerprint_text;
+use picky_cert_builder::SshCertificateGenerationError;
+use picky_conversion::{Given, convert_key, input_refusal, issue, print_signed};
+use picky_issuing::{CertOptions, options_of};
 use picky_key_text::{ReadError, public_key, read_text};
 use picky_ppk::{PpkEncryptionConfig, PpkVersion, PuttyError};
 use picky_sshkey::SshPrivateKeyError;
-use picky_suite::Suite;
-use picky_target::{ConvertError, Target};
+use picky_suite::{Signer, Suite};
+use picky_target::{ConvertError, KeyTarget};
 use picky_wire::{NoMemory, Text};
 use std::alloc::Global;
 use std::str;
@@ -37,38 +40,63 @@ const PUTTY_PUB: &str = "putty-pub";
 
 const FINGERPRINT: &str = "fingerprint";
 
+const CERT: &str = "cert";
+
+const TBS: &str = "tbs";
+
 /// What a command line names.
-#[derive(Clone, Copy, Debug, PartialEq, Eq)]
+#[derive(Drop)]
 pub enum Command {
-    Convert(Target),
+    Convert(KeyTarget),
+    /// The line of a certificate.
+    Certify(CertOptions),
+    /// What is signed of it, in hex.
+    PrintSigned(CertOptions),
     Fingerprint,
 }
 
-/// What a run is given beside its words and its streams.
-#[derive(Clone, Copy)]
-pub struct Given<'a> {
-    pub pass_in: Option<&'a str>,
-    pub pass_out: Option<&'a str>,
-    pub fresh: &'a [u8],
-}
-
-/// The command that the words name.
-pub fn command_of(words: &[Text]) -> Option<Command>
-    ensures { result ≡ command_named words.now }
+/// The command that the words name. Refuses: `NoMemory`.
+pub fn command_of(alloc: Global, words: &[Text]) -> Result<Option<Command>, NoMemory>
+    ensures { IfOk result (λ command. command ≡ command_named words.now) }
 {
-    match words {
-        [word] => command_of_text(word.as_str()),
-        _ => None,
+    match words.split_first() {
+        Some((word, more)) => command_with(alloc, word.as_str(), more),
+        None => Ok(None),
     }
 }
 
-/// The command of one word.
+/// The command of a word, and what follows it. Refuses: `NoMemory`.
+#[tactic(auto, unfolding(crate::specs::Command::cert, crate::specs::Command::tbs))]
+fn command_with(alloc: Global, word: &str, more: &[Text]) -> Result<Option<Command>, NoMemory>
+    ensures { IfOk result (λ command. command ≡ command_named (word.now ∷ more.now)) }
+{
+    if word == CERT {
+        return match options_of(alloc, more) {
+            Ok(Some(options)) => Ok(Some(Command::Certify(options))),
+            Ok(None) => Ok(None),
+            Err(NoMemory) => Err(NoMemory),
+        };
+    }
+    if word == TBS {
+        return match options_of(alloc, more) {
+            Ok(Some(options)) => Ok(Some(Command::PrintSigned(options))),
+            Ok(None) => Ok(None),
+            Err(NoMemory) => Err(NoMemory),
+        };
+    }
+    if more.is_empty() {
+        return Ok(command_of_text(word));
+    }
+    Ok(None)
+}
+
+/// The command of a word alone.
 #[tactic(auto, unfolding(crate::specs::Command::openssh, crate::specs::Command::ppk2, crate::specs::Command::ppk3, crate::specs::Command::ssh_pub, crate::specs::Command::putty_pub, crate::specs::Command::fingerprint))]
 fn command_of_text(word: &str) -> Option<Command>
     ensures { result ≡ command_of_word word.now }
 {
     if word == OPENSSH {
-        return Some(Command::Convert(Target::OpenSsh));
+        return Some(Command::Convert(KeyTarget::OpenSsh));
     }
     if word == PPK2 {
         return Some(Command::Convert(file_of(PpkVersion::V2)));
@@ -77,10 +105,10 @@ fn command_of_text(word: &str) -> Option<Command>
         return Some(Command::Convert(file_of(PpkVersion::V3)));
     }
     if word == SSH_PUB {
-        return Some(Command::Convert(Target::OpenSshPublic));
+        return Some(Command::Convert(KeyTarget::OpenSshPublic));
     }
     if word == PUTTY_PUB {
-        return Some(Command::Convert(Target::PuttyPublic));
+        return Some(Command::Convert(KeyTarget::PuttyPublic));
     }
     if word == FINGERPRINT {
         return Some(Command::Fingerprint);
@@ -89,30 +117,32 @@ fn command_of_text(word: &str) -> Option<Command>
 }
 
 /// PuTTY's file in a version, sealed with the default configuration.
-fn file_of(version: PpkVersion) -> Target
-    ensures { result ≡ Target.Ppk version default_config }
+fn file_of(version: PpkVersion) -> KeyTarget
+    ensures { result ≡ KeyTarget.Ppk version default_config }
 {
-    Target::Ppk(version, PpkEncryptionConfig::default())
+    KeyTarget::Ppk(version, PpkEncryptionConfig::default())
 }
 
 /// The text that the command writes for these bytes, or the status that says why it writes none.
-#[tactic(auto, using(crate::proofs::OutcomeLemmas::outcomes))]
-pub fn perform<S: Suite>(
+pub fn perform<S: Suite, G: Signer>(
     alloc: Global,
     command: Command,
     given: Given<'_>,
     suite: &mut S,
+    signer: &mut G,
     input: &[u8],
 ) -> Result<String, Status>
     requires { length input.now ≤ input_limit }
-    ensures gives { GivesAsked Status.NoMemory Status.OutsideFault string_bytes result
-        (outcome (outside (S.meanings suite.old) given.entry) command input.now)
-        (outcome_asks (outside (S.meanings suite.old) given.entry) command input.now) (Rose (S.faults suite.old) (S.faults suite.new)) }
-    ensures suite { LeavesSuite S.meanings S.faults Status.OutsideFault
+    ensures gives { Performs (G.signs signer.old) string_bytes (outside (S.meanings suite.old) given.entry) command input.now
+        (Rose (S.faults suite.old) (S.faults suite.new)) (Rose (G.faults signer.old) (G.faults signer.new)) result }
+    ensures suite { LeavesSuiteAt S.meanings S.faults
         (outcome_asks (outside (S.meanings suite.old) given.entry) command input.now) result suite.old suite.new }
+    ensures signer { LeavesSignerAt G.signs G.faults
+        (outcome_signs (outside (S.meanings suite.old) given.entry) command input.now) result signer.old signer.new }
+    ensures one_counts { (S.faults suite.new ≡ S.faults suite.old) ⊎ (G.faults signer.new ≡ G.faults signer.old) }
 {
     match as_text(input) {
-        Some(text) => match answer_to(alloc, command, given, suite, text) {
+        Some(text) => match answer_to(alloc, command, given, suite, signer, text) {
             Ok(text) => Ok(text),
             Err(e) => Err(status_of(e)),
         },
@@ -128,6 +158,9 @@ fn status_of(e: ConvertError) -> Status
         ConvertError::NoMemory => Status::NoMemory,
         ConvertError::Input(ReadError::Private(SshPrivateKeyError::SuiteFault))
         | ConvertError::Input(ReadError::Putty(PuttyError::SuiteFault))
+        | ConvertError::Issuer(ReadError::Private(SshPrivateKeyError::SuiteFault))
+        | ConvertError::Issuer(ReadError::Putty(PuttyError::SuiteFault))
+        | ConvertError::Request(SshCertificateGenerationError::SignatureError)
         | ConvertError::Private(SshPrivateKeyError::SuiteFault)
         | ConvertError::Putty(PuttyError::SuiteFault) => Status::OutsideFault,
         e => Status::Refused(e),
@@ -141,32 +174,34 @@ fn as_text(bytes: &[u8]) -> Option<&str>
     str::from_utf8(bytes).ok()
 }
 
-/// The text that the command writes for a key text.
-fn answer_to<S: Suite>(
+/// The text that the command writes for a source's text.
+fn answer_to<S: Suite, G: Signer>(
     alloc: Global,
     command: Command,
     given: Given<'_>,
     suite: &mut S,
+    signer: &mut G,
     text: &str,
 ) -> Result<String, ConvertError>
-    ensures gives { AnswersTo string_bytes (outside (S.meanings suite.old) given.entry) command text.now
-        (Rose (S.faults suite.old) (S.faults suite.new)) result }
+    ensures gives { Answers (G.signs signer.old) string_bytes (answer (outside (S.meanings suite.old) given.entry) command text.now)
+        (λ e. IsFaultFor (outside (S.meanings suite.old) given.entry) command text.now e (Rose (S.faults suite.old) (S.faults suite.new)))
+        (Rose (G.faults signer.old) (G.faults signer.new)) result }
     ensures suite { LeavesAskedSuite S.meanings S.faults
         (answering_asks (outside (S.meanings suite.old) given.entry) command text.now) result suite.old suite.new }
+    ensures signer { LeavesSigner G.signs G.faults
+        (is_signed (answer (outside (S.meanings suite.old) given.entry) command text.now)) result signer.old signer.new }
 {
-    let Given {
-        pass_in,
-        pass_out,
-        fresh,
-    } = given;
     match command {
-        Command::Convert(target) => {
-            match convert(alloc, suite, text, pass_in, &target, pass_out, fresh) {
-                Ok(text) => Ok(text.into_string()),
-                Err(e) => Err(e),
-            }
-        }
-        Command::Fingerprint => fingerprint(alloc, suite, text, pass_in),
+        Command::Convert(target) => match convert_key(alloc, suite, text, target, given) {
+            Ok(text) => Ok(text.into_string()),
+            Err(e) => Err(e),
+        },
+        Command::Certify(options) => match issue(alloc, suite, signer, options, text, given) {
+            Ok(text) => Ok(text.into_string()),
+            Err(e) => Err(e),
+        },
+        Command::PrintSigned(options) => print_signed(alloc, suite, options, text, given),
+        Command::Fingerprint => fingerprint(alloc, suite, text, given),
     }
 }
 
@@ -175,14 +210,13 @@ fn fingerprint<S: Suite>(
     alloc: Global,
     suite: &mut S,
     text: &str,
-    pass_in: Option<&str>,
+    given: Given<'_>,
 ) -> Result<String, ConvertError>
-    ensures gives { (output : Output) → AnswersTo string_bytes
-        (record { meanings = S.meanings suite.old; pass_in = option_copied pass_in.entry; output = output }) Command.Fingerprint text.now
-        (Rose (S.faults suite.old) (S.faults suite.new)) result }
-    ensures suite { LeavesAskedSuite S.meanings S.faults (asks (option_copied pass_in.entry) text.now) result suite.old suite.new }
+    ensures gives { AnswersPlain string_bytes (fingerprints (outside (S.meanings suite.old) given.entry) text.now)
+        (λ e. IsReadFault (outside (S.meanings suite.old) given.entry) text.now e (Rose (S.faults suite.old) (S.faults suite.new))) result }
+    ensures suite { LeavesAskedSuite S.meanings S.faults (asks (option_copied given.entry.pass_in) text.now) result suite.old suite.new }
 {
-    match read_text(alloc, suite, text, pass_in) {
+    match read_text(alloc, suite, text, given.pass_in) {
         Ok(meaning) => match public_key(alloc, meaning) {
             Ok(key) => match fingerprint_text(alloc, &key) {
                 Ok(text) => Ok(text),

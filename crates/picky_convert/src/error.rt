@@ -17,7 +17,7 @@ pub enum Status {
     ReadFault,
     /// `out` failed.
     WriteFault,
-    /// The suite failed, which was asked to open the key text or to seal what is written.
+    /// The suite failed, which was asked to open the key text or to seal what is written; or the signer.
     OutsideFault,
     /// Memory ran out.
     NoMemory,

@@ -1,8 +1,7 @@
-//! The conversion of key texts, and the run of the program over it.
+//! The run of the program, over the conversion of key texts.
 #![tactic(auto)]
 
 mod command;
-mod conversion;
 mod error;
 mod fingerprint;
 mod input;
@@ -10,9 +9,10 @@ pub mod laws;
 mod program;
 mod reports;
 
-pub use conversion::convert;
 pub use error::Status;
+pub use picky_cert_target::CertRequest;
+pub use picky_conversion::{Target, convert};
 pub use picky_key_text::{Key, Meaning, ReadError, read_text};
-pub use picky_target::{ConvertError, Target};
+pub use picky_target::ConvertError;
 pub use program::run;
 pub use reports::{StatusWord, word};

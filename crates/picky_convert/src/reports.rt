@@ -1,10 +1,11 @@
 //! The line that says on standard error how a run ended.
 
 ghost use Rattle.std.specs.Prelude.{◌≡◌, ◌++◌, []};
-ghost use Rattle.picky_convert.specs.Report.{certificate_name as certificate_name_of, input_name as input_name_of, name as name_of, path as path_of, private_name as private_name_of, public_name as public_name_of, putty_name as putty_name_of, status_path, word as word_of};
+ghost use Rattle.picky_convert.specs.Report.{certificate_name as certificate_name_of, input_name as input_name_of, input_path as input_path_of, issuer_path as issuer_path_of, name as name_of, path as path_of, private_name as private_name_of, public_name as public_name_of, putty_name as putty_name_of, request_name as request_name_of, status_path, word as word_of};
 
 use crate::error::Status;
 use picky_cert::SshCertificateError;
+use picky_cert_builder::SshCertificateGenerationError;
 use picky_key_text::ReadError;
 use picky_ppk::PuttyError;
 use picky_sshkey::SshPrivateKeyError;
@@ -55,11 +56,9 @@ fn path(e: &ConvertError) -> &'static str
     ensures { result.now ≡ path_of e.now }
 {
     match e {
-        ConvertError::Input(ReadError::Private(_)) => "refused: input.private.",
-        ConvertError::Input(ReadError::Public(_)) => "refused: input.public.",
-        ConvertError::Input(ReadError::Certificate(_)) => "refused: input.cert.",
-        ConvertError::Input(ReadError::Putty(_)) => "refused: input.putty.",
-        ConvertError::Input(ReadError::NoMemory) => "refused: input.",
+        ConvertError::Input(e) => input_path(e),
+        ConvertError::Issuer(e) => issuer_path(e),
+        ConvertError::Request(_) => "refused: request.",
         ConvertError::Private(_) => "refused: output.private.",
         ConvertError::Putty(_) => "refused: output.putty.",
         ConvertError::NoPrivateKey
@@ -71,12 +70,39 @@ fn path(e: &ConvertError) -> &'static str
     }
 }
 
+/// The path to a refusal of the key text.
+fn input_path(e: &ReadError) -> &'static str
+    ensures { result.now ≡ input_path_of e.now }
+{
+    match e {
+        ReadError::Private(_) => "refused: input.private.",
+        ReadError::Public(_) => "refused: input.public.",
+        ReadError::Certificate(_) => "refused: input.cert.",
+        ReadError::Putty(_) => "refused: input.putty.",
+        ReadError::NoMemory => "refused: input.",
+    }
+}
+
+/// The path to a refusal of the issuer's text.
+fn issuer_path(e: &ReadError) -> &'static str
+    ensures { result.now ≡ issuer_path_of e.now }
+{
+    match e {
+        ReadError::Private(_) => "refused: issuer.private.",
+        ReadError::Public(_) => "refused: issuer.public.",
+        ReadError::Certificate(_) => "refused: issuer.cert.",
+        ReadError::Putty(_) => "refused: issuer.putty.",
+        ReadError::NoMemory => "refused: issuer.",
+    }
+}
+
 /// Its name.
 fn name(e: &ConvertError) -> &'static str
     ensures { result.now ≡ name_of e.now }
 {
     match e {
-        ConvertError::Input(e) => input_name(e),
+        ConvertError::Input(e) | ConvertError::Issuer(e) => input_name(e),
+        ConvertError::Request(e) => request_name(e),
         ConvertError::NoPrivateKey => "NoPrivateKey",
         ConvertError::CommentNotCarried => "CommentNotCarried",
         ConvertError::Private(e) => private_name(e),
@@ -185,5 +211,28 @@ fn putty_name(e: &PuttyError) -> &'static str
         PuttyError::TooLong => "TooLong",
         PuttyError::TooManyLines => "TooManyLines",
         PuttyError::NoMemory => "NoMemory",
+    }
+}
+
+fn request_name(e: &SshCertificateGenerationError) -> &'static str
+    ensures { result.now ≡ request_name_of e.now }
+{
+    match e {
+        SshCertificateGenerationError::UnsupportedCertificateKeyType(_) => {
+            "UnsupportedCertificateKeyType"
+        }
+        SshCertificateGenerationError::IncorrectSignatureAlgorithm => "IncorrectSignatureAlgorithm",
+        SshCertificateGenerationError::MissingPublicKey => "MissingPublicKey",
+        SshCertificateGenerationError::MissingCertificateType => "MissingCertificateType",
+        SshCertificateGenerationError::InvalidTime => "InvalidTime",
+        SshCertificateGenerationError::MissingSignatureKey => "MissingSignatureKey",
+        SshCertificateGenerationError::HostCertificateExtensions => "HostCertificateExtensions",
+        SshCertificateGenerationError::HostCertificateCriticalOptions => {
+            "HostCertificateCriticalOptions"
+        }
+        SshCertificateGenerationError::NoKeyType => "NoKeyType",
+        SshCertificateGenerationError::SignatureError => "SignatureError",
+        SshCertificateGenerationError::TooLong => "TooLong",
+        SshCertificateGenerationError::NoMemory => "NoMemory",
     }
 }

@@ -23,7 +23,7 @@ use Rattle.picky_sshkey.proofs.ReadLaws.{made_is_kept}
 use Rattle.picky_key_text.specs.declared.meaning.Key.TheVariants as keys
 use Rattle.picky_key_text.specs.Key.{private_meaning}
 use Rattle.picky_key_text.specs.Reads.{Means, Reads}
-use Rattle.picky_target.specs.declared.target.Target.TheVariants as targets
+use Rattle.picky_target.specs.declared.target.KeyTarget.TheVariants as targets
 use Rattle.picky_target.specs.Output.{Output}
 use Rattle.picky_target.specs.Carried.{Carries, Comment, Derivation, Derives, Fresh, Length, need_under}
 use Rattle.picky_target.specs.Drafts.{openssh_key}

@@ -9,7 +9,7 @@ use Rattle.picky_sshkey.specs.declared.private_key.SshPrivateKey.{SshPrivateKey}
 use Rattle.picky_sshkey.specs.Made.{key_made, made_of, made_option}
 use Rattle.picky_target.specs.declared.error.ConvertError.{ConvertError}
 use Rattle.picky_target.specs.declared.error.ConvertError.TheVariants as errors
-use Rattle.picky_target.specs.declared.target.Target.TheVariants as targets
+use Rattle.picky_target.specs.declared.target.KeyTarget.TheVariants as targets
 use Rattle.picky_target.specs.Judged.{carries_comment}
 use Rattle.picky_target.specs.Output.{Output}
 use Rattle.picky_target.specs.inner.Envelope.{envelope_refusal, made, drafted, salt_judged}

@@ -19,7 +19,7 @@ use Rattle.picky_sshkey.specs.Made.{key_made, made_of}
 use Rattle.picky_sshkey.specs.Written.{envelope_of, fields_of, key_text, padding_of, plain_block, sealable, text_writing_asks, unit_of}
 use Rattle.picky_sshkey.proofs.WrittenLemmas.{block_within}
 use Rattle.picky_key_text.specs.Key.{private_meaning}
-use Rattle.picky_target.specs.declared.target.Target.TheVariants as targets
+use Rattle.picky_target.specs.declared.target.KeyTarget.TheVariants as targets
 use Rattle.picky_target.specs.Output.{Output}
 use Rattle.picky_target.specs.Judged.{is_short_envelope, is_trimmed, judged}
 use Rattle.picky_target.specs.Written.{written, writing_asks}

@@ -22,7 +22,7 @@ use Rattle.picky_ppk.specs.Changed.{file_of_parts, of_base_key}
 use Rattle.picky_ppk.specs.Sealed.{draft_of}
 use Rattle.picky_target.specs.declared.error.ConvertError.{ConvertError}
 use Rattle.picky_target.specs.declared.error.ConvertError.TheVariants as errors
-use Rattle.picky_target.specs.declared.target.Target.TheVariants as targets
+use Rattle.picky_target.specs.declared.target.KeyTarget.TheVariants as targets
 use Rattle.picky_target.specs.Drafts.{salt_len, padding_len, parts_of}
 use Rattle.picky_target.specs.Judged.{derives_under}
 use Rattle.picky_target.specs.inner.File.{text_of_file, judged_text, drawn, measured, plain_of, plain_drafted, plain_written, zeroed}

@@ -42,7 +42,7 @@ use Rattle.picky_ppk.proofs.CheckedLaws.{made_file_carries}
 use Rattle.picky_key_text.specs.Key.{private_meaning}
 use Rattle.picky_key_text.specs.PpkText.{CanOpen, IsPpkText}
 use Rattle.picky_key_text.specs.Reads.{Means, Reads}
-use Rattle.picky_target.specs.declared.target.Target.TheVariants as targets
+use Rattle.picky_target.specs.declared.target.KeyTarget.TheVariants as targets
 use Rattle.picky_target.specs.Output.{Output}
 use Rattle.picky_target.specs.Carried.{Carries, Comment, Derivation, DerivesUnder, Fresh, Kind, Length, Lines}
 use Rattle.picky_target.specs.Drafts.{parts_of, plain_file, ppk_file, sealed_file, salt_len, padding_len}

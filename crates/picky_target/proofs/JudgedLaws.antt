@@ -2,7 +2,7 @@
 use Rattle.std.proofs.Common.{◌≡◌, List, [], ◌∷◌, Bool, true, false, Ok, Err, refl, if◌then◌else◌}
 use Rattle.picky_key_text.specs.declared.meaning.Meaning.{Meaning}
 use Rattle.picky_target.specs.declared.error.ConvertError.{ConvertError}
-use Rattle.picky_target.specs.declared.target.Target.{Target}
+use Rattle.picky_target.specs.declared.target.KeyTarget.{KeyTarget}
 use Rattle.picky_target.specs.Output.{Output}
 use Rattle.picky_target.specs.Carried.{Carries, Holds, Place, places}
 use Rattle.picky_target.specs.Carried.{PrivateKey, Kind, Comment, Derivation, Fresh, Length, Lines}
@@ -56,21 +56,21 @@ all_pass test each =
 
 -- ---- the judgement
 
-pub judged_carries : (out : Output) (target : Target) (meaning : Meaning) → judged out target meaning ≡ Ok (tt {0})
+pub judged_carries : (out : Output) (target : KeyTarget) (meaning : Meaning) → judged out target meaning ≡ Ok (tt {0})
     → Carries out target meaning
 unfolding judged
 judged_carries out target meaning is =
     let each = passes_from (passes out target meaning) (refusal target) places is in
     record { holds = λ place. holds_from_test out target meaning place (at_each (passes out target meaning) each place) }
 
-pub carried_is_judged : (out : Output) (target : Target) (meaning : Meaning) → Carries out target meaning
+pub carried_is_judged : (out : Output) (target : KeyTarget) (meaning : Meaning) → Carries out target meaning
     → judged out target meaning ≡ Ok (tt {0})
 unfolding judged
 carried_is_judged out target meaning carries =
     passes_to (passes out target meaning) (refusal target) places
     (all_pass (passes out target meaning) (λ place. test_from_holds out target meaning place (carries.holds place)))
 
-pub refused_place : (out : Output) (target : Target) (meaning : Meaning) (e : ConvertError) → judged out target meaning ≡ Err e
+pub refused_place : (out : Output) (target : KeyTarget) (meaning : Meaning) (e : ConvertError) → judged out target meaning ≡ Err e
     → (place : Place) × (e ≡ refusal target place) × (Holds out target meaning place → ⊥)
 unfolding judged
 refused_place out target meaning e is =

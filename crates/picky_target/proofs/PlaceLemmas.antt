@@ -30,8 +30,8 @@ use Rattle.picky_key_text.specs.declared.meaning.Key.{Key}
 use Rattle.picky_key_text.specs.declared.meaning.Key.TheVariants as keys
 use Rattle.picky_key_text.specs.declared.meaning.Meaning.{Meaning}
 use Rattle.picky_key_text.specs.Key.{public_part, public_key}
-use Rattle.picky_target.specs.declared.target.Target.{Target}
-use Rattle.picky_target.specs.declared.target.Target.TheVariants as targets
+use Rattle.picky_target.specs.declared.target.KeyTarget.{KeyTarget}
+use Rattle.picky_target.specs.declared.target.KeyTarget.TheVariants as targets
 use Rattle.picky_target.specs.Output.{Output}
 use Rattle.picky_target.specs.Drafts.{openssh_key, ppk_file, private_bytes}
 use Rattle.picky_target.specs.Texts.{envelope_text}
@@ -43,7 +43,7 @@ use Rattle.picky_target.proofs.TestLemmas.{not_true, test_from_has_no, no_end_fr
 
 -- ---- a private key
 
-secret_holds : (target : Target) (key : Key) → has_secret target key ≡ true → HasSecret target key
+secret_holds : (target : KeyTarget) (key : Key) → has_secret target key ≡ true → HasSecret target key
 secret_holds targets.OpenSsh (keys.Private key) test = tt
 secret_holds targets.OpenSsh (keys.Public key) test = cc test
 secret_holds (targets.Ppk version config) (keys.Private key) test = tt
@@ -51,7 +51,7 @@ secret_holds (targets.Ppk version config) (keys.Public key) test = cc test
 secret_holds targets.OpenSshPublic key test = tt
 secret_holds targets.PuttyPublic key test = tt
 
-secret_test : (target : Target) (key : Key) → HasSecret target key → has_secret target key ≡ true
+secret_test : (target : KeyTarget) (key : Key) → HasSecret target key → has_secret target key ≡ true
 secret_test targets.OpenSsh (keys.Private key) holds = refl
 secret_test targets.OpenSsh (keys.Public key) holds = absurd holds
 secret_test (targets.Ppk version config) (keys.Private key) holds = refl
@@ -61,13 +61,13 @@ secret_test targets.PuttyPublic key holds = refl
 
 -- ---- the kind
 
-kind_holds : (target : Target) (key : Key) → has_kind target key ≡ true → HasKind target key
+kind_holds : (target : KeyTarget) (key : Key) → has_kind target key ≡ true → HasKind target key
 kind_holds targets.OpenSsh key test = tt
 kind_holds (targets.Ppk version config) key test = not_true (is_hardware (public_part key)) test
 kind_holds targets.OpenSshPublic key test = tt
 kind_holds targets.PuttyPublic key test = not_true (is_hardware (public_part key)) test
 
-kind_test : (target : Target) (key : Key) → HasKind target key → has_kind target key ≡ true
+kind_test : (target : KeyTarget) (key : Key) → HasKind target key → has_kind target key ≡ true
 kind_test targets.OpenSsh key holds = refl
 kind_test (targets.Ppk version config) key holds = ap not holds
 kind_test targets.OpenSshPublic key holds = refl
@@ -81,7 +81,7 @@ no_lf_holds comment test = no_by_test 10 comment (not_true (has_lf comment) test
 no_lf_test : (comment : List ℕ) → HasNo 10 comment → not (has_lf comment) ≡ true
 no_lf_test comment holds = ap not (test_from_has_no 10 comment holds)
 
-comment_holds : (target : Target) (comment : List ℕ) → carries_comment target comment ≡ true → CarriesComment target comment
+pub comment_holds : (target : KeyTarget) (comment : List ℕ) → carries_comment target comment ≡ true → CarriesComment target comment
 comment_holds targets.OpenSsh comment test = (bytes_eq-Decides (trim_end comment) comment).0 test
 comment_holds (targets.Ppk V2 config) comment test = no_lf_holds comment test
 comment_holds (targets.Ppk V3 config) comment test =
@@ -94,7 +94,7 @@ comment_holds targets.OpenSshPublic comment test =
     record { no_cr = none.0; no_lf = none.1; trimmed = (bytes_eq-Decides (trim_end comment) comment).0 parts.1 }
 comment_holds targets.PuttyPublic comment test = no_lf_holds comment test
 
-comment_test : (target : Target) (comment : List ℕ) → CarriesComment target comment → carries_comment target comment ≡ true
+pub comment_test : (target : KeyTarget) (comment : List ℕ) → CarriesComment target comment → carries_comment target comment ≡ true
 comment_test targets.OpenSsh comment holds = (bytes_eq-Decides (trim_end comment) comment).1 holds
 comment_test (targets.Ppk V2 config) comment holds = no_lf_test comment holds
 comment_test (targets.Ppk V3 config) comment holds =
@@ -106,7 +106,7 @@ comment_test targets.PuttyPublic comment holds = no_lf_test comment holds
 
 -- ---- the keys that seal
 
-derivation_holds : (target : Target) (pass : Option (List ℕ)) → derives target pass ≡ true → Derives target pass
+derivation_holds : (target : KeyTarget) (pass : Option (List ℕ)) → derives target pass ≡ true → Derives target pass
 derivation_holds target None test = tt
 derivation_holds targets.OpenSsh (Some pass) test = (bcrypt_decides (length pass) 16 16).0 test
 derivation_holds (targets.Ppk V2 config) (Some pass) test = tt
@@ -115,7 +115,7 @@ derivation_holds (targets.Ppk V3 config) (Some pass) test =
 derivation_holds targets.OpenSshPublic (Some pass) test = tt
 derivation_holds targets.PuttyPublic (Some pass) test = tt
 
-derivation_test : (target : Target) (pass : Option (List ℕ)) → Derives target pass → derives target pass ≡ true
+derivation_test : (target : KeyTarget) (pass : Option (List ℕ)) → Derives target pass → derives target pass ≡ true
 derivation_test target None holds = refl
 derivation_test targets.OpenSsh (Some pass) holds = (bcrypt_decides (length pass) 16 16).1 holds
 derivation_test (targets.Ppk V2 config) (Some pass) holds = refl
@@ -207,7 +207,7 @@ ppk_room_test : (out : Output) (version : PpkVersionKey) (config : PpkEncryption
 ppk_room_test out version config (keys.Private key) comment holds = file_room_test out version config key comment holds
 ppk_room_test out version config (keys.Public key) comment holds = refl
 
-room_holds : (out : Output) (target : Target) (meaning : Meaning) → has_room out target meaning ≡ true → HasRoom out target meaning
+room_holds : (out : Output) (target : KeyTarget) (meaning : Meaning) → has_room out target meaning ≡ true → HasRoom out target meaning
 room_holds out targets.OpenSsh meaning test = openssh_room_holds out meaning.key meaning.comment test
 room_holds out (targets.Ppk version config) meaning test = ppk_room_holds out version config meaning.key meaning.comment test
 room_holds out targets.OpenSshPublic meaning test = short_holds (line_of (public_key meaning)) test
@@ -217,7 +217,7 @@ room_holds out targets.PuttyPublic meaning test =
     let parts = and_parts (is_short blob) (is_short text) test in
     (short_holds blob parts.0, short_holds text parts.1)
 
-room_test : (out : Output) (target : Target) (meaning : Meaning) → HasRoom out target meaning → has_room out target meaning ≡ true
+room_test : (out : Output) (target : KeyTarget) (meaning : Meaning) → HasRoom out target meaning → has_room out target meaning ≡ true
 room_test out targets.OpenSsh meaning holds = openssh_room_test out meaning.key meaning.comment holds
 room_test out (targets.Ppk version config) meaning holds = ppk_room_test out version config meaning.key meaning.comment holds
 room_test out targets.OpenSshPublic meaning holds = short_test (line_of (public_key meaning)) holds
@@ -244,13 +244,13 @@ file_lines_test out version config (keys.Private key) holds =
     rw (le-leb (length blob) 3145680 holds.0, le-leb (length private) 3145680 holds.1) refl
 file_lines_test out version config (keys.Public key) holds = refl
 
-lines_hold : (out : Output) (target : Target) (key : Key) → has_lines out target key ≡ true → HasLines out target key
+lines_hold : (out : Output) (target : KeyTarget) (key : Key) → has_lines out target key ≡ true → HasLines out target key
 lines_hold out targets.OpenSsh key test = tt
 lines_hold out (targets.Ppk version config) key test = file_lines_hold out version config key test
 lines_hold out targets.OpenSshPublic key test = tt
 lines_hold out targets.PuttyPublic key test = tt
 
-lines_test : (out : Output) (target : Target) (key : Key) → HasLines out target key → has_lines out target key ≡ true
+lines_test : (out : Output) (target : KeyTarget) (key : Key) → HasLines out target key → has_lines out target key ≡ true
 lines_test out targets.OpenSsh key holds = refl
 lines_test out (targets.Ppk version config) key holds = file_lines_test out version config key holds
 lines_test out targets.OpenSshPublic key holds = refl
@@ -259,7 +259,7 @@ lines_test out targets.PuttyPublic key holds = refl
 -- ---- each place
 
 -- What passes a place's test holds there.
-pub holds_from_test : (out : Output) (target : Target) (meaning : Meaning) (place : Place)
+pub holds_from_test : (out : Output) (target : KeyTarget) (meaning : Meaning) (place : Place)
     → passes out target meaning place ≡ true → Holds out target meaning place
 holds_from_test out target meaning PrivateKey test = secret_holds target meaning.key test
 holds_from_test out target meaning Kind test = kind_holds target meaning.key test
@@ -270,7 +270,7 @@ holds_from_test out target meaning Length test = room_holds out target meaning t
 holds_from_test out target meaning Lines test = lines_hold out target meaning.key test
 
 -- And what holds there passes.
-pub test_from_holds : (out : Output) (target : Target) (meaning : Meaning) (place : Place)
+pub test_from_holds : (out : Output) (target : KeyTarget) (meaning : Meaning) (place : Place)
     → Holds out target meaning place → passes out target meaning place ≡ true
 test_from_holds out target meaning PrivateKey holds = secret_test target meaning.key holds
 test_from_holds out target meaning Kind holds = kind_test target meaning.key holds

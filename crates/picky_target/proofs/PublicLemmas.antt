@@ -10,7 +10,7 @@ use Rattle.picky_putty_public.specs.declared.putty_public.PuttyPublicKey.{PuttyP
 use Rattle.picky_putty_public.specs.PuttyPublic.{putty_public}
 use Rattle.picky_putty_public.specs.PuttyRefusal.{is_hardware, of_openssh, putty_text}
 use Rattle.picky_target.specs.declared.error.ConvertError.TheVariants as errors
-use Rattle.picky_target.specs.declared.target.Target.TheVariants as targets
+use Rattle.picky_target.specs.declared.target.KeyTarget.TheVariants as targets
 use Rattle.picky_target.specs.Judged.{carries_comment}
 use Rattle.picky_target.specs.inner.Public.{putty_refusal, putty_written, text_of_putty}
 

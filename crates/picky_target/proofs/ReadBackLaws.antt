@@ -20,8 +20,8 @@ use Rattle.picky_key_text.specs.declared.meaning.Meaning.{Meaning}
 use Rattle.picky_key_text.specs.Kept.{IsKept, IsKeptKey}
 use Rattle.picky_key_text.specs.Key.{public_key, public_meaning, public_part}
 use Rattle.picky_key_text.specs.Reads.{Means, Reads}
-use Rattle.picky_target.specs.declared.target.Target.{Target}
-use Rattle.picky_target.specs.declared.target.Target.TheVariants as targets
+use Rattle.picky_target.specs.declared.target.KeyTarget.{KeyTarget}
+use Rattle.picky_target.specs.declared.target.KeyTarget.TheVariants as targets
 use Rattle.picky_target.specs.Output.{Output}
 use Rattle.picky_target.specs.Carried.{Carries, Comment, Length, PrivateKey}
 use Rattle.picky_target.specs.ReadBack.{IsConfig, IsTarget, kept, under}
@@ -83,7 +83,7 @@ ppk_is_read_back m out version config (keys.Public key) comment ranges is fresh 
 
 -- ---- each target
 
-text_for_is_read_back : (m : Meanings) (out : Output) (target : Target) (meaning : Meaning) → IsTarget target → IsKept meaning
+text_for_is_read_back : (m : Meanings) (out : Output) (target : KeyTarget) (meaning : Meaning) → IsTarget target → IsKept meaning
     → IsBytes out.fresh → IfSome out.pass IsUtf8 → Carries out target meaning
     → Reads (under m out.pass) (text_for m out target meaning) (kept target meaning)
 text_for_is_read_back m out targets.OpenSsh meaning ranges is fresh pass carries =
@@ -94,7 +94,7 @@ text_for_is_read_back m out targets.OpenSshPublic meaning ranges is fresh pass c
 text_for_is_read_back m out targets.PuttyPublic meaning ranges is fresh pass carries = putty_is_read_back m out meaning is carries
 
 -- A text that spells what its target carries is read back.
-pub spelled_is_read_back : (m : Meanings) (out : Output) (target : Target) (meaning : Meaning) (text : List ℕ) → IsTarget target
+pub spelled_is_read_back : (m : Meanings) (out : Output) (target : KeyTarget) (meaning : Meaning) (text : List ℕ) → IsTarget target
     → IsKept meaning → IsBytes out.fresh → IfSome out.pass IsUtf8 → Carries out target meaning → Spells m out target meaning text
     → Reads (under m out.pass) text (kept target meaning)
 spelled_is_read_back m out target meaning text ranges is fresh pass carries spells =

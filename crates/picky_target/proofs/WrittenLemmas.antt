@@ -23,8 +23,8 @@ use Rattle.picky_key_text.specs.declared.meaning.Meaning.{Meaning}
 use Rattle.picky_key_text.specs.Key.{private_meaning, public_key, public_part}
 use Rattle.picky_target.specs.declared.error.ConvertError.{ConvertError}
 use Rattle.picky_target.specs.declared.error.ConvertError.TheVariants as errors
-use Rattle.picky_target.specs.declared.target.Target.{Target}
-use Rattle.picky_target.specs.declared.target.Target.TheVariants as targets
+use Rattle.picky_target.specs.declared.target.KeyTarget.{KeyTarget}
+use Rattle.picky_target.specs.declared.target.KeyTarget.TheVariants as targets
 use Rattle.picky_target.specs.Output.{Output}
 use Rattle.picky_target.specs.Carried.{need_under}
 use Rattle.picky_target.specs.Judged.{carries_comment, derives, judged}
@@ -38,13 +38,13 @@ use Rattle.picky_target.proofs.FileWritten.{file_is_written}
 -- ---- from one form of words to the other
 
 -- a writer's words say what is written, whether the suite is asked, and what its fault is
-pub record IsWrittenAs (m : Meanings) (out : Output) (target : Target) (meaning : Meaning) (says : Result (List ℕ) ConvertError)
+pub record IsWrittenAs (m : Meanings) (out : Output) (target : KeyTarget) (meaning : Meaning) (says : Result (List ℕ) ConvertError)
     (asks : Bool) (fault : ConvertError) : Type 0 where
   pub says_is : says ≡ written m out target meaning
   pub asks_is : asks ≡ writing_asks out target meaning
   pub fault_is : fault ≡ fault_of target
 
-pub gives_as : {X : Type 0} (m : Meanings) (out : Output) (target : Target) (meaning : Meaning)
+pub gives_as : {X : Type 0} (m : Meanings) (out : Output) (target : KeyTarget) (meaning : Meaning)
     (says : Result (List ℕ) ConvertError) (asks : Bool) (fault : ConvertError) (want : ConvertError) (view : X → List ℕ)
     (r : Result X ConvertError) (rose : Type 0) → IsWrittenAs m out target meaning says asks fault
     → GivesAsked want fault view r says asks rose
@@ -54,7 +54,7 @@ gives_as m out target meaning says asks fault want view r rose is given =
     (subst (λ a. GivesAsked want fault view r (written m out target meaning) a rose) is.asks_is
     (subst (λ s. GivesAsked want fault view r s asks rose) is.says_is given))
 
-pub leaves_as : {S X : Type 0} (meanings : S → Meanings) (faults : S → ℕ) (m : Meanings) (out : Output) (target : Target)
+pub leaves_as : {S X : Type 0} (meanings : S → Meanings) (faults : S → ℕ) (m : Meanings) (out : Output) (target : KeyTarget)
     (meaning : Meaning) (says : Result (List ℕ) ConvertError) (asks : Bool) (fault : ConvertError) (r : Result X ConvertError)
     (old new : S) → IsWrittenAs m out target meaning says asks fault
     → LeavesSuite meanings faults fault asks r old new
@@ -81,7 +81,7 @@ meaning_is meaning key comment key_is comment_is =
     ap (λ c. record { key = keys.Private key; comment = c }) comment_is
     ∙ ap (λ k. record { key = k; comment = meaning.comment }) k
 
-pub written_openssh : (m : Meanings) (pass : Option (List ℕ)) (fresh : List ℕ) (target : Target) (meaning : Meaning)
+pub written_openssh : (m : Meanings) (pass : Option (List ℕ)) (fresh : List ℕ) (target : KeyTarget) (meaning : Meaning)
     (key : SshBasePrivateKey) (comment : List ℕ) → target ≡ targets.OpenSsh → meaning.key ≡ keys.Private key
     → comment ≡ meaning.comment
     → IsWrittenAs m (record { pass = pass; fresh = fresh }) target meaning
@@ -97,7 +97,7 @@ written_openssh m pass fresh target meaning key comment target_is key_is comment
     (meaning_is meaning key comment key_is comment_is)
     (record { says_is = both.0; asks_is = both.1; fault_is = refl }))
 
-pub written_ppk : (m : Meanings) (pass : Option (List ℕ)) (fresh : List ℕ) (target : Target) (version : PpkVersionKey)
+pub written_ppk : (m : Meanings) (pass : Option (List ℕ)) (fresh : List ℕ) (target : KeyTarget) (version : PpkVersionKey)
     (config : PpkEncryptionConfig) (meaning : Meaning) (key : SshBasePrivateKey) (comment : List ℕ)
     → target ≡ targets.Ppk version config → meaning.key ≡ keys.Private key → comment ≡ meaning.comment
     → IsWrittenAs m (record { pass = pass; fresh = fresh }) target meaning
@@ -115,12 +115,12 @@ written_ppk m pass fresh target version config meaning key comment target_is key
 
 -- ---- no private key
 
-pub openssh_wants_private : (m : Meanings) (out : Output) (target : Target) (meaning : Meaning) (key : SshBasePublicKey)
+pub openssh_wants_private : (m : Meanings) (out : Output) (target : KeyTarget) (meaning : Meaning) (key : SshBasePublicKey)
     → target ≡ targets.OpenSsh → meaning.key ≡ keys.Public key → written m out target meaning ≡ Err errors.NoPrivateKey
 unfolding written judged
 openssh_wants_private m out target meaning key target_is key_is = rw (target_is, key_is) refl
 
-pub ppk_wants_private : (m : Meanings) (out : Output) (target : Target) (version : PpkVersionKey) (config : PpkEncryptionConfig)
+pub ppk_wants_private : (m : Meanings) (out : Output) (target : KeyTarget) (version : PpkVersionKey) (config : PpkEncryptionConfig)
     (meaning : Meaning) (key : SshBasePublicKey) → target ≡ targets.Ppk version config → meaning.key ≡ keys.Public key
     → written m out target meaning ≡ Err errors.NoPrivateKey
 unfolding written judged
@@ -149,7 +149,7 @@ putty_needs None key = refl
 putty_needs (Some pass) (keys.Private key) = refl
 putty_needs (Some pass) (keys.Public key) = refl
 
-pub line_is_written : (m : Meanings) (out : Output) (target : Target) (meaning : Meaning) (key : SshPublicKey)
+pub line_is_written : (m : Meanings) (out : Output) (target : KeyTarget) (meaning : Meaning) (key : SshPublicKey)
     → target ≡ targets.OpenSshPublic → key ≡ public_key meaning → line_written key ≡ written m out target meaning
 unfolding written judged
 line_is_written m out target meaning key target_is key_is =
@@ -162,7 +162,7 @@ line_is_written m out target meaning key target_is key_is =
       ])
     ])
 
-pub putty_is_written : (m : Meanings) (out : Output) (target : Target) (meaning : Meaning) (key : SshPublicKey)
+pub putty_is_written : (m : Meanings) (out : Output) (target : KeyTarget) (meaning : Meaning) (key : SshPublicKey)
     → target ≡ targets.PuttyPublic → key ≡ public_key meaning → putty_written key ≡ written m out target meaning
 unfolding written judged
 putty_is_written m out target meaning key target_is key_is =

@@ -18,8 +18,8 @@ use Rattle.picky_key_text.specs.declared.meaning.Key.{Key}
 use Rattle.picky_key_text.specs.declared.meaning.Key.TheVariants as keys
 use Rattle.picky_key_text.specs.declared.meaning.Meaning.{Meaning}
 use Rattle.picky_key_text.specs.Key.{public_part, public_key}
-use Rattle.picky_target.specs.declared.target.Target.{Target}
-use Rattle.picky_target.specs.declared.target.Target.TheVariants as targets
+use Rattle.picky_target.specs.declared.target.KeyTarget.{KeyTarget}
+use Rattle.picky_target.specs.declared.target.KeyTarget.TheVariants as targets
 use Rattle.picky_target.specs.Output.{Output}
 use Rattle.picky_target.specs.Drafts.{salt_len, padding_len, private_bytes, ppk_file}
 use Rattle.picky_target.specs.Texts.{text_for}
@@ -46,7 +46,7 @@ IsPrivate (keys.Private key) = Unit {0}
 IsPrivate (keys.Public key) = ⊥
 
 -- the target keeps the secret
-abbrev pub HasSecret : Target → Key → Type 0
+abbrev pub HasSecret : KeyTarget → Key → Type 0
 HasSecret targets.OpenSsh key = IsPrivate key
 HasSecret (targets.Ppk version config) key = IsPrivate key
 HasSecret targets.OpenSshPublic key = Unit {0}
@@ -54,7 +54,7 @@ HasSecret targets.PuttyPublic key = Unit {0}
 
 -- ---- the kind: PuTTY has no key whose secret a device keeps
 
-abbrev pub HasKind : Target → Key → Type 0
+abbrev pub HasKind : KeyTarget → Key → Type 0
 HasKind targets.OpenSsh key = Unit {0}
 HasKind (targets.Ppk version config) key = is_hardware (public_part key) ≡ false
 HasKind targets.OpenSshPublic key = Unit {0}
@@ -69,7 +69,7 @@ pub record LineCarries (comment : List ℕ) : Type 0 where
   pub trimmed : trim_end comment ≡ comment
 
 -- OpenSSH's private key drops white space at the comment's end, and PuTTY's lines end a comment
-abbrev pub CarriesComment : Target → List ℕ → Type 0
+abbrev pub CarriesComment : KeyTarget → List ℕ → Type 0
 CarriesComment targets.OpenSsh comment = trim_end comment ≡ comment
 CarriesComment (targets.Ppk version config) comment = IsLine (end_of version) comment
 CarriesComment targets.OpenSshPublic comment = LineCarries comment
@@ -77,7 +77,7 @@ CarriesComment targets.PuttyPublic comment = HasNo 10 comment
 
 -- ---- the keys that seal
 
-abbrev pub DerivesUnder : Target → List ℕ → Type 0
+abbrev pub DerivesUnder : KeyTarget → List ℕ → Type 0
 DerivesUnder targets.OpenSsh pass = BcryptOk (length pass) 16 16
 DerivesUnder (targets.Ppk V2 config) pass = Unit {0}
 DerivesUnder (targets.Ppk V3 config) pass =
@@ -85,25 +85,25 @@ DerivesUnder (targets.Ppk V3 config) pass =
 DerivesUnder targets.OpenSshPublic pass = Unit {0}
 DerivesUnder targets.PuttyPublic pass = Unit {0}
 
-abbrev pub Derives : Target → Option (List ℕ) → Type 0
+abbrev pub Derives : KeyTarget → Option (List ℕ) → Type 0
 Derives target None = Unit {0}
 Derives target (Some pass) = DerivesUnder target pass
 
 -- ---- fresh bytes
 
 -- how many sealing takes: OpenSSH's salt; PuTTY's salt in version 3, and its padding
-abbrev pub need_of : Target → SshBasePrivateKey → ℕ
+abbrev pub need_of : KeyTarget → SshBasePrivateKey → ℕ
 need_of targets.OpenSsh key = 16
 need_of (targets.Ppk version config) key = salt_len version config + padding_len key
 need_of targets.OpenSshPublic key = 0
 need_of targets.PuttyPublic key = 0
 
-abbrev pub need_under : Target → Option (List ℕ) → Key → ℕ
+abbrev pub need_under : KeyTarget → Option (List ℕ) → Key → ℕ
 need_under target (Some pass) (keys.Private key) = need_of target key
 need_under target (Some pass) (keys.Public key) = 0
 need_under target None key = 0
 
-abbrev pub need : Output → Target → Key → ℕ
+abbrev pub need : Output → KeyTarget → Key → ℕ
 need out target key = need_under target out.pass key
 
 -- ---- lengths that a length of the wire can say
@@ -120,7 +120,7 @@ HasSecretRoom out version config (keys.Private key) comment = HasFileRoom out ve
 HasSecretRoom out version config (keys.Public key) comment = Unit {0}
 
 -- the text, whatever a suite's calls mean, and PuTTY's blob
-abbrev pub HasRoom : Output → Target → Meaning → Type 0
+abbrev pub HasRoom : Output → KeyTarget → Meaning → Type 0
 HasRoom out targets.OpenSsh meaning = (m : Meanings) → length (text_for m out targets.OpenSsh meaning) < 2 ^ 32
 HasRoom out (targets.Ppk version config) meaning = HasSecretRoom out version config meaning.key meaning.comment
 HasRoom out targets.OpenSshPublic meaning = length (line_of (public_key meaning)) < 2 ^ 32
@@ -135,7 +135,7 @@ HasFileLines out version config (keys.Private key) =
     (length (blob_of (public_part_of key)) ≤ 3145680) × (length (private_bytes out version config key) ≤ 3145680)
 HasFileLines out version config (keys.Public key) = Unit {0}
 
-abbrev pub HasLines : Output → Target → Key → Type 0
+abbrev pub HasLines : Output → KeyTarget → Key → Type 0
 HasLines out targets.OpenSsh key = Unit {0}
 HasLines out (targets.Ppk version config) key = HasFileLines out version config key
 HasLines out targets.OpenSshPublic key = Unit {0}
@@ -143,7 +143,7 @@ HasLines out targets.PuttyPublic key = Unit {0}
 
 -- ---- all
 
-abbrev pub Holds : Output → Target → Meaning → Place → Type 0
+abbrev pub Holds : Output → KeyTarget → Meaning → Place → Type 0
 Holds out target meaning PrivateKey = HasSecret target meaning.key
 Holds out target meaning Kind = HasKind target meaning.key
 Holds out target meaning Comment = CarriesComment target meaning.comment
@@ -153,5 +153,5 @@ Holds out target meaning Length = HasRoom out target meaning
 Holds out target meaning Lines = HasLines out target meaning.key
 
 -- the target carries the meaning under these: each place holds
-pub record Carries (out : Output) (target : Target) (meaning : Meaning) : Type 0 where
+pub record Carries (out : Output) (target : KeyTarget) (meaning : Meaning) : Type 0 where
   pub holds : (place : Place) → Holds out target meaning place

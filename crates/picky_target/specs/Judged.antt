@@ -32,8 +32,8 @@ use Rattle.picky_key_text.specs.declared.meaning.Meaning.{Meaning}
 use Rattle.picky_key_text.specs.Key.{public_part, public_key}
 use Rattle.picky_target.specs.declared.error.ConvertError.{ConvertError}
 use Rattle.picky_target.specs.declared.error.ConvertError.TheVariants as errors
-use Rattle.picky_target.specs.declared.target.Target.{Target}
-use Rattle.picky_target.specs.declared.target.Target.TheVariants as targets
+use Rattle.picky_target.specs.declared.target.KeyTarget.{KeyTarget}
+use Rattle.picky_target.specs.declared.target.KeyTarget.TheVariants as targets
 use Rattle.picky_target.specs.Output.{Output}
 use Rattle.picky_target.specs.Drafts.{openssh_key, parts_of, private_bytes, salt_of}
 use Rattle.picky_target.specs.Carried.{Place, need, places}
@@ -45,13 +45,13 @@ abbrev pub is_private : Key → Bool
 is_private (keys.Private key) = true
 is_private (keys.Public key) = false
 
-abbrev pub has_secret : Target → Key → Bool
+abbrev pub has_secret : KeyTarget → Key → Bool
 has_secret targets.OpenSsh key = is_private key
 has_secret (targets.Ppk version config) key = is_private key
 has_secret targets.OpenSshPublic key = true
 has_secret targets.PuttyPublic key = true
 
-abbrev pub has_kind : Target → Key → Bool
+abbrev pub has_kind : KeyTarget → Key → Bool
 has_kind targets.OpenSsh key = true
 has_kind (targets.Ppk version config) key = not (is_hardware (public_part key))
 has_kind targets.OpenSshPublic key = true
@@ -66,20 +66,20 @@ ends_in_cr comment = slice_index comment (length comment - 1) == 13
 abbrev pub is_trimmed : List ℕ → Bool
 is_trimmed comment = bytes_eq (trim_end comment) comment
 
-abbrev pub carries_comment : Target → List ℕ → Bool
+abbrev pub carries_comment : KeyTarget → List ℕ → Bool
 carries_comment targets.OpenSsh comment = is_trimmed comment
 carries_comment (targets.Ppk V2 config) comment = not (has_lf comment)
 carries_comment (targets.Ppk V3 config) comment = not (has_lf comment) && not (ends_in_cr comment)
 carries_comment targets.OpenSshPublic comment = not (list_any ends_line comment) && is_trimmed comment
 carries_comment targets.PuttyPublic comment = not (has_lf comment)
 
-abbrev pub derives_under : Target → List ℕ → Bool
+abbrev pub derives_under : KeyTarget → List ℕ → Bool
 derives_under targets.OpenSsh pass = bcrypt_fits (length pass) 16 16
 derives_under (targets.Ppk version config) pass = can_derive_by version config pass
 derives_under targets.OpenSshPublic pass = true
 derives_under targets.PuttyPublic pass = true
 
-abbrev pub derives : Target → Option (List ℕ) → Bool
+abbrev pub derives : KeyTarget → Option (List ℕ) → Bool
 derives target None = true
 derives target (Some pass) = derives_under target pass
 
@@ -106,7 +106,7 @@ measured_file out version config key comment = record {
   mac = replicate (mac_len version) 0;
 }
 
-abbrev pub secret_has_room : Output → Target → SshBasePrivateKey → (comment : List ℕ) → Bool
+abbrev pub secret_has_room : Output → KeyTarget → SshBasePrivateKey → (comment : List ℕ) → Bool
 secret_has_room out targets.OpenSsh key comment = is_short_envelope (openssh_key out key comment)
 secret_has_room out (targets.Ppk version config) key comment =
     is_short (blob_of (public_part_of key)) && is_short (private_bytes out version config key)
@@ -114,11 +114,11 @@ secret_has_room out (targets.Ppk version config) key comment =
 secret_has_room out targets.OpenSshPublic key comment = true
 secret_has_room out targets.PuttyPublic key comment = true
 
-abbrev pub key_has_room : Output → Target → Key → (comment : List ℕ) → Bool
+abbrev pub key_has_room : Output → KeyTarget → Key → (comment : List ℕ) → Bool
 key_has_room out target (keys.Private key) comment = secret_has_room out target key comment
 key_has_room out target (keys.Public key) comment = true
 
-abbrev pub has_room : Output → Target → Meaning → Bool
+abbrev pub has_room : Output → KeyTarget → Meaning → Bool
 has_room out targets.OpenSsh meaning = key_has_room out targets.OpenSsh meaning.key meaning.comment
 has_room out (targets.Ppk version config) meaning = key_has_room out (targets.Ppk version config) meaning.key meaning.comment
 has_room out targets.OpenSshPublic meaning = is_short (line_of (public_key meaning))
@@ -131,13 +131,13 @@ file_has_lines out version config (keys.Private key) =
     fits_block (blob_of (public_part_of key)) && fits_block (private_bytes out version config key)
 file_has_lines out version config (keys.Public key) = true
 
-abbrev pub has_lines : Output → Target → Key → Bool
+abbrev pub has_lines : Output → KeyTarget → Key → Bool
 has_lines out targets.OpenSsh key = true
 has_lines out (targets.Ppk version config) key = file_has_lines out version config key
 has_lines out targets.OpenSshPublic key = true
 has_lines out targets.PuttyPublic key = true
 
-abbrev pub passes : Output → Target → Meaning → Place → Bool
+abbrev pub passes : Output → KeyTarget → Meaning → Place → Bool
 passes out target meaning PrivateKey = has_secret target meaning.key
 passes out target meaning Kind = has_kind target meaning.key
 passes out target meaning Comment = carries_comment target meaning.comment
@@ -149,11 +149,11 @@ passes out target meaning Lines = has_lines out target meaning.key
 -- ---- the first that fails
 
 -- PuTTY's keys are derived by Argon2, and OpenSSH's by bcrypt
-abbrev pub not_derived : Target → ConvertError
+abbrev pub not_derived : KeyTarget → ConvertError
 not_derived targets.OpenSsh = errors.Private private.HashingError
 not_derived target = errors.Putty putty.Argon2
 
-abbrev pub refusal : Target → Place → ConvertError
+abbrev pub refusal : KeyTarget → Place → ConvertError
 refusal target PrivateKey = errors.NoPrivateKey
 refusal target Kind = errors.Putty no_hardware_keys
 refusal target Comment = errors.CommentNotCarried
@@ -166,5 +166,5 @@ abbrev pub first_failing : (Place → Bool) → (Place → ConvertError) → Lis
 first_failing test error [] = Ok tt
 first_failing test error (place ∷ more) = if test place then first_failing test error more else Err (error place)
 
-unfoldable pub judged : Output → Target → Meaning → Result (Unit {0}) ConvertError
+unfoldable pub judged : Output → KeyTarget → Meaning → Result (Unit {0}) ConvertError
 judged out target meaning = first_failing (passes out target meaning) (refusal target) places

@@ -5,11 +5,11 @@ use Rattle.picky_ppk_parts.specs.declared.config.PpkEncryptionConfig.{PpkEncrypt
 use Rattle.picky_key_text.specs.declared.meaning.Meaning.{Meaning}
 use Rattle.picky_key_text.specs.Key.{public_key, public_meaning}
 use Rattle.picky_key_text.specs.Reader.{Reader}
-use Rattle.picky_target.specs.declared.target.Target.{Target}
-use Rattle.picky_target.specs.declared.target.Target.TheVariants as targets
+use Rattle.picky_target.specs.declared.target.KeyTarget.{KeyTarget}
+use Rattle.picky_target.specs.declared.target.KeyTarget.TheVariants as targets
 
 -- a public target keeps the public part
-abbrev pub kept : Target → Meaning → Meaning
+abbrev pub kept : KeyTarget → Meaning → Meaning
 kept targets.OpenSsh meaning = meaning
 kept (targets.Ppk version config) meaning = meaning
 kept targets.OpenSshPublic meaning = public_meaning (public_key meaning)
@@ -26,7 +26,7 @@ pub record IsConfig (config : PpkEncryptionConfig) : Type 0 where
   pub salt_size : config.argon2_salt_size < 2 ^ 32
 
 -- so has each of a target
-abbrev pub IsTarget : Target → Type 0
+abbrev pub IsTarget : KeyTarget → Type 0
 IsTarget targets.OpenSsh = Unit {0}
 IsTarget (targets.Ppk version config) = IsConfig config
 IsTarget targets.OpenSshPublic = Unit {0}

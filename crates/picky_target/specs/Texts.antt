@@ -13,8 +13,8 @@ use Rattle.picky_key_text.specs.declared.meaning.Key.{Key}
 use Rattle.picky_key_text.specs.declared.meaning.Key.TheVariants as keys
 use Rattle.picky_key_text.specs.declared.meaning.Meaning.{Meaning}
 use Rattle.picky_key_text.specs.Key.{public_part, public_key}
-use Rattle.picky_target.specs.declared.target.Target.{Target}
-use Rattle.picky_target.specs.declared.target.Target.TheVariants as targets
+use Rattle.picky_target.specs.declared.target.KeyTarget.{KeyTarget}
+use Rattle.picky_target.specs.declared.target.KeyTarget.TheVariants as targets
 use Rattle.picky_target.specs.Output.{Output}
 use Rattle.picky_target.specs.Drafts.{openssh_key, ppk_file}
 
@@ -23,19 +23,19 @@ abbrev pub envelope_text : Meanings → SshPrivateKey → List ℕ
 envelope_text m key = pem_text (content_under m key (lock_kept key.passphrase))
 
 -- the text of a private key; a public target has none
-abbrev pub private_text : Meanings → Output → Target → SshBasePrivateKey → (comment : List ℕ) → List ℕ
+abbrev pub private_text : Meanings → Output → KeyTarget → SshBasePrivateKey → (comment : List ℕ) → List ℕ
 private_text m out targets.OpenSsh key comment = envelope_text m (openssh_key out key comment)
 private_text m out (targets.Ppk version config) key comment = file_text (ppk_file m out version config key comment)
 private_text m out targets.OpenSshPublic key comment = []
 private_text m out targets.PuttyPublic key comment = []
 
 -- the secret's text; there is none without one
-abbrev pub text_of_secret : Meanings → Output → Target → Key → (comment : List ℕ) → List ℕ
+abbrev pub text_of_secret : Meanings → Output → KeyTarget → Key → (comment : List ℕ) → List ℕ
 text_of_secret m out target (keys.Private key) comment = private_text m out target key comment
 text_of_secret m out target (keys.Public key) comment = []
 
 -- the text spells the key, or its public part where the target is a public one, and the comment
-abbrev pub Spells : Meanings → Output → Target → Meaning → List ℕ → Type 0
+abbrev pub Spells : Meanings → Output → KeyTarget → Meaning → List ℕ → Type 0
 Spells m out targets.OpenSsh meaning text = text ≡ text_of_secret m out targets.OpenSsh meaning.key meaning.comment
 Spells m out (targets.Ppk version config) meaning text =
     text ≡ text_of_secret m out (targets.Ppk version config) meaning.key meaning.comment
@@ -44,7 +44,7 @@ Spells m out targets.PuttyPublic meaning text =
     SpellsPuttyPublic (blob_of (public_part meaning.key)) meaning.comment text
 
 -- the same, as a function
-abbrev pub text_for : Meanings → Output → Target → Meaning → List ℕ
+abbrev pub text_for : Meanings → Output → KeyTarget → Meaning → List ℕ
 text_for m out targets.OpenSsh meaning = text_of_secret m out targets.OpenSsh meaning.key meaning.comment
 text_for m out (targets.Ppk version config) meaning =
     text_of_secret m out (targets.Ppk version config) meaning.key meaning.comment

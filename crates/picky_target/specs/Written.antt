@@ -7,24 +7,24 @@ use Rattle.picky_ppk_parts.specs.declared.error.PuttyError.TheVariants as putty
 use Rattle.picky_key_text.specs.declared.meaning.Meaning.{Meaning}
 use Rattle.picky_target.specs.declared.error.ConvertError.{ConvertError}
 use Rattle.picky_target.specs.declared.error.ConvertError.TheVariants as errors
-use Rattle.picky_target.specs.declared.target.Target.{Target}
-use Rattle.picky_target.specs.declared.target.Target.TheVariants as targets
+use Rattle.picky_target.specs.declared.target.KeyTarget.{KeyTarget}
+use Rattle.picky_target.specs.declared.target.KeyTarget.TheVariants as targets
 use Rattle.picky_target.specs.Output.{Output}
 use Rattle.picky_target.specs.Judged.{judged}
 use Rattle.picky_target.specs.Texts.{text_for}
 
 -- the text, or the first reason why there is none
-unfoldable pub written : Meanings → Output → Target → Meaning → Result (List ℕ) ConvertError
+unfoldable pub written : Meanings → Output → KeyTarget → Meaning → Result (List ℕ) ConvertError
 written m out target meaning = and_then (judged out target meaning) (λ _. Ok (text_for m out target meaning))
 
 -- the target keeps the secret; what it writes is sealed where there is a passphrase
-abbrev pub keeps_secret : Target → Bool
+abbrev pub keeps_secret : KeyTarget → Bool
 keeps_secret targets.OpenSsh = true
 keeps_secret (targets.Ppk version config) = true
 keeps_secret targets.OpenSshPublic = false
 keeps_secret targets.PuttyPublic = false
 
-abbrev pub is_sealed : Output → Target → Bool
+abbrev pub is_sealed : Output → KeyTarget → Bool
 is_sealed out target = keeps_secret target && is_some out.pass
 
 -- the suite is asked, since the text is sealed and nothing was refused before
@@ -32,10 +32,10 @@ abbrev pub goes_on : Result (Unit {0}) ConvertError → Bool
 goes_on (Ok _) = true
 goes_on (Err e) = false
 
-unfoldable pub writing_asks : Output → Target → Meaning → Bool
+unfoldable pub writing_asks : Output → KeyTarget → Meaning → Bool
 writing_asks out target meaning = is_sealed out target && goes_on (judged out target meaning)
 
 -- the suite's fault, in the words of the target; public targets ask none
-abbrev pub fault_of : Target → ConvertError
+abbrev pub fault_of : KeyTarget → ConvertError
 fault_of targets.OpenSsh = errors.Private private.SuiteFault
 fault_of target = errors.Putty putty.SuiteFault

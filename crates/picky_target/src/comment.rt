@@ -5,20 +5,20 @@ ghost use Rattle.std.specs.List.{list_any};
 ghost use Rattle.picky_text.specs.Words.{ends_line};
 ghost use Rattle.picky_target.specs.Judged.{carries_comment as carries_comment_of, has_lf as has_lf_in, ends_in_cr as ends_in_cr_of, is_trimmed as is_trimmed_of};
 
-use crate::target::Target;
+use crate::target::KeyTarget;
 use memchr::{memchr, memchr2};
 use picky_ppk::PpkVersion;
 
 /// Whether the target can hold the comment.
-pub fn carries_comment(target: Target, comment: &str) -> bool
+pub fn carries_comment(target: KeyTarget, comment: &str) -> bool
     ensures { result ≡ carries_comment_of target comment.now }
 {
     match target {
-        Target::OpenSsh => is_trimmed(comment),
-        Target::Ppk(PpkVersion::V2, _) => !has_lf(comment),
-        Target::Ppk(PpkVersion::V3, _) => !has_lf(comment) && !ends_in_cr(comment),
-        Target::OpenSshPublic => !has_line_end(comment) && is_trimmed(comment),
-        Target::PuttyPublic => !has_lf(comment),
+        KeyTarget::OpenSsh => is_trimmed(comment),
+        KeyTarget::Ppk(PpkVersion::V2, _) => !has_lf(comment),
+        KeyTarget::Ppk(PpkVersion::V3, _) => !has_lf(comment) && !ends_in_cr(comment),
+        KeyTarget::OpenSshPublic => !has_line_end(comment) && is_trimmed(comment),
+        KeyTarget::PuttyPublic => !has_lf(comment),
     }
 }
 

@@ -11,7 +11,7 @@ ghost use Rattle.picky_target.specs.inner.Envelope.{salt_judged, envelope_refusa
 
 use crate::comment::carries_comment;
 use crate::error::ConvertError;
-use crate::target::Target;
+use crate::target::KeyTarget;
 use picky_sshkey::{SshBasePrivateKey, SshPrivateKey, SshPrivateKeyError};
 use picky_suite::{Suite, bcrypt_ok};
 use picky_wire::Text;
@@ -59,7 +59,7 @@ fn drafted(
     ensures { Gives ConvertError.NoMemory (λ key. key) result
         (drafted_of (record { pass = option_copied pass.entry; fresh = fresh.now }) key comment.now) }
 {
-    if !carries_comment(Target::OpenSsh, comment) {
+    if !carries_comment(KeyTarget::OpenSsh, comment) {
         return Err(ConvertError::CommentNotCarried);
     }
     match salt_under(pass, fresh) {

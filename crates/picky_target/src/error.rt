@@ -1,5 +1,6 @@
 //! Why a key text is not converted.
 
+use picky_cert_builder::SshCertificateGenerationError;
 use picky_key_text::ReadError;
 use picky_ppk::PuttyError;
 use picky_sshkey::SshPrivateKeyError;
@@ -11,19 +12,25 @@ pub enum ConvertError {
     /// The key text means nothing.
     #[error("Input")]
     Input(ReadError),
+    /// The issuer's text means nothing.
+    #[error("Issuer")]
+    Issuer(ReadError),
     /// The target keeps a secret, and the key is a public one.
     #[error("NoPrivateKey")]
     NoPrivateKey,
     /// The target can't hold the comment.
     #[error("CommentNotCarried")]
     CommentNotCarried,
+    /// No certificate is made so.
+    #[error("Request")]
+    Request(SshCertificateGenerationError),
     /// OpenSSH's private key can't be sealed so.
     #[error("Private")]
     Private(SshPrivateKeyError),
     /// PuTTY's format can't hold the key, or it can't be sealed so.
     #[error("Putty")]
     Putty(PuttyError),
-    /// Sealing takes more fresh bytes than there are.
+    /// Sealing, or a certificate's nonce, takes more fresh bytes than there are.
     #[error("FreshTooShort")]
     FreshTooShort,
     /// What is to be written has more bytes than a length of the wire can say.

@@ -20,7 +20,7 @@ ghost use Rattle.picky_target.specs.inner.File.{sealed_written, sealed_asks, tex
 use crate::comment::carries_comment;
 use crate::error::ConvertError;
 use crate::public::{no_such_kind, putty_refusal};
-use crate::target::Target;
+use crate::target::KeyTarget;
 use picky_ppk::{
     Ppk, PpkEncryptionConfig, PpkFile, PpkVersion, PuttyError, can_derive_by, file_draft,
 };
@@ -57,7 +57,7 @@ pub fn write_file<S: Suite>(
     if is_hardware(key) {
         return Err(no_such_kind(alloc));
     }
-    if !carries_comment(Target::Ppk(version, config), comment.as_str()) {
+    if !carries_comment(KeyTarget::Ppk(version, config), comment.as_str()) {
         return Err(ConvertError::CommentNotCarried);
     }
     match pass {

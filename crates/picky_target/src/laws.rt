@@ -10,7 +10,7 @@ ghost use Rattle.picky_key_text.specs.declared.meaning.Meaning.{Meaning as Meant
 ghost use Rattle.picky_key_text.specs.Kept.{IsKept};
 ghost use Rattle.picky_key_text.specs.Reads.{Reads};
 ghost use Rattle.picky_target.specs.declared.error.ConvertError.{ConvertError as Refused};
-ghost use Rattle.picky_target.specs.declared.target.Target.{Target as To};
+ghost use Rattle.picky_target.specs.declared.target.KeyTarget.{KeyTarget as To};
 ghost use Rattle.picky_target.specs.Carried.{Carries, Holds, Place};
 ghost use Rattle.picky_target.specs.Judged.{judged, refusal};
 ghost use Rattle.picky_target.specs.Output.{Output};
@@ -18,7 +18,7 @@ ghost use Rattle.picky_target.specs.ReadBack.{IsTarget, kept, under};
 ghost use Rattle.picky_target.specs.Texts.{Spells, text_for};
 
 use crate::error::ConvertError;
-use crate::target::Target;
+use crate::target::KeyTarget;
 
 /// A target takes a meaning exactly where it carries it, and its refusal is that of a place that doesn't hold.
 pub fn targets_take_what_they_carry()
@@ -36,7 +36,7 @@ pub fn text_is_the_one_spelling()
 {}
 
 /// A text that spells what its target carries means, under the passphrase that it is sealed with, what the target keeps of it:
-/// the key or its public part, and the comment. Every value of `Target` has numbers as `IsTarget` says.
+/// the key or its public part, and the comment. Every value of `KeyTarget` has numbers as `IsTarget` says.
 pub fn text_is_read_back()
     ensures { (s : Meanings) (out : Output) (to : To) (m : Meant) (text : List ℕ) → IsTarget to → IsKept m
         → IsBytes out.fresh → IfSome out.pass IsUtf8 → Carries out to m → Spells s out to m text
@@ -45,6 +45,6 @@ pub fn text_is_read_back()
 
 /// Two targets are equal exactly where their contents are, and so are refusals.
 pub fn equality_is_of_contents()
-    ensures target { IsEquality ⟦<Target as PartialEq>⟧.eq }
+    ensures target { IsEquality ⟦<KeyTarget as PartialEq>⟧.eq }
     ensures error { IsEquality ⟦<ConvertError as PartialEq>⟧.eq }
 {}

@@ -10,6 +10,7 @@ mod public;
 mod target;
 mod writing;
 
+pub use comment::carries_comment;
 pub use error::ConvertError;
-pub use target::Target;
+pub use target::KeyTarget;
 pub use writing::write_text;

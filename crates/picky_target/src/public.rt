@@ -7,7 +7,7 @@ ghost use Rattle.picky_target.specs.inner.Public.{line_written, putty_written, p
 
 use crate::comment::carries_comment;
 use crate::error::ConvertError;
-use crate::target::Target;
+use crate::target::KeyTarget;
 use picky_ppk::{PuttyError, PuttyPublicKey};
 use picky_ppk_parts::no_hardware_keys;
 use picky_putty_public::is_hardware;
@@ -20,7 +20,7 @@ use std::alloc::Global;
 pub fn write_line(alloc: Global, key: &SshPublicKey) -> Result<Text, ConvertError>
     ensures { Gives ConvertError.NoMemory (λ text. text) result (line_written key.now) }
 {
-    if !carries_comment(Target::OpenSshPublic, key.comment.as_str()) {
+    if !carries_comment(KeyTarget::OpenSshPublic, key.comment.as_str()) {
         return Err(ConvertError::CommentNotCarried);
     }
     match key.to_string(alloc) {
@@ -37,7 +37,7 @@ pub fn write_putty(alloc: Global, key: SshPublicKey) -> Result<Text, ConvertErro
     if is_hardware(&key.inner_key) {
         return Err(no_such_kind(alloc));
     }
-    if !carries_comment(Target::PuttyPublic, key.comment.as_str()) {
+    if !carries_comment(KeyTarget::PuttyPublic, key.comment.as_str()) {
         return Err(ConvertError::CommentNotCarried);
     }
     text_of_putty(alloc, key)

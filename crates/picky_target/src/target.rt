@@ -4,7 +4,7 @@ use picky_ppk::{PpkEncryptionConfig, PpkVersion};
 
 /// What a key is converted to.
 #[derive(Clone, Copy, Debug, PartialEq, Eq)]
-pub enum Target {
+pub enum KeyTarget {
     /// OpenSSH's private key.
     OpenSsh,
     /// PuTTY's private key file, and what Argon2 is run with where one of version 3 is sealed.

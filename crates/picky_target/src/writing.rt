@@ -12,7 +12,7 @@ use crate::envelope::write_envelope;
 use crate::error::ConvertError;
 use crate::file::write_file;
 use crate::public::{write_line, write_putty};
-use crate::target::Target;
+use crate::target::KeyTarget;
 use picky_key_text::{Key, Meaning, public_key};
 use picky_suite::Suite;
 use picky_wire::{NoMemory, Text};
@@ -29,7 +29,7 @@ use std::alloc::Global;
 pub fn write_text<S: Suite>(
     alloc: Global,
     suite: &mut S,
-    target: Target,
+    target: KeyTarget,
     meaning: Meaning,
     pass: Option<&str>,
     fresh: &[u8],
@@ -42,7 +42,7 @@ pub fn write_text<S: Suite>(
         (writing_asks (record { pass = option_copied pass.entry; fresh = fresh.now }) target meaning) result suite.old suite.new }
 {
     match target {
-        Target::OpenSsh => {
+        KeyTarget::OpenSsh => {
             let Meaning { key, comment } = meaning;
             match key {
                 Key::Private(key) => {
@@ -51,7 +51,7 @@ pub fn write_text<S: Suite>(
                 Key::Public(_) => Err(ConvertError::NoPrivateKey),
             }
         }
-        Target::Ppk(version, config) => {
+        KeyTarget::Ppk(version, config) => {
             let Meaning { key, comment } = meaning;
             match key {
                 Key::Private(key) => {
@@ -60,11 +60,11 @@ pub fn write_text<S: Suite>(
                 Key::Public(_) => Err(ConvertError::NoPrivateKey),
             }
         }
-        Target::OpenSshPublic => match public_key(alloc, meaning) {
+        KeyTarget::OpenSshPublic => match public_key(alloc, meaning) {
             Ok(key) => write_line(alloc, &key),
             Err(NoMemory) => Err(ConvertError::NoMemory),
         },
-        Target::PuttyPublic => match public_key(alloc, meaning) {
+        KeyTarget::PuttyPublic => match public_key(alloc, meaning) {
             Ok(key) => write_putty(alloc, key),
             Err(NoMemory) => Err(ConvertError::NoMemory),
         },

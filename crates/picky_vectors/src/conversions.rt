@@ -1,10 +1,10 @@
 //! Lines converted: what puttygen and ssh-keygen write for the same key.
 
-use crate::keys::KEY_ROWS;
 use crate::runs::{converts, refuses, writes};
 use picky_convert::{ConvertError, Target, convert};
+use picky_key_rows::KEY_ROWS;
 use picky_putty_public::PuttyError;
-use picky_suite::PlainSuite;
+use picky_suite::{HandedSigner, PlainSuite};
 use picky_wire::Text;
 use std::alloc::Global;
 use std::process::Abort;
@@ -131,7 +131,16 @@ fn writes_the_text_of_puttygen(rt: HostRuntime) -> Result<(), Fail> {
 }
 
 fn is_unwritten(alloc: Global, text: &str, target: &Target, wanted: &ConvertError) -> bool {
-    match convert(alloc, &mut PlainSuite::new(), text, None, target, None, &[]) {
+    match convert(
+        alloc,
+        &mut PlainSuite::new(),
+        &mut HandedSigner::new(None),
+        text,
+        None,
+        target,
+        None,
+        &[],
+    ) {
         Ok(_) => false,
         Err(why) => why == *wanted,
     }

@@ -1,8 +1,8 @@
 //! Public key lines: read, and written in their one spelling.
 
-use crate::keys::KEY_ROWS;
 use crate::runs::converts;
 use picky_convert::Target;
+use picky_key_rows::KEY_ROWS;
 use picky_sshpub::{SshPublicKey, SshPublicKeyError};
 use picky_wire::{MemorySink, MemorySource, SliceSource, SshComplexTypeDecode, TryClone};
 use std::alloc::Global;

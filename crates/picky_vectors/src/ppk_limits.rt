@@ -1,6 +1,6 @@
 //! A block of PuTTY's private key files has at most 65,535 lines of 64 characters.
 
-use crate::private_keys::written as envelope_of;
+use crate::private_conversions::envelope_of;
 use crate::runs::{Ran, ended, run_on};
 use picky_convert::Status;
 use picky_ppk::{PpkFile, PpkKeyAlgorithm, PpkSealing, PpkVersion, PuttyError};

@@ -1,14 +1,13 @@
 //! Private keys converted by a run: between OpenSSH's and PuTTY's forms, and refused.
 
-use crate::ppk_comments::ENDS_IN_CR;
-use crate::ppk_files::VERSIONS;
-use crate::ppk_secrets::{SECRET_ROWS, SecretRow, ZERO_TEXT, key_of, text_of as secret_text_of};
-use crate::ppk_texts::{PPK_ROWS, PpkRow, text_of};
-use crate::private_keys::{ZERO_KEY, written as envelope_of};
-use crate::private_texts::{PRIVATE_ROWS, PrivateRow, V2};
 use crate::runs::{ended, run_on, written_text};
+use picky_key_rows::{
+    ENDS_IN_CR, PPK_ROWS, PRIVATE_ROWS, PpkRow, PrivateRow, SECRET_ROWS, SecretRow, V2, VERSIONS,
+    ZERO_KEY, ZERO_TEXT, secret_text_of, text_of,
+};
 use picky_ppk::PpkVersion;
 use picky_sshkey::{SshBasePrivateKey, SshPrivateKey};
+use picky_suite::PlainSuite;
 use picky_wire::{SliceSource, Text};
 use std::alloc::Global;
 use std::test::Fail;
@@ -89,10 +88,25 @@ fn loses_nothing_by_the_way(rt: HostRuntime) -> Result<(), Fail> {
     Ok(())
 }
 
-/// The text of the key of a secret.
-pub fn secret_envelope(alloc: Global, secret: [u8; 32]) -> Result<Text, Fail> {
-    let key = key_of(alloc, secret)?;
+/// The text that is written for a key without a passphrase.
+pub fn envelope_of(alloc: Global, key: &SshPrivateKey) -> Result<Text, Fail> {
+    let mut suite = PlainSuite::new();
+    Ok(key.to_string(alloc, &mut suite)?)
+}
+
+/// The text of the key of a secret, with 32 zero public bytes and a comment.
+fn envelope_with(alloc: Global, secret: [u8; 32], comment: &str) -> Result<Text, Fail> {
+    let base = SshBasePrivateKey::Ed {
+        secret,
+        public: [0; 32],
+    };
+    let key = SshPrivateKey::from_base(alloc, base, None, comment, &[0; 16])?;
     envelope_of(alloc, &key)
+}
+
+/// The same with the comment `hello`.
+pub fn secret_envelope(alloc: Global, secret: [u8; 32]) -> Result<Text, Fail> {
+    envelope_with(alloc, secret, "hello")
 }
 
 /// The text of the row's key becomes PuTTY's, and that becomes it again.
@@ -236,24 +250,14 @@ static COMMENTS: [(&str, &[&str]); 2] = [
     ),
 ];
 
-/// The text of the key of zeros with a comment.
-fn commented(alloc: Global, comment: &str) -> Result<Text, Fail> {
-    let base = SshBasePrivateKey::Ed {
-        secret: [0; 32],
-        public: [0; 32],
-    };
-    let key = SshPrivateKey::from_base(alloc, base, None, comment, &[0; 16])?;
-    envelope_of(alloc, &key)
-}
-
 /// Only an envelope can hold the comment.
 fn is_held_by_envelope(alloc: Global, comment: &str) -> Result<bool, Fail> {
-    let text = commented(alloc, comment)?;
+    let text = envelope_with(alloc, [0; 32], comment)?;
     writes(alloc, "openssh", text.as_str(), text.as_str())
 }
 
 fn is_not_carried(alloc: Global, command: &str, comment: &str) -> Result<bool, Fail> {
-    let text = commented(alloc, comment)?;
+    let text = envelope_with(alloc, [0; 32], comment)?;
     let line = "keyconv: refused: CommentNotCarried\n";
     refuses(alloc, command, text.as_str(), line)
 }

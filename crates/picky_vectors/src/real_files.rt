@@ -1,11 +1,9 @@
 //! Files of ssh-keygen and PuTTYgen: the line and the fingerprints that both programs print, written for each form of a key.
 
-use crate::keys::{KEY_ROWS, KeyRow};
-use crate::ppk_comments::PUBLIC;
-use crate::ppk_files::VERSIONS;
-use crate::ppk_texts::{PPK_ROWS, PpkRow, text_of};
 use crate::private_conversions::writes;
-use crate::private_texts::{PRIVATE_ROWS, PrivateRow, V2};
+use picky_key_rows::{
+    KEY_ROWS, KeyRow, PPK_ROWS, PRIVATE_ROWS, PUBLIC, PpkRow, PrivateRow, V2, VERSIONS, text_of,
+};
 use picky_ppk::PpkVersion;
 use std::alloc::Global;
 use std::test::Fail;
@@ -79,7 +77,7 @@ fn writes_for_file(
 }
 
 /// The line that PuTTYgen prints, with CR LF.
-pub fn line_of(alloc: Global, key: &PrivateRow) -> Result<String, Fail> {
+fn line_of(alloc: Global, key: &PrivateRow) -> Result<String, Fail> {
     let space = if key.comment.is_empty() { " " } else { "" };
     Ok(format!(in alloc; "{}{space}\r\n", key.line)?)
 }

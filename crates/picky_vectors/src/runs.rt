@@ -2,7 +2,7 @@
 
 use picky_convert::{Status, Target, convert, run};
 use picky_ppk::PpkVersion;
-use picky_suite::{PlainSuite, Suite};
+use picky_suite::{HandedSigner, PlainSuite, Suite};
 use picky_wire::{MemorySink, SliceSource, Source, Text};
 use std::alloc::Global;
 use std::process::Abort;
@@ -51,7 +51,7 @@ pub fn run_on<S: Source>(
     )
 }
 
-/// The same with passphrases, fresh bytes and a suite.
+/// The same with passphrases, fresh bytes and a suite. No device signs.
 pub fn run_given<P: Suite, S: Source>(
     alloc: Global,
     words: &[&str],
@@ -74,6 +74,7 @@ pub fn run_given<P: Suite, S: Source>(
         given.pass_out,
         given.fresh,
         suite,
+        &mut HandedSigner::new(None),
         source,
         &mut out,
         &mut err,
@@ -141,7 +142,16 @@ pub fn converts(
     target: &Target,
     text: &str,
 ) -> Result<(), Fail> {
-    let answer = convert(alloc, &mut PlainSuite::new(), line, None, target, None, &[])?;
+    let answer = convert(
+        alloc,
+        &mut PlainSuite::new(),
+        &mut HandedSigner::new(None),
+        line,
+        None,
+        target,
+        None,
+        &[],
+    )?;
     assert_eq!(rt; answer.as_str(), text, "{name}");
     let command = match target {
         Target::OpenSsh => "openssh",
@@ -149,6 +159,7 @@ pub fn converts(
         Target::Ppk(PpkVersion::V3, _) => "ppk3",
         Target::OpenSshPublic => "ssh-pub",
         Target::PuttyPublic => "putty-pub",
+        Target::Certificate(_) => "cert",
     };
     writes(rt, alloc, name, command, line, text)
 }

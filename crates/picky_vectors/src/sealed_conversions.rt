@@ -1,11 +1,8 @@
 //! Private keys that a run seals and opens, by the suite for tests and by one that fails.
 
-use crate::ppk_sealed::PASS;
-use crate::ppk_secrets::{HIGH, ZERO_TEXT};
-use crate::ppk_texts::TOY_V3;
 use crate::private_conversions::{ROOM, secret_envelope};
-use crate::private_keys::ZERO_KEY;
 use crate::runs::{Given, NOTHING, Ran, ended, run_given, written_text};
+use picky_key_rows::{HIGH, PASS, TOY_V3, ZERO_KEY, ZERO_TEXT};
 use picky_suite::{MemorySuite, PlainSuite};
 use picky_wire::SliceSource;
 use std::alloc::Global;

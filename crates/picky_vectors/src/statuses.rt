@@ -1,6 +1,7 @@
 //! How a run ends: its status, its line on standard error, and what devices that fail make of both.
 
 use crate::runs::{ended, run_on};
+use picky_cert_builder::SshCertificateGenerationError;
 use picky_cert_parts::SshCertificateError;
 use picky_convert::{ConvertError, ReadError, Status, word};
 use picky_putty_public::PuttyError;
@@ -59,7 +60,7 @@ const USAGE: &str =
     "keyconv: usage: keyconv openssh|ppk2|ppk3|ssh-pub|putty-pub|cert|tbs|fingerprint|sample\n";
 
 // A status, its exit code and its line (docs/FORMATS.md, "The line on standard error").
-const REPORTS: [(Status, u8, &str); 14] = [
+const REPORTS: [(Status, u8, &str); 17] = [
     (
         Status::Usage,
         2,
@@ -107,6 +108,21 @@ const REPORTS: [(Status, u8, &str); 14] = [
         Status::Refused(ConvertError::Putty(PuttyError::TooManyLines)),
         1,
         "keyconv: refused: output.putty.TooManyLines\n",
+    ),
+    (
+        Status::Refused(ConvertError::Issuer(ReadError::Public(SshPublicKeyError::TooLong))),
+        1,
+        "keyconv: refused: issuer.public.TooLong\n",
+    ),
+    (
+        Status::Refused(ConvertError::Issuer(ReadError::Certificate(SshCertificateError::TooLong))),
+        1,
+        "keyconv: refused: issuer.cert.TooLong\n",
+    ),
+    (
+        Status::Refused(ConvertError::Request(SshCertificateGenerationError::InvalidTime)),
+        1,
+        "keyconv: refused: request.InvalidTime\n",
     ),
 ];
 

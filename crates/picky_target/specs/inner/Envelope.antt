@@ -11,7 +11,7 @@ use Rattle.picky_sshkey.specs.Made.{key_made}
 use Rattle.picky_sshkey.specs.Written.{key_text, text_writing_asks}
 use Rattle.picky_target.specs.declared.error.ConvertError.{ConvertError}
 use Rattle.picky_target.specs.declared.error.ConvertError.TheVariants as errors
-use Rattle.picky_target.specs.declared.target.Target.TheVariants as targets
+use Rattle.picky_target.specs.declared.target.KeyTarget.TheVariants as targets
 use Rattle.picky_target.specs.Output.{Output}
 use Rattle.picky_target.specs.Judged.{carries_comment}
 

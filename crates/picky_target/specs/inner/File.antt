@@ -18,7 +18,7 @@ use Rattle.picky_ppk.specs.Changed.{of_base_key}
 use Rattle.picky_ppk.specs.Sealed.{draft_of, encrypted}
 use Rattle.picky_target.specs.declared.error.ConvertError.{ConvertError}
 use Rattle.picky_target.specs.declared.error.ConvertError.TheVariants as errors
-use Rattle.picky_target.specs.declared.target.Target.TheVariants as targets
+use Rattle.picky_target.specs.declared.target.KeyTarget.TheVariants as targets
 use Rattle.picky_target.specs.Drafts.{salt_len, padding_len}
 use Rattle.picky_target.specs.Output.{Output}
 use Rattle.picky_target.specs.Judged.{carries_comment, derives_under, mac_len}

@@ -1,12 +1,42 @@
 -- A command's answer, by the command.
-use Rattle.picky_convert.specs.inner.Causes.{outside}
-use Rattle.picky_convert.proofs.OutcomeLemmas.{still_leaves}
+use Rattle.std.proofs.Common.{Global, ap, sym}
+use Rattle.std.specs.Prelude.{string_bytes}
+use Rattle.picky_layout.specs.Outcome.{map_ok}
+use Rattle.picky_wire.specs.Count.{Rose}
+use Rattle.picky_conversion.specs.Certify.{IsReadFault}
+use Rattle.picky_convert.specs.Command.{fingerprints}
+use Rattle.picky_conversion.specs.Issue.{IsIssuingFault, issued_bytes}
+use Rattle.picky_conversion.specs.Made.{Whole}
+use Rattle.picky_conversion.specs.Outside.{outside}
+use Rattle.picky_conversion.proofs.CertifyLemmas.{plain_made}
+use Rattle.picky_conversion.proofs.CertifyLemmas.{still_leaves, still_signs}
 use Rattle.picky_convert.proofs.command.answer_to.Goals as goal
+
+pub returns-in-Ok-clause-gives : goal.returns-in-Ok-clause-gives
+returns-in-Ok-clause-gives g c =
+    rw c.in-Convert.is (Whole c.in-Ok.text, ap (map_ok Whole) c.in-Ok.ensures.gives, c.into_string.ensures.bytes)
 
 pub returns-in-Err-clause-suite : goal.returns-in-Err-clause-suite
 returns-in-Err-clause-suite g c = rw c.in-Convert.is (still_leaves _ _ _ c.in-Err.e _ _ c.in-Err.ensures.suite)
 
+pub returns-in-Err-issue-clause-suite : goal.returns-in-Err-issue-clause-suite
+returns-in-Err-issue-clause-suite g c = rw c.in-Certify.is (still_leaves _ _ _ c.in-Err-issue.e _ _ c.in-Err-issue.ensures.suite)
+
+pub returns-in-Err-issue-clause-signer : goal.returns-in-Err-issue-clause-signer
+returns-in-Err-issue-clause-signer g c = rw c.in-Certify.is (still_signs _ _ _ c.in-Err-issue.e _ _ c.in-Err-issue.ensures.signer)
+
+pub returns-in-PrintSigned-clause-gives : goal.returns-in-PrintSigned-clause-gives
+returns-in-PrintSigned-clause-gives g c =
+    let o = outside (g.S.Suite.meanings c.args.suite.now) c.args.given in
+    let rose = Rose (g.S.Suite.faults c.args.suite.now) (g.S.Suite.faults c.print_signed.new.suite) in
+    rw c.in-PrintSigned.is
+    (plain_made (g.G.Signer.signs c.args.signer.now) (string_bytes {Z = Global}) (issued_bytes o c.in-PrintSigned.options c.args.text.now)
+    (λ e. IsIssuingFault o c.args.text.now e rose) _ c.print_signed.result c.print_signed.ensures.gives)
+
 pub returns-in-Fingerprint-clause-gives : goal.returns-in-Fingerprint-clause-gives
 returns-in-Fingerprint-clause-gives g c =
+    let o = outside (g.S.Suite.meanings c.args.suite.now) c.args.given in
+    let rose = Rose (g.S.Suite.faults c.args.suite.now) (g.S.Suite.faults c.fingerprint.new.suite) in
     rw c.in-Fingerprint.is
-    (c.fingerprint.ensures.gives (outside (g.S.Suite.meanings c.args.suite.now) c.args.given).output)
+    (plain_made (g.G.Signer.signs c.args.signer.now) (string_bytes {Z = Global}) (fingerprints o c.args.text.now)
+    (λ e. IsReadFault o c.args.text.now e rose) _ c.fingerprint.result c.fingerprint.ensures.gives)

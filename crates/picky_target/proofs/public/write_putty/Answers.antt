@@ -2,7 +2,7 @@ use Rattle.std.proofs.Common.{◌≡◌, false, true, subst}
 use Rattle.picky_wire.specs.Gives.{Gives}
 use Rattle.picky_putty_public.specs.PuttyRefusal.{is_hardware}
 use Rattle.picky_target.specs.declared.error.ConvertError.TheVariants as errors
-use Rattle.picky_target.specs.declared.target.Target.TheVariants as targets
+use Rattle.picky_target.specs.declared.target.KeyTarget.TheVariants as targets
 use Rattle.picky_target.specs.Judged.{carries_comment}
 use Rattle.picky_target.proofs.PublicLemmas.{putty_is_written}
 use Rattle.picky_target.proofs.public.write_putty.Goals as goal

@@ -1,0 +1,3 @@
+pub mod DraftedLaws
+pub mod ReadBackLemmas
+mod SignedLemmas

@@ -1,0 +1,4 @@
+pub mod Request
+pub mod Drafted
+pub mod Certified
+pub mod inner

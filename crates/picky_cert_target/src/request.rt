@@ -1,0 +1,134 @@
+//! What is asked of a certificate.
+
+ghost use Rattle.std.specs.Prelude.{◌≡◌, IfOk};
+ghost use Rattle.picky_cert_target.specs.Request.{asked_for, issuer_in};
+
+use picky_cert_builder::{IssuerKey, SshCertificateBuilder};
+use picky_cert_names::SshCertKeyType;
+use picky_cert_parts::{SshCertType, SshCriticalOption, SshExtension};
+use picky_key_text::{Key, Meaning, public_key};
+use picky_keys::SignatureAlgorithm;
+use picky_wire::{List, NoMemory, Text, Timestamp, TryClone};
+use std::alloc::Global;
+
+/// What is asked of a certificate beside its subject's key and its comment, which a key text means.
+#[derive(Drop)]
+pub struct CertRequest {
+    /// The type of certificates.
+    pub cert_key_type: Option<SshCertKeyType>,
+    /// Whether it is a user's or a host's.
+    pub cert_type: Option<SshCertType>,
+    /// The serial number; 0 where none is given.
+    pub serial: Option<u64>,
+    /// The name by which the issuer logs it; empty where none is given.
+    pub key_id: Option<Text>,
+    /// The user or host names that it is for; where none are given, it is for all.
+    pub principals: List<Text>,
+    pub valid_after: Option<Timestamp>,
+    pub valid_before: Option<Timestamp>,
+    pub critical_options: List<SshCriticalOption>,
+    /// What it permits; a user's certificate without any gets the five permits.
+    pub extensions: List<SshExtension>,
+    /// The algorithm to sign by, where it isn't the type's own.
+    pub signature_algo: Option<SignatureAlgorithm>,
+    /// The key of who signs; the device is handed its secret too, where it is here.
+    pub issuer: Option<Key>,
+}
+
+impl TryClone for CertRequest {
+    fn try_clone(&self, alloc: Global) -> Result<CertRequest, NoMemory> {
+        let key_id = text_where_given(alloc, &self.key_id)?;
+        let principals = self.principals.try_clone(alloc)?;
+        let critical_options = self.critical_options.try_clone(alloc)?;
+        let extensions = self.extensions.try_clone(alloc)?;
+        let issuer = key_where_given(alloc, &self.issuer)?;
+        Ok(CertRequest {
+            cert_key_type: self.cert_key_type,
+            cert_type: self.cert_type,
+            serial: self.serial,
+            key_id,
+            principals,
+            valid_after: self.valid_after,
+            valid_before: self.valid_before,
+            critical_options,
+            extensions,
+            signature_algo: self.signature_algo,
+            issuer,
+        })
+    }
+}
+
+/// The certificate that is asked for of a key and a comment. Refuses: `NoMemory`.
+pub fn builder_of(
+    alloc: Global,
+    request: &CertRequest,
+    meaning: Meaning,
+) -> Result<SshCertificateBuilder, NoMemory>
+    ensures { IfOk result (λ builder. builder ≡ asked_for request.now meaning) }
+{
+    let comment = meaning.comment.try_clone(alloc)?;
+    let key = public_key(alloc, meaning)?;
+    let key_id = text_where_given(alloc, &request.key_id)?;
+    let principals = request.principals.try_clone(alloc)?;
+    let critical_options = request.critical_options.try_clone(alloc)?;
+    let extensions = request.extensions.try_clone(alloc)?;
+    let issuer = issuer_where_given(alloc, &request.issuer)?;
+    Ok(SshCertificateBuilder {
+        cert_key_type: request.cert_key_type,
+        public_key: Some(key),
+        serial: request.serial,
+        cert_type: request.cert_type,
+        key_id,
+        valid_principals: Some(principals),
+        valid_after: request.valid_after,
+        valid_before: request.valid_before,
+        critical_options: Some(critical_options),
+        extensions: Some(extensions),
+        issuer,
+        signature_algo: request.signature_algo,
+        comment: Some(comment),
+    })
+}
+
+/// A copy of the text, where there is one. Refuses: `NoMemory`.
+fn text_where_given(alloc: Global, text: &Option<Text>) -> Result<Option<Text>, NoMemory>
+    ensures { IfOk result (λ copy. copy ≡ text.now) }
+{
+    match text {
+        Some(text) => {
+            let text = text.try_clone(alloc)?;
+            Ok(Some(text))
+        }
+        None => Ok(None),
+    }
+}
+
+/// A copy of the key, where there is one. Refuses: `NoMemory`.
+fn key_where_given(alloc: Global, key: &Option<Key>) -> Result<Option<Key>, NoMemory>
+    ensures { IfOk result (λ copy. copy ≡ key.now) }
+{
+    match key {
+        Some(key) => {
+            let key = key.try_clone(alloc)?;
+            Ok(Some(key))
+        }
+        None => Ok(None),
+    }
+}
+
+/// The same as an issuer's. Refuses: `NoMemory`.
+fn issuer_where_given(alloc: Global, key: &Option<Key>) -> Result<Option<IssuerKey>, NoMemory>
+    ensures { IfOk result (λ issuer. issuer ≡ issuer_in key.now) }
+{
+    match key {
+        Some(Key::Private(key)) => {
+            let key = key.try_clone(alloc)?;
+            Ok(Some(IssuerKey::Private(key)))
+        }
+        Some(Key::Public(key)) => {
+            let key = key.try_clone(alloc)?;
+            Ok(Some(IssuerKey::Public(key)))
+        }
+        None => Ok(None),
+    }
+}

@@ -1,0 +1,8 @@
+pub mod JudgedLemmas
+pub mod AnswerLemmas
+pub mod ConvertLemmas
+pub mod CertifyLemmas
+pub mod IssueLemmas
+pub mod IssuedLemmas
+pub mod ToLemmas
+pub mod LawLemmas

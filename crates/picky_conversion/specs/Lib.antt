@@ -1,0 +1,9 @@
+pub mod Outside
+pub mod Want
+pub mod Refusal
+pub mod Made
+pub mod Convert
+pub mod Certify
+pub mod To
+pub mod Issue
+pub mod Chain

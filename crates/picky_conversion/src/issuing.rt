@@ -1,0 +1,146 @@
+//! Certificates issued from one source.
+
+ghost use Rattle.std.specs.Prelude.{◌≡◌, IfOk, string_bytes};
+ghost use Rattle.std.specs.Option.{option_copied};
+ghost use Rattle.picky_layout.specs.Outcome.{map_ok};
+ghost use Rattle.picky_suite.specs.Failures.{IsAskedFault};
+ghost use Rattle.picky_wire.specs.Count.{Rose};
+ghost use Rattle.picky_cert_builder.specs.Draft.{Unsigned};
+ghost use Rattle.picky_cert.specs.Spelled.{signed_of};
+ghost use Rattle.picky_conversion.specs.Certify.{hex_line};
+ghost use Rattle.picky_conversion.specs.Convert.{LeavesAskedSuite};
+ghost use Rattle.picky_conversion.specs.Issue.{IsIssuingFault, asks_issuer, issued, issued_bytes, issuer_fault, issuer_read, issuing_asks, request_by as request_by_options};
+ghost use Rattle.picky_conversion.specs.Made.{Answers, AnswersPlain, LeavesSigner, ToSign, is_signed};
+ghost use Rattle.picky_conversion.specs.Outside.{outside};
+
+use crate::conversion::{bytes_to_sign, certify, issuer_refusal};
+use crate::given::Given;
+use picky_cert_target::CertRequest;
+use picky_issuing::{CertOptions, parts_of};
+use picky_key_text::{Key, Meaning, read_text};
+use picky_suite::{Signer, Suite};
+use picky_target::ConvertError;
+use picky_wire::Text;
+use std::alloc::{AllocError, Global};
+
+/// The line of the certificate that the options ask of the key text, of the issuer whose text stands before it.
+pub fn issue<S: Suite, G: Signer>(
+    alloc: Global,
+    suite: &mut S,
+    signer: &mut G,
+    options: CertOptions,
+    input: &str,
+    given: Given<'_>,
+) -> Result<Text, ConvertError>
+    ensures gives { Answers (G.signs signer.old) (λ text. text) (map_ok ToSign (issued (outside (S.meanings suite.old) given.entry) options input.now))
+        (λ e. IsIssuingFault (outside (S.meanings suite.old) given.entry) input.now e (Rose (S.faults suite.old) (S.faults suite.new)))
+        (Rose (G.faults signer.old) (G.faults signer.new)) result }
+    ensures suite { LeavesAskedSuite S.meanings S.faults (issuing_asks (outside (S.meanings suite.old) given.entry) input.now) result suite.old suite.new }
+    ensures signer { LeavesSigner G.signs G.faults
+        (is_signed (map_ok ToSign (issued (outside (S.meanings suite.old) given.entry) options input.now))) result signer.old signer.new }
+{
+    let parts = parts_of(input);
+    match issuer_of(alloc, suite, parts.issuer, given) {
+        Ok(issuer) => certify(
+            alloc,
+            suite,
+            signer,
+            parts.key,
+            &request_by(options, issuer),
+            given,
+        ),
+        Err(e) => Err(e),
+    }
+}
+
+/// What is to be signed of it, in lower-case hex, and LF.
+pub fn print_signed<S: Suite>(
+    alloc: Global,
+    suite: &mut S,
+    options: CertOptions,
+    input: &str,
+    given: Given<'_>,
+) -> Result<String, ConvertError>
+    ensures gives { AnswersPlain string_bytes (issued_bytes (outside (S.meanings suite.old) given.entry) options input.now)
+        (λ e. IsIssuingFault (outside (S.meanings suite.old) given.entry) input.now e (Rose (S.faults suite.old) (S.faults suite.new))) result }
+    ensures suite { LeavesAskedSuite S.meanings S.faults (issuing_asks (outside (S.meanings suite.old) given.entry) input.now) result suite.old suite.new }
+{
+    let parts = parts_of(input);
+    match issuer_of(alloc, suite, parts.issuer, given) {
+        Ok(issuer) => {
+            match bytes_to_sign(alloc, suite, parts.key, &request_by(options, issuer), given) {
+                Ok(bytes) => match hex_text(alloc, bytes.as_slice()) {
+                    Ok(text) => Ok(text),
+                    Err(_) => Err(ConvertError::NoMemory),
+                },
+                Err(e) => Err(e),
+            }
+        }
+        Err(e) => Err(e),
+    }
+}
+
+/// The bytes in lower-case hex, and LF.
+fn hex_text(alloc: Global, bytes: &[u8]) -> Result<String, AllocError>
+    ensures { IfOk result (λ text. (u : Unsigned) → bytes.now ≡ signed_of u.certificate → string_bytes text ≡ hex_line u) }
+{
+    let mut text = hex::encode(alloc, bytes)?;
+    text.push_str("\n")?;
+    Ok(text)
+}
+
+/// The key that the issuer's text means, where there is one.
+fn issuer_of<S: Suite>(
+    alloc: Global,
+    suite: &mut S,
+    issuer: Option<&str>,
+    given: Given<'_>,
+) -> Result<Option<Key>, ConvertError>
+    ensures gives { AnswersPlain (λ key. key) (issuer_read (outside (S.meanings suite.old) given.entry) (option_copied issuer.entry))
+        (λ e. (e ≡ issuer_fault (option_copied issuer.entry))
+        × IsAskedFault (asks_issuer (outside (S.meanings suite.old) given.entry) (option_copied issuer.entry)) (Rose (S.faults suite.old) (S.faults suite.new))) result }
+    ensures suite { LeavesAskedSuite S.meanings S.faults
+        (asks_issuer (outside (S.meanings suite.old) given.entry) (option_copied issuer.entry)) result suite.old suite.new }
+{
+    match issuer {
+        Some(text) => match read_text(alloc, suite, text, given.pass_in) {
+            Ok(meaning) => {
+                let Meaning { key, .. } = meaning;
+                Ok(Some(key))
+            }
+            Err(e) => Err(issuer_refusal(e)),
+        },
+        None => Ok(None),
+    }
+}
+
+/// What the options ask, of an issuer.
+fn request_by(options: CertOptions, issuer: Option<Key>) -> CertRequest
+    ensures { result ≡ request_by_options options issuer }
+{
+    let CertOptions {
+        cert_key_type,
+        cert_type,
+        serial,
+        key_id,
+        principals,
+        valid_after,
+        valid_before,
+        critical_options,
+        extensions,
+        signature_algo,
+    } = options;
+    CertRequest {
+        cert_key_type,
+        cert_type,
+        serial,
+        key_id,
+        principals,
+        valid_after,
+        valid_before,
+        critical_options,
+        extensions,
+        signature_algo,
+        issuer,
+    }
+}

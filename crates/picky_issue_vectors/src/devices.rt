@@ -1,0 +1,96 @@
+//! The device that signs a certificate: what it is asked, and what comes of its failures.
+
+use crate::runs::{End, ends_by, ends_unsigned};
+use crate::zero_lines::{FRESH, HOST_SIGNED, SUBJECT_LINE, ZERO_HOST};
+use picky_cert::{SshCertKeyType, SshCertType};
+use picky_convert::{CertRequest, Key, Target, convert};
+use picky_sshpub::SshBasePublicKey;
+use picky_suite::{MemorySigner, PlainSuite};
+use picky_wire::{List, Timestamp};
+use std::alloc::Global;
+
+// The signature of the signer for tests is the SHA-256 digest of what is signed. With the functions of crate::zero_lines:
+// line(signed(2), payload=hashlib.sha256(signed(2)).digest())
+const DIGEST_LINE: &str =
+    "ssh-ed25519-cert-v01@openssh.com AAAAIHNzaC1lZDI1NTE5LWNlcnQtdjAxQG9wZW5zc2guY29tAAAAIAAAAAAAAAAAAAAAAAAAAAAAAAAAAAAAAAAAAAAAAAAAAAAAIAAAAAAAAAAAAAAAAAAAAAAAAAAAAAAAAAAAAAAAAAAAAAAAAAAAAAAAAAACAAAAAAAAAAAAAAAAAAAAAAAAAAAAAAAAAAAAAAAAAAAAAAAAAAAAMwAAAAtzc2gtZWQyNTUxOQAAACAAAAAAAAAAAAAAAAAAAAAAAAAAAAAAAAAAAAAAAAAAAAAAADMAAAALc3NoLWVkMjU1MTkAAAAg/50Z6JTWH1uo/bPxBPgnyVjeZJhK5abOPIAE9Wdebec= host\r\n";
+
+const FAULT: End<'static> = End {
+    code: 5,
+    out: "",
+    err: "keyconv: outside fault\n",
+};
+
+const DIGEST: End<'static> = End {
+    code: 0,
+    out: DIGEST_LINE,
+    err: "",
+};
+
+const SIGNED: End<'static> = End {
+    code: 0,
+    out: HOST_SIGNED,
+    err: "",
+};
+
+/// The zero certificate, by a device whose calls of these numbers fail.
+fn ends_with(alloc: Global, command: &str, failing: &[u64], end: &End<'_>) -> bool {
+    match MemorySigner::new(alloc, failing) {
+        Ok(mut signer) => ends_by(alloc, command, &ZERO_HOST, &mut signer, end),
+        Err(_) => false,
+    }
+}
+
+#[test]
+fn asks_a_device_once_for_a_certificate_alone(rt: HostRuntime) {
+    let all = [0, 1, 2, 3, 4, 5, 6, 7, 8, 9];
+    assert!(rt; ends_unsigned(rt.alloc(), "cert", &ZERO_HOST, &FAULT));
+    assert!(rt; ends_with(rt.alloc(), "cert", &all[..1], &FAULT));
+    assert!(rt; ends_with(rt.alloc(), "cert", &all[1..], &DIGEST));
+    assert!(rt; ends_with(rt.alloc(), "tbs", &all, &SIGNED));
+}
+
+/// The zero certificate's request.
+fn zero_request(alloc: Global) -> CertRequest {
+    CertRequest {
+        cert_key_type: Some(SshCertKeyType::SshEd25519V01),
+        cert_type: Some(SshCertType::Host),
+        serial: None,
+        key_id: None,
+        principals: List::new(alloc),
+        valid_after: Some(Timestamp(0)),
+        valid_before: Some(Timestamp(0)),
+        critical_options: List::new(alloc),
+        extensions: List::new(alloc),
+        signature_algo: None,
+        issuer: Some(Key::Public(SshBasePublicKey::Ed { key: [0; 32] })),
+    }
+}
+
+fn is_converted(alloc: Global, signer: &mut MemorySigner, target: &Target) -> bool {
+    match convert(
+        alloc,
+        &mut PlainSuite::new(),
+        signer,
+        SUBJECT_LINE,
+        None,
+        target,
+        None,
+        FRESH,
+    ) {
+        Ok(text) => text.as_str() == DIGEST_LINE,
+        Err(_) => false,
+    }
+}
+
+fn is_certified(alloc: Global) -> bool {
+    let target = Target::Certificate(zero_request(alloc));
+    match MemorySigner::new(alloc, &[]) {
+        Ok(mut signer) => is_converted(alloc, &mut signer, &target),
+        Err(_) => false,
+    }
+}
+
+#[test]
+fn converts_to_a_certificate(rt: HostRuntime) {
+    assert!(rt; is_certified(rt.alloc()));
+}

@@ -1,0 +1,7 @@
+mod EqualityLemmas
+mod NumberLaws
+pub mod PartsLemmas
+pub mod PartsLaws
+pub mod PartsText
+mod PayloadLemmas
+mod WordLemmas

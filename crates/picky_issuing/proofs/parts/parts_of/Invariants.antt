@@ -1,0 +1,11 @@
+use Rattle.std.proofs.Common.{length}
+use denote.Text.{Utf8}
+use denote.Shadow.{shadow}
+use Rattle.picky_issuing.proofs.PartsLemmas.{IsReadTo}
+use Rattle.picky_issuing.proofs.parts.parts_of.Given as goal
+
+abbrev pub invariant-lines : goal.invariant-lines
+invariant-lines l = shadow (Utf8 l.rest) × IsReadTo l.text l.rest
+
+abbrev pub decreases-lines : goal.decreases-lines
+decreases-lines l = length l.rest

@@ -1,0 +1,12 @@
+//! What the commands that issue certificates are given: their options in words, and the two parts of their source.
+#![tactic(auto)]
+
+pub mod laws;
+mod named_payload;
+mod option_word;
+mod options;
+mod parts;
+mod value;
+
+pub use options::{CertOptions, options_of};
+pub use parts::{Parts, parts_of};

@@ -1,0 +1,32 @@
+//! The digests that ssh-keygen shows of a key.
+
+use crate::hex_texts::hex_of;
+use picky_key_rows::{KEY_ROWS, KeyRow};
+use picky_sshpub::SshPublicKey;
+use picky_text::encode;
+use std::alloc::Global;
+use std::test::Fail;
+
+/// Base64 without its padding, as `ssh-keygen` shows a digest.
+fn shown(alloc: Global, digest: &[u8]) -> Result<String, Fail> {
+    let text = encode(alloc, digest)?;
+    String::from_str(alloc, text.as_str().trim_end_matches('=')).map_err(Fail::from)
+}
+
+/// The key of the row's line has the row's digests.
+fn is_shown(alloc: Global, row: &KeyRow) -> Result<bool, Fail> {
+    let key = SshPublicKey::from_str(alloc, row.line)?;
+    Ok(
+        hex_of(alloc, &key.fingerprint_md5())?.as_str() == row.md5
+            && shown(alloc, &key.fingerprint_sha1())?.as_str() == row.sha1
+            && shown(alloc, &key.fingerprint_sha256())?.as_str() == row.sha256,
+    )
+}
+
+#[test]
+fn gives_the_digests_of_ssh_keygen(rt: HostRuntime) -> Result<(), Fail> {
+    for row in &KEY_ROWS {
+        assert!(rt; is_shown(rt.alloc(), row)?, "{}", row.name);
+    }
+    Ok(())
+}

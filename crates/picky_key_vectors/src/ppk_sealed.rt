@@ -1,0 +1,275 @@
+//! Sealed PuTTY private key files: PuTTYgen's, read and written, and those of the suite for tests, whose cipher is a toy.
+
+use crate::hex_texts::hex_of;
+use crate::ppk_files::{is_kept, is_written, p256_ppk, ppk_of, row_ppk};
+use picky_key_rows::{CONFIG, PASS, PPK_ROWS, PpkRow, SEALED_V2, SEALED_V3, TOY_V2, TOY_V3};
+use picky_ppk::{
+    Argon2Flavour, Argon2Params, KeyMaterialV2, KeyMaterialV3, Ppk, PpkFile, PpkKeyAlgorithm,
+    PpkVersion, file_draft,
+};
+use picky_suite::MemorySuite;
+use picky_wire::Bytes;
+use rand_pcg::Pcg32;
+use std::alloc::Global;
+use std::test::Fail;
+
+pub const SALT: &[u8] = b"saltsaltsaltsalt";
+
+/// Of which a file takes as many bytes as it lacks.
+pub const PADDING: &[u8] = b"twelve bytes or more";
+
+/// The text with CR LF, as version 2 has it.
+fn is_kept_with_crlf(alloc: Global, text: &str) -> Result<bool, Fail> {
+    let with_crlf = text.replace(alloc, "\n", "\r\n")?;
+    is_kept(alloc, with_crlf.as_str())
+}
+
+#[test]
+fn reads_and_writes_the_sealed_files_of_puttygen(rt: HostRuntime) -> Result<(), Fail> {
+    assert!(rt; is_kept(rt.alloc(), SEALED_V3)?);
+    assert!(rt; is_kept_with_crlf(rt.alloc(), SEALED_V2)?);
+    Ok(())
+}
+
+/// The file is the sealed one of the P-256 key.
+fn is_sealed_row(ppk: &Ppk, version: PpkVersion) -> bool {
+    ppk.is_encrypted()
+        && ppk.version() == version
+        && ppk.algorithm() == PpkKeyAlgorithm::EcdsaSha2Nistp256
+        && ppk.comment() == "a comment"
+        && ppk.padding_len() == 0
+        && ppk.argon2_params().is_some() == (version == PpkVersion::V3)
+}
+
+/// Its public key is shown.
+fn shows_public(alloc: Global, ppk: &Ppk) -> Result<bool, Fail> {
+    let open = p256_ppk(alloc, PpkVersion::V3)?;
+    is_same_public(alloc, ppk, &open)
+}
+
+fn is_same_public(alloc: Global, ppk: &Ppk, open: &Ppk) -> Result<bool, Fail> {
+    Ok(ppk.public_key(alloc)? == open.public_key(alloc)?)
+}
+
+/// What Argon2 is run with in the sealed files of version 3, but for the salt.
+fn params(alloc: Global, salt: &[u8]) -> Result<Argon2Params, Fail> {
+    let salt = Bytes::new(alloc, salt)?;
+    Ok(Argon2Params {
+        flavor: Argon2Flavour::Argon2id,
+        memory: 8,
+        passes: 1,
+        parallelism: 1,
+        salt,
+    })
+}
+
+// The salt in SEALED_V3.
+const SEALED_SALT: &[u8] = b"\xc5\x63\x9f\x04\xb9\xab\xb4\x49\x97\x9f\xef\x76\x43\x3e\xd2\xc8";
+
+fn has_params(alloc: Global, ppk: &Ppk) -> Result<bool, Fail> {
+    Ok(ppk.argon2_params() == Some(&params(alloc, SEALED_SALT)?))
+}
+
+fn is_shown(alloc: Global, text: &str, version: PpkVersion) -> Result<bool, Fail> {
+    let ppk = ppk_of(alloc, text)?;
+    Ok(is_sealed_row(&ppk, version) && shows_public(alloc, &ppk)?)
+}
+
+fn shows_params(alloc: Global) -> Result<bool, Fail> {
+    let ppk = ppk_of(alloc, SEALED_V3)?;
+    has_params(alloc, &ppk)
+}
+
+#[test]
+fn shows_the_fields_of_a_sealed_file(rt: HostRuntime) -> Result<(), Fail> {
+    assert!(rt; is_shown(rt.alloc(), SEALED_V3, PpkVersion::V3)?);
+    assert!(rt; is_shown(rt.alloc(), SEALED_V2, PpkVersion::V2)?);
+    assert!(rt; shows_params(rt.alloc())?);
+    Ok(())
+}
+
+/// The file sealed by the suite for tests.
+pub fn sealed_of(alloc: Global, ppk: &Ppk) -> Result<Ppk, Fail> {
+    let mut suite = MemorySuite::new(alloc, &[])?;
+    let padding = &PADDING[..ppk.padding_len()];
+    Ok(ppk.encrypt(alloc, &mut suite, PASS, CONFIG, SALT, padding)?)
+}
+
+/// The sealed file is opened as the other.
+fn opens_to(alloc: Global, sealed: &Ppk, ppk: &Ppk) -> Result<bool, Fail> {
+    let mut suite = MemorySuite::new(alloc, &[])?;
+    Ok(sealed.decrypt(alloc, &mut suite, PASS)? == *ppk)
+}
+
+/// The file is sealed as the text, and opened again.
+fn is_sealed_as(alloc: Global, ppk: &Ppk, text: &str) -> Result<bool, Fail> {
+    let sealed = sealed_of(alloc, ppk)?;
+    is_written_and_opens(alloc, &sealed, ppk, text)
+}
+
+fn is_written_and_opens(alloc: Global, sealed: &Ppk, ppk: &Ppk, text: &str) -> Result<bool, Fail> {
+    Ok(
+        is_written(alloc, sealed, text)?
+            && opens_to(alloc, sealed, ppk)?
+            && is_drafted(alloc, sealed, ppk)?,
+    )
+}
+
+/// The file's draft has the sealed file's fields, but for its private bytes and its MAC.
+fn is_drafted(alloc: Global, sealed: &Ppk, ppk: &Ppk) -> Result<bool, Fail> {
+    let padding = &PADDING[..ppk.padding_len()];
+    if ppk.file().private_bytes.as_slice().len() > 1000 {
+        return Ok(false);
+    }
+    let draft = file_draft(alloc, ppk.file(), CONFIG, SALT, padding)?;
+    Ok(is_draft(&draft, sealed.file(), ppk.file()))
+}
+
+fn is_draft(draft: &PpkFile, sealed: &PpkFile, open: &PpkFile) -> bool {
+    let private = draft.private_bytes.as_slice();
+    draft.sealing == sealed.sealing
+        && draft.algorithm == sealed.algorithm
+        && draft.comment == sealed.comment
+        && draft.public_key == sealed.public_key
+        && private.len() == sealed.private_bytes.as_slice().len()
+        && private.starts_with(open.private_bytes.as_slice())
+        && draft.mac.as_slice().is_empty()
+}
+
+fn seals_version_3(alloc: Global) -> Result<bool, Fail> {
+    let ppk = p256_ppk(alloc, PpkVersion::V3)?;
+    is_sealed_as(alloc, &ppk, TOY_V3)
+}
+
+fn seals_version_2(alloc: Global) -> Result<bool, Fail> {
+    let text = TOY_V2.replace(alloc, "\n", "\r\n")?;
+    seals_as(alloc, text.as_str())
+}
+
+fn seals_as(alloc: Global, text: &str) -> Result<bool, Fail> {
+    let ppk = p256_ppk(alloc, PpkVersion::V2)?;
+    is_sealed_as(alloc, &ppk, text)
+}
+
+#[test]
+fn seals_and_opens_as_python_does(rt: HostRuntime) -> Result<(), Fail> {
+    assert!(rt; seals_version_3(rt.alloc())?);
+    assert!(rt; seals_version_2(rt.alloc())?);
+    Ok(())
+}
+
+fn comes_back(alloc: Global, row: &PpkRow, version: PpkVersion) -> Result<bool, Fail> {
+    let ppk = row_ppk(alloc, row, version)?;
+    is_opened_again(alloc, &ppk)
+}
+
+fn is_opened_again(alloc: Global, ppk: &Ppk) -> Result<bool, Fail> {
+    let sealed = sealed_of(alloc, ppk)?;
+    opens_to(alloc, &sealed, ppk)
+}
+
+#[test]
+fn opens_what_it_seals(rt: HostRuntime) -> Result<(), Fail> {
+    for row in &PPK_ROWS {
+        for version in [PpkVersion::V2, PpkVersion::V3] {
+            assert!(rt;
+                comes_back(rt.alloc(), row, version)?,
+                "{}, {version:?}",
+                row.name
+            );
+        }
+    }
+    Ok(())
+}
+
+// What O'Neill's PCG32 gives for the state 42 and the stream 54, whose first words the tables of the crate rand_pcg have too:
+// M, inc = 2 ** 64 - 1, 2 * 54 + 1
+// step = lambda x: x * 6364136223846793005 + inc & M
+// x = step(step(0) + 42 & M)
+// for _ in range(8):
+//     w, r = (x >> 18 ^ x) >> 27 & 0xffffffff, x >> 59
+//     print(((w >> r | w << (-r & 31)) & 0xffffffff).to_bytes(4, "little").hex())
+//     x = step(x)
+const FIRST: &[u8; 16] = b"\xb7\x02\x5c\xa1\x09\xf4\x47\x7b\x30\x33\x1d\xba\x93\xf2\xd2\x83";
+
+const SECOND: &[u8; 16] = b"\x4b\x78\xa4\xbf\x6e\x60\xed\xcb\xad\xa3\xc6\xbf\x6d\xff\x2f\x81";
+
+/// The file sealed with what the generator gives.
+fn drawn_of(alloc: Global, ppk: &Ppk) -> Result<Ppk, Fail> {
+    let mut suite = MemorySuite::new(alloc, &[])?;
+    let mut rng = Pcg32::new(42, 54);
+    Ok(ppk.encrypt_with_rng(alloc, &mut suite, PASS, CONFIG, &mut rng)?)
+}
+
+/// The file sealed with a salt, and a padding from these bytes.
+fn sealed_with(alloc: Global, ppk: &Ppk, salt: &[u8; 16], bytes: &[u8; 16]) -> Result<Ppk, Fail> {
+    let mut suite = MemorySuite::new(alloc, &[])?;
+    let padding = &bytes[..ppk.padding_len()];
+    Ok(ppk.encrypt(alloc, &mut suite, PASS, CONFIG, salt, padding)?)
+}
+
+/// The generator gives this salt, and a padding from these bytes.
+fn draws(alloc: Global, ppk: &Ppk, salt: &[u8; 16], bytes: &[u8; 16]) -> Result<bool, Fail> {
+    let drawn = drawn_of(alloc, ppk)?;
+    Ok(sealed_with(alloc, ppk, salt, bytes)? == drawn)
+}
+
+fn draws_in(
+    alloc: Global,
+    version: PpkVersion,
+    salt: &[u8; 16],
+    bytes: &[u8; 16],
+) -> Result<bool, Fail> {
+    let ppk = p256_ppk(alloc, version)?;
+    draws(alloc, &ppk, salt, bytes)
+}
+
+// Version 2 has no salt.
+#[test]
+fn draws_a_salt_and_then_a_padding(rt: HostRuntime) -> Result<(), Fail> {
+    assert!(rt; draws_in(rt.alloc(), PpkVersion::V3, FIRST, SECOND)?);
+    assert!(rt; draws_in(rt.alloc(), PpkVersion::V2, SECOND, FIRST)?);
+    Ok(())
+}
+
+// printf '\0\0\0\0pass' | sha1sum; printf '\0\0\0\1pass' | sha1sum; the first 64 digits of both together. With this key
+// `openssl enc -d -aes-256-cbc -nopad -K $key -iv 0` gives for SEALED_V2's private bytes those of the P-256 key.
+#[test]
+fn derives_the_key_of_puttygen_in_version_2(rt: HostRuntime) -> Result<(), Fail> {
+    let material = KeyMaterialV2::derive("pass");
+    let key = hex_of(rt.alloc(), material.key())?;
+    assert_eq!(rt;
+        key.as_str(),
+        "a29e49726b1ebcf350e0d5af740ff41d2143228a4308cd1349407aca6755db79"
+    );
+    assert_eq!(rt; KeyMaterialV2::iv(), [0; 16]);
+    Ok(())
+}
+
+fn material(alloc: Global) -> Result<KeyMaterialV3, Fail> {
+    let mut suite = MemorySuite::new(alloc, &[])?;
+    let params = params(alloc, SALT)?;
+    Ok(KeyMaterialV3::derive(&mut suite, &params, PASS)?)
+}
+
+/// The three keys, one after another.
+fn in_hex(alloc: Global, material: &KeyMaterialV3) -> Result<String, Fail> {
+    let key = hex_of(alloc, material.key())?;
+    let iv = hex_of(alloc, material.iv())?;
+    let mac_key = hex_of(alloc, material.hmac_key())?;
+    Ok(format!(in alloc; "{key} {iv} {mac_key}")?)
+}
+
+// Of D in picky_key_rows::ppk_texts: D[:32].hex(), D[32:48].hex(), D[48:80].hex()
+#[test]
+fn cuts_the_keys_of_version_3(rt: HostRuntime) -> Result<(), Fail> {
+    let material = material(rt.alloc())?;
+    let keys = in_hex(rt.alloc(), &material)?;
+    assert_eq!(rt;
+        keys.as_str(),
+        "506a4b2573d1c741c0ce4c93734f6a225ea38d53097044fb95e702a25e550562 \
+         bae6cc3eb5b515c9d85b84d4fde59cd2 \
+         d73fe4b3caa3ab43d0f2dadb6622cd59c146a513b91ec4542b7af1c81de0760a"
+    );
+    Ok(())
+}

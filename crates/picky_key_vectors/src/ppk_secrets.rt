@@ -1,0 +1,131 @@
+//! Ed25519 secrets in PuTTY's private key files, which are numbers there: without their leading zeros, with a zero before a
+//! first byte of 128 or more, and as the 32 bytes that PuTTY writes.
+
+use crate::ppk_files::{gives_back, is_kept, is_made_in, is_written_in, ppk_of};
+use picky_key_rows::{HIGH, LOW, SECRET_ROWS, SecretRow, ZERO_TEXT, ZEROS, secret_text_of};
+use picky_ppk::{PpkVersion, PuttyError};
+use picky_sshkey::{SshBasePrivateKey, SshPrivateKey};
+use std::alloc::Global;
+use std::test::Fail;
+
+// row(s(bytes(32))), row(s(b"\x80" + bytes(31))), row(s(b"\0" + b"\1" * 31)), row(s(b"\0\0\x80" + bytes(31)))
+static OTHER_SPELLINGS: [SecretRow; 4] = [
+    SecretRow {
+        name: "zeros as 32 bytes",
+        secret: ZEROS,
+        private: "AAAAIAAAAAAAAAAAAAAAAAAAAAAAAAAAAAAAAAAAAAAAAAAA",
+        mac_v2: "3a746de6a508016f8c6288c87fe8cbf95bb834df",
+        mac_v3: "fb9a6403353929a728b6905960b39cdae6b0a79450ba4dd2a8e42acee160bdd8",
+    },
+    SecretRow {
+        name: "80 and zeros as 32 bytes",
+        secret: HIGH,
+        private: "AAAAIIAAAAAAAAAAAAAAAAAAAAAAAAAAAAAAAAAAAAAAAAAA",
+        mac_v2: "3804f1e29970b3c8024998c3bcdfb51bedbfeefd",
+        mac_v3: "711ac24d79cb13f45d7d89f31b3a6c346f10ab66bb92f9b65173cdec23a26629",
+    },
+    SecretRow {
+        name: "00 and bytes 01 as 32 bytes",
+        secret: LOW,
+        private: "AAAAIAABAQEBAQEBAQEBAQEBAQEBAQEBAQEBAQEBAQEBAQEB",
+        mac_v2: "61956680b526dbab6f3e19dc8575928ef8839bc2",
+        mac_v3: "4fddf736e5f076acb6af6231e6f02a304b88ee032ee6812de96be2d6d0b19986",
+    },
+    SecretRow {
+        name: "80 and zeros after two zeros",
+        secret: HIGH,
+        private: "AAAAIgAAgAAAAAAAAAAAAAAAAAAAAAAAAAAAAAAAAAAAAAAAAAA=",
+        mac_v2: "10a5a7aeefb87cb46e7f29542ba98e106b04f6d0",
+        mac_v3: "f69deac6c58bde002e556e571ea595edc713a7bd245672f9eb075a27d8d93a7b",
+    },
+];
+
+/// The key of a secret, with 32 zero public bytes.
+pub fn key_of(alloc: Global, secret: [u8; 32]) -> Result<SshPrivateKey, Fail> {
+    let base = SshBasePrivateKey::Ed {
+        secret,
+        public: [0; 32],
+    };
+    Ok(SshPrivateKey::from_base(alloc, base, None, "hello", &[0; 16])?)
+}
+
+/// The row's key makes its file in the version.
+fn is_row_made(alloc: Global, row: &SecretRow, version: PpkVersion) -> Result<bool, Fail> {
+    let text = secret_text_of(alloc, row, version)?;
+    makes(alloc, row.secret, version, text.as_str())
+}
+
+fn makes(alloc: Global, secret: [u8; 32], version: PpkVersion, text: &str) -> Result<bool, Fail> {
+    let key = key_of(alloc, secret)?;
+    is_made_in(alloc, &key, version, text)
+}
+
+/// The row's file in the version says its key.
+fn says_key(alloc: Global, row: &SecretRow, version: PpkVersion) -> Result<bool, Fail> {
+    let text = secret_text_of(alloc, row, version)?;
+    is_said(alloc, row.secret, text.as_str())
+}
+
+fn is_said(alloc: Global, secret: [u8; 32], text: &str) -> Result<bool, Fail> {
+    Ok(is_kept(alloc, text)? && is_given(alloc, secret, text)?)
+}
+
+fn is_given(alloc: Global, secret: [u8; 32], text: &str) -> Result<bool, Fail> {
+    let key = key_of(alloc, secret)?;
+    gives_back(alloc, text, &key)
+}
+
+#[test]
+fn writes_a_secret_as_a_number(rt: HostRuntime) -> Result<(), Fail> {
+    for row in &SECRET_ROWS {
+        assert!(rt;
+            is_row_made(rt.alloc(), row, PpkVersion::V3)?,
+            "{}",
+            row.name
+        );
+        assert!(rt;
+            is_row_made(rt.alloc(), row, PpkVersion::V2)?,
+            "{}",
+            row.name
+        );
+    }
+    Ok(())
+}
+
+#[test]
+fn reads_a_secret_as_a_number(rt: HostRuntime) -> Result<(), Fail> {
+    for row in SECRET_ROWS.iter().chain(&OTHER_SPELLINGS) {
+        assert!(rt; says_key(rt.alloc(), row, PpkVersion::V3)?, "{}", row.name);
+        assert!(rt; says_key(rt.alloc(), row, PpkVersion::V2)?, "{}", row.name);
+    }
+    Ok(())
+}
+
+/// The secret of one zero byte is under another MAC.
+fn is_told(alloc: Global) -> Result<bool, Fail> {
+    let text = ZERO_TEXT.replace(alloc, "AAAAAA==", "AAAAAQA=")?;
+    Ok(ppk_of(alloc, text.as_str()).err() == Some(PuttyError::MacValidation))
+}
+
+/// The file of the text in version 2 is written as the text of the first row, which is read again.
+fn is_changed(alloc: Global) -> Result<bool, Fail> {
+    let text = secret_text_of(alloc, &SECRET_ROWS[0], PpkVersion::V2)?;
+    is_zero_in_version_2(alloc, text.as_str())
+}
+
+fn is_zero_in_version_2(alloc: Global, text: &str) -> Result<bool, Fail> {
+    Ok(is_changed_to(alloc, text)? && is_kept(alloc, text)?)
+}
+
+fn is_changed_to(alloc: Global, text: &str) -> Result<bool, Fail> {
+    let ppk = ppk_of(alloc, ZERO_TEXT)?;
+    is_written_in(alloc, &ppk, PpkVersion::V2, text)
+}
+
+#[test]
+fn covers_the_spelling_by_the_mac(rt: HostRuntime) -> Result<(), Fail> {
+    assert!(rt; makes(rt.alloc(), ZEROS, PpkVersion::V3, ZERO_TEXT)?);
+    assert!(rt; is_told(rt.alloc())?);
+    assert!(rt; is_changed(rt.alloc())?);
+    Ok(())
+}

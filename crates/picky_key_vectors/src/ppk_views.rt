@@ -1,0 +1,79 @@
+//! What is seen of a PuTTY private key file that isn't sealed: its fields, its public key, copies, and which are equal.
+
+use crate::ppk_files::{p256_ppk, ppk_of, row_ppk};
+use crate::putty_public::shown;
+use picky_key_rows::{PPK_ROWS, PRIVATE_ROWS, PpkRow, SEALED_V3, VERSIONS};
+use picky_ppk::{Ppk, PpkVersion, PuttyError};
+use picky_sshpub::SshPublicKey;
+use picky_wire::TryClone;
+use std::alloc::Global;
+use std::test::Fail;
+
+/// The file has the row's fields in the version.
+fn has_fields(ppk: &Ppk, row: &PpkRow, version: PpkVersion) -> bool {
+    ppk.version() == version
+        && ppk.algorithm() == row.algorithm
+        && ppk.comment() == row.comment
+        && ppk.padding_len() == row.padding_len
+        && !ppk.is_encrypted()
+        && ppk.argon2_params().is_none()
+}
+
+/// The file has the public key of the line.
+fn has_public(alloc: Global, ppk: &Ppk, line: &str) -> Result<bool, Fail> {
+    let key = SshPublicKey::from_str(alloc, line)?;
+    Ok(is_public(alloc, ppk, &key)? && is_extracted(alloc, ppk, &key)?)
+}
+
+fn is_public(alloc: Global, ppk: &Ppk, key: &SshPublicKey) -> Result<bool, PuttyError> {
+    Ok(shown(&ppk.public_key(alloc)?) == key.inner_key())
+}
+
+fn is_extracted(alloc: Global, ppk: &Ppk, key: &SshPublicKey) -> Result<bool, PuttyError> {
+    let public = ppk.extract_putty_public_key(alloc)?;
+    Ok(public.to_openssh(alloc)? == *key)
+}
+
+fn is_copied(alloc: Global, ppk: &Ppk) -> Result<bool, Fail> {
+    Ok(ppk.try_clone(alloc)? == *ppk)
+}
+
+fn shows_row(alloc: Global, row: &PpkRow, version: PpkVersion, line: &str) -> Result<bool, Fail> {
+    let ppk = row_ppk(alloc, row, version)?;
+    Ok(has_fields(&ppk, row, version) && has_parts(alloc, &ppk, line)?)
+}
+
+fn has_parts(alloc: Global, ppk: &Ppk, line: &str) -> Result<bool, Fail> {
+    Ok(has_public(alloc, ppk, line)? && is_copied(alloc, ppk)?)
+}
+
+#[test]
+fn shows_the_fields_of_a_file(rt: HostRuntime) -> Result<(), Fail> {
+    for (row, key_row) in PPK_ROWS.iter().zip(&PRIVATE_ROWS) {
+        for version in VERSIONS {
+            let alloc = rt.alloc();
+            assert!(rt;
+                shows_row(alloc, row, version, key_row.line)?,
+                "{}, {version:?}",
+                row.name
+            );
+        }
+    }
+    Ok(())
+}
+
+/// It is neither the file of the other version nor the sealed one.
+fn is_apart(alloc: Global, ppk: &Ppk) -> Result<bool, Fail> {
+    Ok(p256_ppk(alloc, PpkVersion::V2)? != *ppk && ppk_of(alloc, SEALED_V3)? != *ppk)
+}
+
+fn are_apart(alloc: Global) -> Result<bool, Fail> {
+    let ppk = p256_ppk(alloc, PpkVersion::V3)?;
+    is_apart(alloc, &ppk)
+}
+
+#[test]
+fn tells_files_apart(rt: HostRuntime) -> Result<(), Fail> {
+    assert!(rt; are_apart(rt.alloc())?);
+    Ok(())
+}

@@ -1,0 +1,295 @@
+//! The texts of errors: each is its variant's name, whatever the variant holds.
+
+use crate::ppk_fields::parsing_error;
+use picky_cert_builder::SshCertificateGenerationError;
+use picky_convert::{ConvertError, ReadError};
+use picky_kv::{BlockError, KvError, PpkValueError};
+use picky_putty_public::PuttyError;
+use picky_sshkey::{PemError, SshPrivateKeyError};
+use picky_sshpub::SshPublicKeyError;
+use picky_suite::SignError;
+use picky_wire::{Failed, IoKind, NoMemory, SizeError, Text, WireError};
+use std::alloc::{AllocError, AllocGlobal, Global};
+use std::fmt::Display;
+use std::process::Abort;
+use std::test::Fail;
+
+/// Each error prints its name.
+pub fn prints<E: Display>(
+    rt: &(impl Abort + AllocGlobal),
+    rows: &[(E, &str)],
+) -> Result<(), AllocError> {
+    for (error, name) in rows {
+        let text = format!(in rt.alloc(); "{error}")?;
+        assert_eq!(rt; text.as_str(), *name, "{name}");
+    }
+    Ok(())
+}
+
+/// A text of no name.
+pub fn some_text(alloc: Global) -> Result<Text, Fail> {
+    Ok(Text::new(alloc, "ssh-dss")?)
+}
+
+#[test]
+fn prints_the_errors_of_the_wire(rt: HostRuntime) -> Result<(), Fail> {
+    prints(&rt, &[(NoMemory, "NoMemory")])?;
+    prints(&rt, &[(Failed, "Failed")])?;
+    prints(
+        &rt,
+        &[
+            (SizeError::TooLong, "TooLong"),
+            (SizeError::NoMemory, "NoMemory"),
+        ],
+    )?;
+    prints(
+        &rt,
+        &[
+            (IoKind::UnexpectedEnd, "UnexpectedEnd"),
+            (IoKind::ReadFault, "ReadFault"),
+            (IoKind::WriteFault, "WriteFault"),
+        ],
+    )?;
+    prints(
+        &rt,
+        &[
+            (WireError::UnexpectedEnd, "UnexpectedEnd"),
+            (WireError::ReadFault, "ReadFault"),
+            (WireError::WriteFault, "WriteFault"),
+            (WireError::InvalidUtf8, "InvalidUtf8"),
+            (WireError::TooLong, "TooLong"),
+            (WireError::NoMemory, "NoMemory"),
+        ],
+    )?;
+    Ok(())
+}
+
+#[test]
+fn prints_the_errors_of_signers(rt: HostRuntime) -> Result<(), Fail> {
+    prints(
+        &rt,
+        &[
+            (SignError::Failed, "Failed"),
+            (SignError::NoMemory, "NoMemory"),
+        ],
+    )?;
+    Ok(())
+}
+
+#[test]
+fn prints_the_errors_of_public_keys(rt: HostRuntime) -> Result<(), Fail> {
+    prints(
+        &rt,
+        &[
+            (SshPublicKeyError::IoError(IoKind::ReadFault), "IoError"),
+            (SshPublicKeyError::InvalidUtf8, "InvalidUtf8"),
+            (SshPublicKeyError::Base64DecodeError, "Base64DecodeError"),
+            (SshPublicKeyError::UnknownKeyType, "UnknownKeyType"),
+            (SshPublicKeyError::KeyError, "KeyError"),
+            (SshPublicKeyError::TooLong, "TooLong"),
+            (SshPublicKeyError::NoMemory, "NoMemory"),
+        ],
+    )?;
+    Ok(())
+}
+
+#[test]
+fn prints_the_errors_of_ppk_blocks(rt: HostRuntime) -> Result<(), Fail> {
+    prints(
+        &rt,
+        &[
+            (BlockError::BadBase64, "BadBase64"),
+            (BlockError::TooLong, "TooLong"),
+            (BlockError::NoMemory, "NoMemory"),
+        ],
+    )?;
+    Ok(())
+}
+
+#[test]
+fn prints_the_errors_of_private_keys(rt: HostRuntime) -> Result<(), Fail> {
+    prints(
+        &rt,
+        &[
+            (
+                SshPrivateKeyError::UnsupportedKeyType(some_text(rt.alloc())?),
+                "UnsupportedKeyType",
+            ),
+            (
+                SshPrivateKeyError::UnsupportedCipher(some_text(rt.alloc())?),
+                "UnsupportedCipher",
+            ),
+            (
+                SshPrivateKeyError::UnsupportedKdf(some_text(rt.alloc())?),
+                "UnsupportedKdf",
+            ),
+        ],
+    )?;
+    prints(
+        &rt,
+        &[
+            (SshPrivateKeyError::FromUtf8Error, "FromUtf8Error"),
+            (
+                SshPrivateKeyError::IoError(IoKind::UnexpectedEnd),
+                "IoError",
+            ),
+            (
+                SshPrivateKeyError::InvalidAuthMagicHeader,
+                "InvalidAuthMagicHeader",
+            ),
+            (
+                SshPrivateKeyError::InvalidKeysAmount(2),
+                "InvalidKeysAmount",
+            ),
+            (
+                SshPrivateKeyError::InvalidCheckNumbers(1, 2),
+                "InvalidCheckNumbers",
+            ),
+            (SshPrivateKeyError::InvalidKeyFormat, "InvalidKeyFormat"),
+            (SshPrivateKeyError::DecryptionError, "DecryptionError"),
+            (SshPrivateKeyError::HashingError, "HashingError"),
+            (SshPrivateKeyError::MissingPassphrase, "MissingPassphrase"),
+            (SshPrivateKeyError::KeyError, "KeyError"),
+            (
+                SshPrivateKeyError::PemError(PemError::BadBase64),
+                "PemError",
+            ),
+            (SshPrivateKeyError::SuiteFault, "SuiteFault"),
+            (SshPrivateKeyError::TooLong, "TooLong"),
+            (SshPrivateKeyError::NoMemory, "NoMemory"),
+            (SshPrivateKeyError::PublicKeyMismatch, "PublicKeyMismatch"),
+        ],
+    )?;
+    Ok(())
+}
+
+#[test]
+fn prints_the_errors_of_armoured_texts(rt: HostRuntime) -> Result<(), Fail> {
+    prints(
+        &rt,
+        &[
+            (PemError::HeaderNotFound, "HeaderNotFound"),
+            (PemError::FooterNotFound, "FooterNotFound"),
+            (PemError::BadBase64, "BadBase64"),
+            (PemError::TooLong, "TooLong"),
+            (PemError::NoMemory, "NoMemory"),
+        ],
+    )?;
+    Ok(())
+}
+
+#[test]
+fn prints_the_errors_of_ppk_lines(rt: HostRuntime) -> Result<(), Fail> {
+    let alloc = rt.alloc();
+    let refused = KvError::InvalidInput {
+        context: some_text(alloc)?,
+        expected: some_text(alloc)?,
+        actual: some_text(alloc)?,
+    };
+    prints(
+        &rt,
+        &[
+            (KvError::EndOfInput, "EndOfInput"),
+            (KvError::InvalidKeyValueFormat, "InvalidKeyValueFormat"),
+            (refused, "InvalidInput"),
+            (KvError::TooManyLines, "TooManyLines"),
+            (KvError::TooLong, "TooLong"),
+            (KvError::NoMemory, "NoMemory"),
+        ],
+    )?;
+    prints(
+        &rt,
+        &[(parsing_error(alloc, "none", "x")?, "PpkValueParsingError")],
+    )?;
+    prints(
+        &rt,
+        &[
+            (
+                PpkValueError::Parsing(parsing_error(alloc, "none", "x")?),
+                "Parsing",
+            ),
+            (PpkValueError::TooLong, "TooLong"),
+            (PpkValueError::NoMemory, "NoMemory"),
+        ],
+    )?;
+    Ok(())
+}
+
+#[test]
+fn prints_the_errors_of_putty_keys(rt: HostRuntime) -> Result<(), Fail> {
+    let alloc = rt.alloc();
+    let refused = PuttyError::InvalidInput {
+        context: some_text(alloc)?,
+        expected: some_text(alloc)?,
+        actual: some_text(alloc)?,
+    };
+    let lacked = PuttyError::NotSupported {
+        feature: some_text(alloc)?,
+    };
+    prints(
+        &rt,
+        &[
+            (PuttyError::EndOfInput, "EndOfInput"),
+            (refused, "InvalidInput"),
+            (PuttyError::InvalidKeyValueFormat, "InvalidKeyValueFormat"),
+            (PuttyError::Aes, "Aes"),
+            (PuttyError::Argon2, "Argon2"),
+            (PuttyError::MacValidation, "MacValidation"),
+            (
+                PuttyError::PublicAndPrivateKeyMismatch,
+                "PublicAndPrivateKeyMismatch",
+            ),
+            (PuttyError::InvalidPrivateKeyData, "InvalidPrivateKeyData"),
+            (PuttyError::InvalidPublicKeyData, "InvalidPublicKeyData"),
+            (
+                PuttyError::InvalidPublicKeyContainer,
+                "InvalidPublicKeyContainer",
+            ),
+            (
+                PuttyError::InvalidPublicKeyComment,
+                "InvalidPublicKeyComment",
+            ),
+            (PuttyError::AlreadyDecrypted, "AlreadyDecrypted"),
+            (PuttyError::AlreadyEncrypted, "AlreadyEncrypted"),
+            (PuttyError::Encrypted, "Encrypted"),
+            (lacked, "NotSupported"),
+            (
+                PuttyError::SshPublicKey(SshPublicKeyError::KeyError),
+                "SshPublicKey",
+            ),
+            (PuttyError::IoError(IoKind::UnexpectedEnd), "IoError"),
+            (PuttyError::SuiteFault, "SuiteFault"),
+            (PuttyError::TooLong, "TooLong"),
+            (PuttyError::TooManyLines, "TooManyLines"),
+            (PuttyError::NoMemory, "NoMemory"),
+        ],
+    )?;
+    Ok(())
+}
+
+#[test]
+fn prints_the_errors_of_conversions(rt: HostRuntime) -> Result<(), Fail> {
+    prints(
+        &rt,
+        &[
+            (ReadError::Public(SshPublicKeyError::KeyError), "Public"),
+            (ReadError::NoMemory, "NoMemory"),
+        ],
+    )?;
+    prints(
+        &rt,
+        &[
+            (ConvertError::Input(ReadError::NoMemory), "Input"),
+            (ConvertError::Issuer(ReadError::NoMemory), "Issuer"),
+            (
+                ConvertError::Request(SshCertificateGenerationError::NoKeyType),
+                "Request",
+            ),
+            (ConvertError::CommentNotCarried, "CommentNotCarried"),
+            (ConvertError::Putty(PuttyError::Aes), "Putty"),
+            (ConvertError::TooLong, "TooLong"),
+            (ConvertError::NoMemory, "NoMemory"),
+        ],
+    )?;
+    Ok(())
+}
