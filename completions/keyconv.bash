@@ -2,7 +2,7 @@
 # Types that keyconv refuses (DSS, NIST P-521) aren't offered.
 
 _keyconv() {
-  local commands="openssh ppk2 ppk3 ssh-pub putty-pub cert tbs fingerprint"
+  local commands="openssh ppk2 ppk3 ssh-pub putty-pub cert tbs fingerprint sample"
   local once="--type --kind --after --before --serial --id --algorithm"
   local again="--principal --critical --extension"
   local IFS=$' \t\n' pieces=() words=() given="" offered="" line=$COMP_LINE signs='^[<>&|]+$' word="" before i

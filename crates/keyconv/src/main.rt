@@ -22,14 +22,15 @@ output, by the command:
   fingerprint  the MD5, SHA-1 and SHA-256 fingerprints of the public key, a line each
   cert         a certificate of the public key and the comment, with a signature that another device made
   tbs          what that device has to sign for it, in hex
+  sample N     a summary of N sample keys, 1 to 1000, which other programs can be compared by; nothing is read
 
   --help       this text
   --version    the version
 
 For cert and tbs standard input holds the issuer's key, a line that is exactly %%, and the key that is certified. Options, in
-any order, each followed by its value:
+any order, each followed by its value, of which the first four are needed:
 
-  --type NAME        the type of certificates, as ssh-ed25519-cert-v01@openssh.com
+  --type NAME        the type of certificates that the key is of, as ssh-ed25519-cert-v01@openssh.com
   --kind KIND        client, a user's, or host, a host's
   --after SECONDS    valid from then on, in seconds since 1970
   --before SECONDS   valid until then
@@ -38,12 +39,13 @@ any order, each followed by its value:
   --principal NAME   a user or host name that it is for, once for each; where none is given, it is for all
   --critical NAME    or NAME=TEXT: a critical option, once for each
   --extension NAME   or NAME=TEXT: an extension, once for each; a user's certificate without any gets the five permits
-  --algorithm NAME   rsa-sha1, rsa-sha2-256, rsa-sha2-512, ecdsa-sha2-256, ecdsa-sha2-384, ecdsa-sha2-512 or ed25519, where it
-                     isn't the type's own
+  --algorithm NAME   how the issuer signs, where its key isn't of the kind that the type is for: rsa-sha1, rsa-sha2-256,
+                     rsa-sha2-512, ecdsa-sha2-256, ecdsa-sha2-384, ecdsa-sha2-512 or ed25519
 
 Environment: KEYCONV_PASS_IN, the passphrase of sealed keys that are read; KEYCONV_PASS_OUT, under which a private key is sealed;
 KEYCONV_FRESH, the fresh bytes that sealing takes, or the 32 of a certificate's nonce, in hex; KEYCONV_SIGNATURE, the
-signature of the bytes that tbs printed in hex for the same options, input and fresh bytes, in hex.
+signature of the bytes that tbs printed in hex for the same options, input and fresh bytes, in hex. One that is set counts
+where it is empty, too.
 
 This program has no ciphers and signs nothing itself: a key that it would open or seal, and a certificate for which there is no
 signature, end with status 5. Take a passphrase off before with ssh-keygen -p or puttygen, and set it after with the same.

@@ -1,6 +1,7 @@
 -- Lemmas on the command of some words, and on what it writes.
 use Rattle.std.proofs.Common.{◌≡◌, ◌⊎◌, inl, inr, subst, Bool, true, false, Option, None, Some, if◌then◌else◌}
 use Rattle.std.proofs.Common.{ℕ, List, [], ◌∷◌, length, get_or, Ok, refl, sym, ap, arith}
+use Rattle.std.specs.Option.{option_map}
 use Rattle.std.specs.Str.{bytes_eq, IsUtf8}
 use Rattle.picky_layout.specs.carried.Outcome.{and_then_ok, map_err_ok}
 use Rattle.picky_layout.specs.Outcome.{map_err, map_ok}
@@ -17,15 +18,16 @@ use Rattle.picky_conversion.specs.Certify.{hex_line}
 use Rattle.picky_conversion.specs.Chain.{IsGiven}
 use Rattle.picky_conversion.specs.Convert.{conversion}
 use Rattle.picky_conversion.specs.Issue.{issued, issued_bytes}
-use Rattle.picky_conversion.specs.Made.{Made, ToSign, Whole, Writes}
+use Rattle.picky_conversion.specs.Made.{IsTextOf, Made, ToSign, Whole, Writes}
 use Rattle.picky_conversion.specs.Outside.{Outside, reader}
 use Rattle.picky_conversion.proofs.ConvertLemmas.{conversion_is, conversion_valid, means_one, says_in}
 use Rattle.picky_conversion.proofs.IssuedLemmas.{issued_bytes_is, issued_from, issued_is, signed_of_it, unsigned_from, whole_of}
 use Rattle.picky_convert.specs.declared.command.Command.{Command}
 use Rattle.picky_convert.specs.declared.command.Command.TheVariants as commands
-use Rattle.picky_convert.specs.Command.{CanAnswer, IsAnswer, IsCommand, Names, alone, answer, command_of_word, fingerprints, with_options}
-use Rattle.picky_convert.specs.Command.{cert, fingerprint, openssh, ppk2, ppk3, putty_pub, ssh_pub, tbs}
+use Rattle.picky_convert.specs.Command.{CanAnswer, IsAnswer, IsCommand, Names, alone, answer, command_of_word, fingerprints, sample_size, with_options, with_size}
+use Rattle.picky_convert.specs.Command.{cert, fingerprint, openssh, ppk2, ppk3, putty_pub, sample, ssh_pub, tbs}
 use Rattle.picky_convert.specs.Fingerprint.{fingerprint_text}
+use Rattle.picky_sample.specs.Sample.{sample_text}
 
 -- a list of one item
 pub one_word : {A : Type 0} (xs : List A) (x : A) → length xs ≡ 1 → x ≡ get_or xs 0 x → xs ≡ x ∷ []
@@ -54,6 +56,8 @@ answer_is signs o commands.Fingerprint input text given fits utf8 done =
       one = λ other reads. means_one (reader o) input steps.0 other means reads;
       is = sym is;
     }
+answer_is signs o (commands.Sample keys) input text given fits utf8 (made, is, of) =
+    let same : Whole (sample_text o.meanings keys) ≡ made = cc is in subst (λ m. IsTextOf signs m text) (sym same) of
 
 pub answer_of : (o : Outside) (command : Command) (input : List ℕ) → CanAnswer o command input
     → (made : Made) × (answer o command input ≡ Ok made)
@@ -69,6 +73,7 @@ answer_of o (commands.PrintSigned options) input can =
 answer_of o commands.Fingerprint input (meaning, reads) =
     let means = read (reader o) input meaning reads in
     (Whole (fingerprint_text (public_part meaning.key)), rw means refl)
+answer_of o (commands.Sample keys) input can = (Whole (sample_text o.meanings keys), refl)
 
 -- ---- the commands that words name
 
@@ -108,6 +113,15 @@ with_fits : (make : CertOptions → Command) (options : Option CertOptions) (com
 with_fits make (Some options) command each is = let same : make options ≡ command = cc is in subst IsCommand same (each options)
 with_fits make None command each is = cc is
 
+size_fits : (words : List (List ℕ)) (command : Command) → with_size words ≡ Some command → IsCommand command
+size_fits [] command is = cc is
+size_fits (word ∷ []) command is = sized (sample_size word) is
+  where
+    sized : (size : Option ℕ) → option_map (λ keys. commands.Sample keys) size ≡ Some command → IsCommand command
+    sized (Some keys) same = let one : commands.Sample keys ≡ command = cc same in subst IsCommand one tt
+    sized None same = cc same
+size_fits (word ∷ next ∷ more) command is = cc is
+
 alone_fits : (word : List ℕ) (more : List (List ℕ)) (command : Command) → alone word more ≡ Some command → IsCommand command
 alone_fits word [] command is = word_fits word command is
 alone_fits word (next ∷ more) command is = cc is
@@ -124,4 +138,5 @@ named_fits (word ∷ more) command is =
     either_fits (bytes_eq word cert) _ _ command
     (with_fits (λ o. commands.Certify o) (options_named more) command (λ o. tt))
     (either_fits (bytes_eq word tbs) _ _ command
-    (with_fits (λ o. commands.PrintSigned o) (options_named more) command (λ o. tt)) (alone_fits word more command)) is
+    (with_fits (λ o. commands.PrintSigned o) (options_named more) command (λ o. tt))
+    (either_fits (bytes_eq word sample) _ _ command (size_fits more command) (alone_fits word more command))) is

@@ -59,6 +59,7 @@ answer_is_own o (commands.PrintSigned options) text e refused =
 answer_is_own o commands.Fingerprint text e refused =
     next_is IsOwn (map_err errors.Input (reading (reader o) text)) (λ meaning. Ok (fingerprint_text (public_part meaning.key))) e
     (reading_is_own (reader o) text) (λ meaning f was is. cc is) (mapped_err Whole (fingerprints o text) e refused)
+answer_is_own o (commands.Sample keys) text e refused = cc refused
 
 -- the suite's fault is one, and it was asked for the command
 pub fault_asks : (o : Outside) (command : Command) (input : List ℕ) (e : ConvertError) (rose : Type 0)
@@ -74,6 +75,7 @@ fault_asks o (commands.Convert target) input e rose (inr fault) = (
 fault_asks o (commands.Certify options) input e rose fault = issuing_fault_asks o input e rose fault
 fault_asks o (commands.PrintSigned options) input e rose fault = issuing_fault_asks o input e rose fault
 fault_asks o commands.Fingerprint input e rose fault = (subst IsFault (sym fault.0) (input_fault_is input), fault.1)
+fault_asks o (commands.Sample keys) input e rose fault = absurd fault
 
 -- ---- the status of a refusal
 

@@ -76,6 +76,7 @@ certifies_for o (commands.Convert target) input u is = absurd (not_whole (conver
 certifies_for o (commands.Certify options) input u is = (options, refl)
 certifies_for o (commands.PrintSigned options) input u is = absurd (not_whole (issued_bytes o options input) u is)
 certifies_for o commands.Fingerprint input u is = absurd (not_whole (fingerprints o input) u is)
+certifies_for o (commands.Sample keys) input u is = cc is
 
 pub certifies_where_signed : (o : Outside) (command : Command) (input : List ℕ) → outcome_signs o command input ≡ true
     → (options : CertOptions) × (command ≡ commands.Certify options)

@@ -1,11 +1,14 @@
 -- What a command line names, and what is written for the bytes of a source that are text.
-use Rattle.std.specs.Prelude.{◌≡◌, ◌⊎◌, List, [], ◌∷◌, ℕ, Bool, codes, Option, Some, None, Result, Ok, Err, if◌then◌else◌}
+use Rattle.std.specs.Prelude.{◌≡◌, ◌&&◌, List, [], ◌∷◌, ℕ, Bool, true, false, codes, nat_le, Option, Some, None, Result, Ok, if◌then◌else◌}
+use Rattle.std.specs.Option.{option_map}
 use Rattle.std.specs.Str.{bytes_eq}
 use Rattle.picky_layout.specs.Outcome.{and_then, map_err, map_ok}
 use Rattle.picky_kv_words.specs.declared.choices.PpkVersionKey.TheVariants.{V2, V3}
 use Rattle.picky_ppk_parts.specs.Config.{default_config}
 use Rattle.picky_issuing.specs.declared.options.CertOptions.{CertOptions}
 use Rattle.picky_issuing.specs.Options.{options_named}
+use Rattle.picky_issuing.specs.Steps.{some_then}
+use Rattle.picky_issuing.specs.Value.{number_named}
 use Rattle.picky_key_text.specs.declared.meaning.Meaning.{Meaning}
 use Rattle.picky_key_text.specs.Key.{public_part}
 use Rattle.picky_key_text.specs.Order.{asks, reading}
@@ -24,6 +27,7 @@ use Rattle.picky_conversion.specs.Convert.{conversion, converting_asks, IsConver
 use Rattle.picky_convert.specs.Fingerprint.{fingerprint_text}
 use Rattle.picky_conversion.specs.Issue.{CanIssue, CanIssueBytes, IsIssued, IsIssuedBytes, IsIssuingFault, issued, issued_bytes, issuing_asks}
 use Rattle.picky_conversion.specs.Made.{Made, ToSign, Whole}
+use Rattle.picky_sample.specs.Sample.{sample_text}
 
 unfoldable pub openssh : List ℕ
 openssh = codes "openssh"
@@ -49,6 +53,9 @@ cert = codes "cert"
 unfoldable pub tbs : List ℕ
 tbs = codes "tbs"
 
+unfoldable pub sample : List ℕ
+sample = codes "sample"
+
 -- the command of a word alone; PuTTY's files are sealed with the default configuration
 abbrev pub command_of_word : List ℕ → Option Command
 command_of_word word =
@@ -69,12 +76,23 @@ abbrev pub with_options : (CertOptions → Command) → Option CertOptions → O
 with_options command (Some options) = Some (command options)
 with_options command None = None
 
--- the command of a command line: two take options
+-- how many keys a sample has: from 1 to 1,000
+abbrev pub sample_size : List ℕ → Option ℕ
+sample_size word = some_then (number_named word) (λ keys. if nat_le 1 keys && nat_le keys 1000 then Some keys else None)
+
+-- a number follows the word, and nothing else
+abbrev pub with_size : List (List ℕ) → Option Command
+with_size [] = None
+with_size (word ∷ []) = option_map (λ keys. commands.Sample keys) (sample_size word)
+with_size (word ∷ next ∷ more) = None
+
+-- the command of a command line: two take options, and one a number
 abbrev pub command_of : List (List ℕ) → Option Command
 command_of [] = None
 command_of (word ∷ more) =
     if bytes_eq word cert then with_options (λ options. commands.Certify options) (options_named more)
     else if bytes_eq word tbs then with_options (λ options. commands.PrintSigned options) (options_named more)
+    else if bytes_eq word sample then with_size more
     else alone word more
 
 -- its numbers are a value's
@@ -83,6 +101,15 @@ IsCommand (commands.Convert target) = IsTarget target
 IsCommand (commands.Certify options) = Unit {0}
 IsCommand (commands.PrintSigned options) = Unit {0}
 IsCommand commands.Fingerprint = Unit {0}
+IsCommand (commands.Sample keys) = Unit {0}
+
+-- it reads the source; sample keys are drawn from nothing but their numbers
+abbrev pub reads_source : Command → Bool
+reads_source (commands.Convert target) = true
+reads_source (commands.Certify options) = true
+reads_source (commands.PrintSigned options) = true
+reads_source commands.Fingerprint = true
+reads_source (commands.Sample keys) = false
 
 -- the words name the command
 abbrev pub Names : List (List ℕ) → Command → Type 0
@@ -99,6 +126,7 @@ answer o (commands.Convert target) text = map_ok Whole (conversion o target text
 answer o (commands.Certify options) text = map_ok ToSign (issued o options text)
 answer o (commands.PrintSigned options) text = map_ok Whole (issued_bytes o options text)
 answer o commands.Fingerprint text = map_ok Whole (fingerprints o text)
+answer o (commands.Sample keys) text = Ok (Whole (sample_text o.meanings keys))
 
 -- the suite is asked for it
 abbrev pub answering_asks : Outside → Command → List ℕ → Bool
@@ -106,6 +134,7 @@ answering_asks o (commands.Convert target) text = converting_asks o target text
 answering_asks o (commands.Certify options) text = issuing_asks o text
 answering_asks o (commands.PrintSigned options) text = issuing_asks o text
 answering_asks o commands.Fingerprint text = asks o.pass_in text
+answering_asks o (commands.Sample keys) text = false
 
 -- the refusal is the suite's fault
 abbrev pub IsFaultFor : Outside → Command → List ℕ → ConvertError → Type 0 → Type 0
@@ -113,6 +142,7 @@ IsFaultFor o (commands.Convert target) text e rose = IsFaultOf o target text e r
 IsFaultFor o (commands.Certify options) text e rose = IsIssuingFault o text e rose
 IsFaultFor o (commands.PrintSigned options) text e rose = IsIssuingFault o text e rose
 IsFaultFor o commands.Fingerprint text e rose = IsReadFault o text e rose
+IsFaultFor o (commands.Sample keys) text e rose = ⊥
 
 -- the text is the fingerprints of the one key that the key text means
 pub record IsFingerprint (o : Outside) (input text : List ℕ) : Type 0 where
@@ -127,11 +157,13 @@ IsAnswer signs o (commands.Convert target) input text = IsConversion o target in
 IsAnswer signs o (commands.Certify options) input text = IsIssued signs o options input text
 IsAnswer signs o (commands.PrintSigned options) input text = IsIssuedBytes o options input text
 IsAnswer signs o commands.Fingerprint input text = IsFingerprint o input text
+IsAnswer signs o (commands.Sample keys) input text = text ≡ sample_text o.meanings keys
 
 -- the source's text is one for which the command comes to something: the target carries its meaning, each key has fingerprints,
--- and a request comes to a certificate
+-- a request comes to a certificate, and a sample rests on no source
 abbrev pub CanAnswer : Outside → Command → List ℕ → Type 0
 CanAnswer o (commands.Convert target) input = (meaning : Meaning) × Reads (reader o) input meaning × Carries o.output target meaning
 CanAnswer o (commands.Certify options) input = CanIssue o options input
 CanAnswer o (commands.PrintSigned options) input = CanIssueBytes o options input
 CanAnswer o commands.Fingerprint input = (meaning : Meaning) × Reads (reader o) input meaning
+CanAnswer o (commands.Sample keys) input = Unit {0}

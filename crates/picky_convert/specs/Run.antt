@@ -1,5 +1,5 @@
 -- A run: what it writes for the bytes of its source, and how it ends.
-use Rattle.std.specs.Prelude.{◌≡◌, ◌⊎◌, ◌<◌, ◌+◌, ◌++◌, ◌≤◌, ◌&&◌, List, ℕ, Bool, true, length, take, nat_lt, nat_le, Result, Err}
+use Rattle.std.specs.Prelude.{◌≡◌, ◌⊎◌, ◌<◌, ◌+◌, ◌++◌, ◌≤◌, ◌&&◌, List, [], ℕ, Bool, true, length, take, nat_lt, nat_le, Result, Err}
 use Rattle.std.specs.Prelude.{Ok, if◌then◌else◌}
 use Rattle.std.specs.Str.{IsUtf8, is_utf8}
 use Rattle.picky_layout.specs.Outcome.{map_err}
@@ -13,8 +13,12 @@ use Rattle.picky_convert.specs.declared.error.Status.{Status}
 use Rattle.picky_convert.specs.declared.error.Status.TheVariants as statuses
 use Rattle.picky_convert.specs.declared.command.Command.{Command}
 use Rattle.picky_conversion.specs.Outside.{Outside}
-use Rattle.picky_convert.specs.Command.{answer, answering_asks, CanAnswer, IsAnswer}
+use Rattle.picky_convert.specs.Command.{answer, answering_asks, CanAnswer, IsAnswer, reads_source}
 use Rattle.picky_conversion.specs.Made.{CanBeTooLong, Made, is_signed}
+
+-- the bytes that the command reads of what a source has left: all of them, or none
+abbrev pub input_for : Command → (left : List ℕ) → List ℕ
+input_for command left = if reads_source command then left else []
 
 -- how many bytes a source may have
 abbrev pub input_limit : ℕ
@@ -26,7 +30,7 @@ pub record TakesInput (before after : List ℕ) : Type 0 where
   pub are : before ≡ taken ++ after
   pub few : length taken ≤ input_limit + 1
 
--- the status comes only where the source was read to its end
+-- where the command reads the source, the status comes only once that was read to its end
 abbrev pub ReadsToEnd : Status → Type 0
 ReadsToEnd statuses.Usage = ⊥
 ReadsToEnd statuses.ReadFault = ⊥
@@ -91,7 +95,7 @@ IsTooLongFor signs for_input = (made : Made) × (for_input ≡ Ok made) × CanBe
 abbrev pub Refuses : Relation → Result Made Status → ConvertError → Type 0
 Refuses signs for_input e = (for_input ≡ Err (statuses.Refused e)) ⊎ ((e ≡ errors.TooLong) × IsTooLongFor signs for_input)
 
--- a status for which no text is taken from a source: where it speaks of the bytes, it is their outcome
+-- a status for which no text is written: where it speaks of the bytes, it is their outcome
 abbrev pub Explains : Relation → Status → Result Made Status → Type 0
 Explains signs statuses.Done for_input = ⊥
 Explains signs statuses.Usage for_input = ⊥

@@ -7,7 +7,7 @@ ghost use Rattle.picky_wire.specs.Count.{Rose};
 ghost use Rattle.picky_ppk_parts.specs.Config.{default_config};
 ghost use Rattle.picky_key_text.specs.Order.{asks};
 ghost use Rattle.picky_conversion.specs.Certify.{IsReadFault};
-ghost use Rattle.picky_convert.specs.Command.{IsFaultFor, answer, answering_asks, command_of as command_named, command_of_word, fingerprints};
+ghost use Rattle.picky_convert.specs.Command.{IsFaultFor, answer, answering_asks, command_of as command_named, command_of_word, fingerprints, reads_source as reads_source_of, sample_size as sample_size_of, with_size};
 ghost use Rattle.picky_conversion.specs.Convert.{LeavesAskedSuite};
 ghost use Rattle.picky_conversion.specs.Made.{Answers, AnswersPlain, LeavesSigner, is_signed};
 ghost use Rattle.picky_convert.specs.Run.{input_limit, outcome_asks, outcome_signs};
@@ -18,9 +18,10 @@ use crate::error::Status;
 use crate::fingerprint::fingerprint_text;
 use picky_cert_builder::SshCertificateGenerationError;
 use picky_conversion::{Given, convert_key, input_refusal, issue, print_signed};
-use picky_issuing::{CertOptions, options_of};
+use picky_issuing::{CertOptions, number_of, options_of};
 use picky_key_text::{ReadError, public_key, read_text};
 use picky_ppk::{PpkEncryptionConfig, PpkVersion, PuttyError};
+use picky_sample::sample;
 use picky_sshkey::SshPrivateKeyError;
 use picky_suite::{Signer, Suite};
 use picky_target::{ConvertError, KeyTarget};
@@ -44,6 +45,11 @@ const CERT: &str = "cert";
 
 const TBS: &str = "tbs";
 
+const SAMPLE: &str = "sample";
+
+/// The most keys that a sample has.
+const MOST_KEYS: u64 = 1000;
+
 /// What a command line names.
 #[derive(Drop)]
 pub enum Command {
@@ -53,6 +59,8 @@ pub enum Command {
     /// What is signed of it, in hex.
     PrintSigned(CertOptions),
     Fingerprint,
+    /// The summary of so many sample keys.
+    Sample(u16),
 }
 
 /// The command that the words name. Refuses: `NoMemory`.
@@ -66,7 +74,7 @@ pub fn command_of(alloc: Global, words: &[Text]) -> Result<Option<Command>, NoMe
 }
 
 /// The command of a word, and what follows it. Refuses: `NoMemory`.
-#[tactic(auto, unfolding(crate::specs::Command::cert, crate::specs::Command::tbs))]
+#[tactic(auto, unfolding(crate::specs::Command::cert, crate::specs::Command::tbs, crate::specs::Command::sample))]
 fn command_with(alloc: Global, word: &str, more: &[Text]) -> Result<Option<Command>, NoMemory>
     ensures { IfOk result (λ command. command ≡ command_named (word.now ∷ more.now)) }
 {
@@ -83,6 +91,9 @@ fn command_with(alloc: Global, word: &str, more: &[Text]) -> Result<Option<Comma
             Ok(None) => Ok(None),
             Err(NoMemory) => Err(NoMemory),
         };
+    }
+    if word == SAMPLE {
+        return Ok(command_with_size(more));
     }
     if more.is_empty() {
         return Ok(command_of_text(word));
@@ -114,6 +125,47 @@ fn command_of_text(word: &str) -> Option<Command>
         return Some(Command::Fingerprint);
     }
     None
+}
+
+/// The command of a sample, by how many keys it has.
+fn command_with_size(words: &[Text]) -> Option<Command>
+    ensures { result ≡ with_size words.now }
+{
+    match words {
+        [word] => match sample_size(word.as_str()) {
+            Some(keys) => Some(Command::Sample(keys)),
+            None => None,
+        },
+        _ => None,
+    }
+}
+
+/// How many keys a sample has.
+fn sample_size(word: &str) -> Option<u16>
+    ensures { result ≡ sample_size_of word.now }
+{
+    match number_of(word) {
+        Some(keys) => {
+            if keys < 1 || keys > MOST_KEYS {
+                return None;
+            }
+            Some(keys as u16)
+        }
+        None => None,
+    }
+}
+
+/// Whether the command reads the source.
+pub fn reads_source(command: &Command) -> bool
+    ensures { result ≡ reads_source_of command.now }
+{
+    match command {
+        Command::Convert(_)
+        | Command::Certify(_)
+        | Command::PrintSigned(_)
+        | Command::Fingerprint => true,
+        Command::Sample(_) => false,
+    }
 }
 
 /// PuTTY's file in a version, sealed with the default configuration.
@@ -202,6 +254,10 @@ fn answer_to<S: Suite, G: Signer>(
         },
         Command::PrintSigned(options) => print_signed(alloc, suite, options, text, given),
         Command::Fingerprint => fingerprint(alloc, suite, text, given),
+        Command::Sample(keys) => match sample(alloc, suite, keys) {
+            Ok(text) => Ok(text),
+            Err(NoMemory) => Err(ConvertError::NoMemory),
+        },
     }
 }
 

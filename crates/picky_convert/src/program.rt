@@ -7,15 +7,15 @@ ghost use Rattle.picky_keys.specs.declared.algorithm.SignatureAlgorithm.{Signatu
 ghost use Rattle.picky_keys.specs.declared.public_key.PublicKey.{PublicKey};
 ghost use Rattle.picky_wire.specs.Count.{Rose};
 ghost use Rattle.picky_wire.specs.Takes.{Calm};
-ghost use Rattle.picky_convert.specs.Command.{Names};
+ghost use Rattle.picky_convert.specs.Command.{Names, reads_source as reads_source_of};
 ghost use Rattle.picky_conversion.specs.Made.{Writes};
 ghost use Rattle.picky_conversion.specs.Want.{IsFault, IsSignerFault, WantsMemory};
 ghost use Rattle.picky_convert.specs.Report.{report as report_of};
-ghost use Rattle.picky_convert.specs.Run.{input_limit, outcome, outcome_asks, outcome_signs, CanRefuse, Explains, IsOutsideFault, IsTooLongFor, IsValid};
+ghost use Rattle.picky_convert.specs.Run.{input_for, input_limit, outcome, outcome_asks, outcome_signs, CanRefuse, Explains, IsOutsideFault, IsTooLongFor, IsValid};
 ghost use Rattle.picky_convert.specs.Run.{ReadsToEnd, Refuses, Says, TakesInput, WritesAnswer, WritesPrefix};
 ghost use Rattle.picky_convert.specs.inner.Causes.{CanCome};
 
-use crate::command::{Command, command_of, perform};
+use crate::command::{Command, command_of, perform, reads_source};
 use crate::error::Status;
 use crate::input::{InputError, read_input};
 use crate::reports::word;
@@ -33,7 +33,8 @@ use std::alloc::Global;
 /// the other, where there is one, with the fresh bytes. `cert` with options is the line of a certificate that the signer signs,
 /// and `tbs` with the same options is what it signs, in lower-case hex: the source holds the issuer's text, a line that is
 /// exactly two percent signs, and the subject's key text, and the first 32 fresh bytes are the nonce. Options are pairs of a
-/// word and its value (`picky_issuing::options_of`).
+/// word and its value (`picky_issuing::options_of`). `sample` with a number from 1 to 1,000 is the summary of so many sample
+/// keys (`picky_sample::sample`), for which nothing is read.
 ///
 /// Refuses, in order: `Usage`, `ReadFault`, `InputTooLong`, `InputNotUtf8`, `Refused` (of `fingerprint` with `Input` alone) or,
 /// in place of the suite's or the signer's fault, `OutsideFault`, `WriteFault`. What a fault of `err` cuts off of its line is
@@ -53,7 +54,7 @@ pub fn run<S: Suite, G: Signer, I: Source, O: Sink, E: Sink>(
     // What Done means.
     ensures done { (c : Command) → Names words.now c → result ≡ Status.Done
         → I.tells source.old → O.tells out.old
-        → WritesAnswer (G.signs signer.old) (outside_of (S.meanings suite.old) pass_in.entry pass_out.entry fresh.now) c (I.left source.old) (O.written out.old) (O.written out.new) }
+        → WritesAnswer (G.signs signer.old) (outside_of (S.meanings suite.old) pass_in.entry pass_out.entry fresh.now) c (input_for c (I.left source.old)) (O.written out.old) (O.written out.new) }
 
     // Whether or not the source tells its bytes, what is written is the answer to some.
     ensures answers { (c : Command) → Names words.now c → result ≡ Status.Done → O.tells out.old
@@ -73,18 +74,18 @@ pub fn run<S: Suite, G: Signer, I: Source, O: Sink, E: Sink>(
         → IsUtf8 (I.left source.old) → ⊥ }
     ensures refused { (c : Command) → Names words.now c → (e : ConvertError)
         → result ≡ Status.Refused e → I.tells source.old
-        → Refuses (G.signs signer.old) (outcome (outside_of (S.meanings suite.old) pass_in.entry pass_out.entry fresh.now) c (I.left source.old)) e }
+        → Refuses (G.signs signer.old) (outcome (outside_of (S.meanings suite.old) pass_in.entry pass_out.entry fresh.now) c (input_for c (I.left source.old))) e }
     ensures refusal { (c : Command) → Names words.now c → (e : ConvertError)
         → result ≡ Status.Refused e → CanRefuse (G.signs signer.old) (outside_of (S.meanings suite.old) pass_in.entry pass_out.entry fresh.now) c e }
     ensures refused_is_no_want { (e : ConvertError) → result ≡ Status.Refused e
         → (WantsMemory e → ⊥) × (IsFault e → ⊥) × (IsSignerFault e → ⊥) }
     ensures outside_fault { (c : Command) → Names words.now c → result ≡ Status.OutsideFault → I.tells source.old
-        → IsOutsideFault (outside_of (S.meanings suite.old) pass_in.entry pass_out.entry fresh.now) c (I.left source.old) (Rose (S.faults suite.old) (S.faults suite.new)) (Rose (G.faults signer.old) (G.faults signer.new)) }
+        → IsOutsideFault (outside_of (S.meanings suite.old) pass_in.entry pass_out.entry fresh.now) c (input_for c (I.left source.old)) (Rose (S.faults suite.old) (S.faults suite.new)) (Rose (G.faults signer.old) (G.faults signer.new)) }
     ensures outside_fault_of_some { (c : Command) → Names words.now c → result ≡ Status.OutsideFault
         → (input : List ℕ) × IsOutsideFault (outside_of (S.meanings suite.old) pass_in.entry pass_out.entry fresh.now) c input (Rose (S.faults suite.old) (S.faults suite.new)) (Rose (G.faults signer.old) (G.faults signer.new)) }
     ensures in_order { (c : Command) → Names words.now c → result ≢ Status.Done
         → result ≢ Status.WriteFault → result ≢ Status.Usage → I.tells source.old
-        → Explains (G.signs signer.old) result (outcome (outside_of (S.meanings suite.old) pass_in.entry pass_out.entry fresh.now) c (I.left source.old)) }
+        → Explains (G.signs signer.old) result (outcome (outside_of (S.meanings suite.old) pass_in.entry pass_out.entry fresh.now) c (input_for c (I.left source.old))) }
     ensures write_fault_only_if_counted { result ≡ Status.WriteFault
         → Rose (O.faults out.old) (O.faults out.new) }
 
@@ -98,32 +99,36 @@ pub fn run<S: Suite, G: Signer, I: Source, O: Sink, E: Sink>(
     // Where nothing was counted, the status is the one that the bytes have, or memory ran out.
     ensures exact { (c : Command) → Names words.now c → I.tells source.old
         → (Rose (I.faults source.old) (I.faults source.new) → ⊥)
-        → (outcome_asks (outside_of (S.meanings suite.old) pass_in.entry pass_out.entry fresh.now) c (I.left source.old) ≡ true → (Rose (S.faults suite.old) (S.faults suite.new)) → ⊥)
-        → (status : Status) → outcome (outside_of (S.meanings suite.old) pass_in.entry pass_out.entry fresh.now) c (I.left source.old) ≡ Err status
+        → (outcome_asks (outside_of (S.meanings suite.old) pass_in.entry pass_out.entry fresh.now) c (input_for c (I.left source.old)) ≡ true → (Rose (S.faults suite.old) (S.faults suite.new)) → ⊥)
+        → (status : Status) → outcome (outside_of (S.meanings suite.old) pass_in.entry pass_out.entry fresh.now) c (input_for c (I.left source.old)) ≡ Err status
         → (result ≡ status) ⊎ (result ≡ Status.NoMemory) }
     ensures complete { (c : Command) → Names words.now c → I.tells source.old
-        → IsValid (outside_of (S.meanings suite.old) pass_in.entry pass_out.entry fresh.now) c (I.left source.old)
+        → IsValid (outside_of (S.meanings suite.old) pass_in.entry pass_out.entry fresh.now) c (input_for c (I.left source.old))
         → (Rose (I.faults source.old) (I.faults source.new) → ⊥)
         → (Rose (O.faults out.old) (O.faults out.new) → ⊥)
-        → (outcome_asks (outside_of (S.meanings suite.old) pass_in.entry pass_out.entry fresh.now) c (I.left source.old) ≡ true → (Rose (S.faults suite.old) (S.faults suite.new)) → ⊥)
-        → (outcome_signs (outside_of (S.meanings suite.old) pass_in.entry pass_out.entry fresh.now) c (I.left source.old) ≡ true → (Rose (G.faults signer.old) (G.faults signer.new)) → ⊥)
+        → (outcome_asks (outside_of (S.meanings suite.old) pass_in.entry pass_out.entry fresh.now) c (input_for c (I.left source.old)) ≡ true → (Rose (S.faults suite.old) (S.faults suite.new)) → ⊥)
+        → (outcome_signs (outside_of (S.meanings suite.old) pass_in.entry pass_out.entry fresh.now) c (input_for c (I.left source.old)) ≡ true → (Rose (G.faults signer.old) (G.faults signer.new)) → ⊥)
         → (result ≡ Status.Done) ⊎ (result ≡ Status.NoMemory)
-        ⊎ ((result ≡ Status.Refused ConvertError.TooLong) × IsTooLongFor (G.signs signer.old) (outcome (outside_of (S.meanings suite.old) pass_in.entry pass_out.entry fresh.now) c (I.left source.old))) }
+        ⊎ ((result ≡ Status.Refused ConvertError.TooLong) × IsTooLongFor (G.signs signer.old) (outcome (outside_of (S.meanings suite.old) pass_in.entry pass_out.entry fresh.now) c (input_for c (I.left source.old)))) }
 
     // What is left and what is written; a source and a sink that tell go on telling.
     ensures suite_kept { S.meanings suite.new ≡ S.meanings suite.old }
     ensures suite_unasked { (c : Command) → Names words.now c → I.tells source.old
-        → outcome_asks (outside_of (S.meanings suite.old) pass_in.entry pass_out.entry fresh.now) c (I.left source.old) ≡ false → suite.new ≡ suite.old }
+        → outcome_asks (outside_of (S.meanings suite.old) pass_in.entry pass_out.entry fresh.now) c (input_for c (I.left source.old)) ≡ false → suite.new ≡ suite.old }
     ensures suite_of_none { (c : Command) → Names words.now c → ((input : List ℕ) → outcome_asks (outside_of (S.meanings suite.old) pass_in.entry pass_out.entry fresh.now) c input ≡ false)
         → suite.new ≡ suite.old }
     ensures signer_kept { (k : PublicKey) (a : Algorithm) (m s : List ℕ) → G.signs signer.new k a m s ↔ G.signs signer.old k a m s }
     ensures signer_unasked { (c : Command) → Names words.now c → I.tells source.old
-        → outcome_signs (outside_of (S.meanings suite.old) pass_in.entry pass_out.entry fresh.now) c (I.left source.old) ≡ false → signer.new ≡ signer.old }
+        → outcome_signs (outside_of (S.meanings suite.old) pass_in.entry pass_out.entry fresh.now) c (input_for c (I.left source.old)) ≡ false → signer.new ≡ signer.old }
     ensures signer_of_none { (c : Command) → Names words.now c → ((input : List ℕ) → outcome_signs (outside_of (S.meanings suite.old) pass_in.entry pass_out.entry fresh.now) c input ≡ false)
         → signer.new ≡ signer.old }
     ensures source_tells { I.tells source.old → I.tells source.new }
     ensures out_tells { O.tells out.old → O.tells out.new }
-    ensures end { ReadsToEnd result → I.tells source.old → I.left source.new ≡ [] }
+    ensures end { (c : Command) → Names words.now c → reads_source_of c ≡ true → ReadsToEnd result → I.tells source.old
+        → I.left source.new ≡ [] }
+    ensures unused { (c : Command) → Names words.now c → reads_source_of c ≡ false → source.new ≡ source.old }
+    ensures without_source { (c : Command) → Names words.now c → reads_source_of c ≡ false
+        → (result ≡ Status.Done) ⊎ (result ≡ Status.WriteFault) ⊎ (result ≡ Status.NoMemory) }
     ensures taken { I.tells source.old → TakesInput (I.left source.old) (I.left source.new) }
     ensures past_limit { result ≡ Status.InputTooLong → I.tells source.old
         → I.left source.new ≡ drop (input_limit + 1) (I.left source.old) }
@@ -133,7 +138,7 @@ pub fn run<S: Suite, G: Signer, I: Source, O: Sink, E: Sink>(
     ensures unwritten { result ≢ Status.Done → result ≢ Status.WriteFault → out.new ≡ out.old }
     ensures prefix { (c : Command) → Names words.now c → result ≡ Status.WriteFault
         → I.tells source.old → O.tells out.old
-        → WritesPrefix (G.signs signer.old) (outside_of (S.meanings suite.old) pass_in.entry pass_out.entry fresh.now) c (I.left source.old) (O.written out.old) (O.written out.new) }
+        → WritesPrefix (G.signs signer.old) (outside_of (S.meanings suite.old) pass_in.entry pass_out.entry fresh.now) c (input_for c (I.left source.old)) (O.written out.old) (O.written out.new) }
     ensures quiet { result ≡ Status.Done → err.new ≡ err.old }
     ensures said { result ≢ Status.Done
         → Says E.tells E.written E.faults (report_of result) err.old err.new }
@@ -163,9 +168,9 @@ fn attempt<S: Suite, G: Signer, I: Source, O: Sink>(
         × (suite.new ≡ suite.old) × (signer.new ≡ signer.old) }
     ensures command { result ≢ Status.Usage → result ≢ Status.NoMemory → (c : Command) × Names words.now c }
     ensures done { (c : Command) → Names words.now c → result ≡ Status.Done → I.tells source.old → (text : List ℕ)
-        × Writes (G.signs signer.old) (outcome (outside (S.meanings suite.old) given.entry) c (I.left source.old)) text × (O.tells out.old → O.written out.new ≡ O.written out.old ++ text) }
+        × Writes (G.signs signer.old) (outcome (outside (S.meanings suite.old) given.entry) c (input_for c (I.left source.old))) text × (O.tells out.old → O.written out.new ≡ O.written out.old ++ text) }
     ensures write_fault { (c : Command) → Names words.now c → result ≡ Status.WriteFault → I.tells source.old → (text : List ℕ)
-        × Writes (G.signs signer.old) (outcome (outside (S.meanings suite.old) given.entry) c (I.left source.old)) text
+        × Writes (G.signs signer.old) (outcome (outside (S.meanings suite.old) given.entry) c (input_for c (I.left source.old))) text
         × (O.tells out.old → (n : ℕ) × (O.written out.new ≡ O.written out.old ++ take n text) × (n < length text)) }
     ensures answers { (c : Command) → Names words.now c → result ≡ Status.Done → (input : List ℕ) × (text : List ℕ)
         × Writes (G.signs signer.old) (outcome (outside (S.meanings suite.old) given.entry) c input) text × (O.tells out.old → O.written out.new ≡ O.written out.old ++ text) }
@@ -176,23 +181,27 @@ fn attempt<S: Suite, G: Signer, I: Source, O: Sink>(
     ensures suite_kept { S.meanings suite.new ≡ S.meanings suite.old }
     ensures suite_calm { result ≢ Status.OutsideFault → S.faults suite.new ≡ S.faults suite.old }
     ensures suite_unasked { (c : Command) → Names words.now c → I.tells source.old
-        → outcome_asks (outside (S.meanings suite.old) given.entry) c (I.left source.old) ≡ false → suite.new ≡ suite.old }
+        → outcome_asks (outside (S.meanings suite.old) given.entry) c (input_for c (I.left source.old)) ≡ false → suite.new ≡ suite.old }
     ensures suite_of_none { (c : Command) → Names words.now c → ((input : List ℕ) → outcome_asks (outside (S.meanings suite.old) given.entry) c input ≡ false)
         → suite.new ≡ suite.old }
     ensures signer_kept { (k : PublicKey) (a : Algorithm) (m s : List ℕ) → G.signs signer.new k a m s ↔ G.signs signer.old k a m s }
     ensures signer_calm { result ≢ Status.OutsideFault → G.faults signer.new ≡ G.faults signer.old }
     ensures one_counts { (S.faults suite.new ≡ S.faults suite.old) ⊎ (G.faults signer.new ≡ G.faults signer.old) }
     ensures signer_unasked { (c : Command) → Names words.now c → I.tells source.old
-        → outcome_signs (outside (S.meanings suite.old) given.entry) c (I.left source.old) ≡ false → signer.new ≡ signer.old }
+        → outcome_signs (outside (S.meanings suite.old) given.entry) c (input_for c (I.left source.old)) ≡ false → signer.new ≡ signer.old }
     ensures signer_of_none { (c : Command) → Names words.now c → ((input : List ℕ) → outcome_signs (outside (S.meanings suite.old) given.entry) c input ≡ false)
         → signer.new ≡ signer.old }
     ensures outside_fault { (c : Command) → Names words.now c → result ≡ Status.OutsideFault → I.tells source.old
-        → IsOutsideFault (outside (S.meanings suite.old) given.entry) c (I.left source.old) (Rose (S.faults suite.old) (S.faults suite.new)) (Rose (G.faults signer.old) (G.faults signer.new)) }
+        → IsOutsideFault (outside (S.meanings suite.old) given.entry) c (input_for c (I.left source.old)) (Rose (S.faults suite.old) (S.faults suite.new)) (Rose (G.faults signer.old) (G.faults signer.new)) }
     ensures outside_fault_of_some { (c : Command) → Names words.now c → result ≡ Status.OutsideFault
         → (input : List ℕ) × IsOutsideFault (outside (S.meanings suite.old) given.entry) c input (Rose (S.faults suite.old) (S.faults suite.new)) (Rose (G.faults signer.old) (G.faults signer.new)) }
     ensures source_tells { I.tells source.old → I.tells source.new }
     ensures out_tells { O.tells out.old → O.tells out.new }
-    ensures end { ReadsToEnd result → I.tells source.old → I.left source.new ≡ [] }
+    ensures end { (c : Command) → Names words.now c → reads_source_of c ≡ true → ReadsToEnd result → I.tells source.old
+        → I.left source.new ≡ [] }
+    ensures unused { (c : Command) → Names words.now c → reads_source_of c ≡ false → source.new ≡ source.old }
+    ensures without_source { (c : Command) → Names words.now c → reads_source_of c ≡ false
+        → (result ≡ Status.Done) ⊎ (result ≡ Status.WriteFault) ⊎ (result ≡ Status.NoMemory) }
     ensures input { I.tells source.old → TakesInput (I.left source.old) (I.left source.new) }
     ensures past_limit { result ≡ Status.InputTooLong → I.tells source.old
         → I.left source.new ≡ drop (input_limit + 1) (I.left source.old) }
@@ -202,7 +211,7 @@ fn attempt<S: Suite, G: Signer, I: Source, O: Sink>(
     ensures known { result ≢ Status.Done → result ≢ Status.WriteFault → result ≢ Status.Usage
         → CanCome result (Rose (I.faults source.old) (I.faults source.new)) }
     ensures taken { (c : Command) → Names words.now c → result ≢ Status.Done → result ≢ Status.WriteFault → result ≢ Status.Usage
-        → I.tells source.old → Explains (G.signs signer.old) result (outcome (outside (S.meanings suite.old) given.entry) c (I.left source.old)) }
+        → I.tells source.old → Explains (G.signs signer.old) result (outcome (outside (S.meanings suite.old) given.entry) c (input_for c (I.left source.old))) }
     ensures unwritten { result ≢ Status.Done → result ≢ Status.WriteFault → out.new ≡ out.old }
     ensures source_calm { result ≢ Status.ReadFault → I.faults source.new ≡ I.faults source.old }
     ensures out_calm { result ≢ Status.WriteFault → O.faults out.new ≡ O.faults out.old }
@@ -221,8 +230,53 @@ fn attempt<S: Suite, G: Signer, I: Source, O: Sink>(
     }
 }
 
-/// The text that the command writes for the bytes of the source.
+/// The text that the command writes: for the bytes of the source, where it reads that.
 fn take_text<S: Suite, G: Signer, I: Source>(
+    alloc: Global,
+    command: Command,
+    given: Given<'_>,
+    suite: &mut S,
+    signer: &mut G,
+    source: &mut I,
+) -> Result<String, Status>
+    ensures tells { I.tells source.old → I.tells source.new }
+    ensures answers { IfOk result (λ text. (input : List ℕ) × Writes (G.signs signer.old) (outcome (outside (S.meanings suite.old) given.entry) command input) (string_bytes text)) }
+    ensures text { I.tells source.old → IfOk result (λ text. Writes (G.signs signer.old) (outcome (outside (S.meanings suite.old) given.entry) command (input_for command (I.left source.old))) (string_bytes text)) }
+    ensures end { reads_source_of command ≡ true → I.tells source.old → OnOk result (I.left source.new ≡ []) }
+    ensures refused_at_end { reads_source_of command ≡ true → I.tells source.old
+        → IfErr result (λ status. ReadsToEnd status → I.left source.new ≡ []) }
+    ensures unused { reads_source_of command ≡ false → source.new ≡ source.old }
+    ensures without_source { reads_source_of command ≡ false → IfErr result (λ status. status ≡ Status.NoMemory) }
+    ensures input { I.tells source.old → TakesInput (I.left source.old) (I.left source.new) }
+    ensures past_limit { I.tells source.old → IfErr result (λ status. status ≡ Status.InputTooLong
+        → I.left source.new ≡ drop (input_limit + 1) (I.left source.old)) }
+    ensures cut { I.tells source.old → IfErr result (λ status. status ≡ Status.ReadFault
+        → length (I.left source.old) < input_limit + 1 + length (I.left source.new)) }
+    ensures refusal { IfErr result (λ status. (e : ConvertError) → status ≡ Status.Refused e → CanRefuse (G.signs signer.old) (outside (S.meanings suite.old) given.entry) command e) }
+    ensures known { IfErr result (λ status. CanCome status (Rose (I.faults source.old) (I.faults source.new))) }
+    ensures refused { I.tells source.old → IfErr result (λ status. Explains (G.signs signer.old) status (outcome (outside (S.meanings suite.old) given.entry) command (input_for command (I.left source.old)))) }
+    ensures calm { Calm Status.ReadFault result (I.faults source.old) (I.faults source.new) }
+    ensures suite_kept { S.meanings suite.new ≡ S.meanings suite.old }
+    ensures suite_calm { result ≢ Err Status.OutsideFault → S.faults suite.new ≡ S.faults suite.old }
+    ensures suite_unasked { I.tells source.old → outcome_asks (outside (S.meanings suite.old) given.entry) command (input_for command (I.left source.old)) ≡ false → suite.new ≡ suite.old }
+    ensures suite_of_none { ((input : List ℕ) → outcome_asks (outside (S.meanings suite.old) given.entry) command input ≡ false) → suite.new ≡ suite.old }
+    ensures signer_kept { (k : PublicKey) (a : Algorithm) (m s : List ℕ) → G.signs signer.new k a m s ↔ G.signs signer.old k a m s }
+    ensures signer_calm { result ≢ Err Status.OutsideFault → G.faults signer.new ≡ G.faults signer.old }
+    ensures one_counts { (S.faults suite.new ≡ S.faults suite.old) ⊎ (G.faults signer.new ≡ G.faults signer.old) }
+    ensures signer_unasked { I.tells source.old → outcome_signs (outside (S.meanings suite.old) given.entry) command (input_for command (I.left source.old)) ≡ false → signer.new ≡ signer.old }
+    ensures signer_of_none { ((input : List ℕ) → outcome_signs (outside (S.meanings suite.old) given.entry) command input ≡ false) → signer.new ≡ signer.old }
+    ensures outside_fault { I.tells source.old → result ≡ Err Status.OutsideFault
+        → IsOutsideFault (outside (S.meanings suite.old) given.entry) command (input_for command (I.left source.old)) (Rose (S.faults suite.old) (S.faults suite.new)) (Rose (G.faults signer.old) (G.faults signer.new)) }
+    ensures outside_fault_of_some { result ≡ Err Status.OutsideFault → (input : List ℕ) × IsOutsideFault (outside (S.meanings suite.old) given.entry) command input (Rose (S.faults suite.old) (S.faults suite.new)) (Rose (G.faults signer.old) (G.faults signer.new)) }
+{
+    if reads_source(&command) {
+        return take_for_source(alloc, command, given, suite, signer, source);
+    }
+    perform(alloc, command, given, suite, signer, &[])
+}
+
+/// The text that the command writes for the bytes of the source.
+fn take_for_source<S: Suite, G: Signer, I: Source>(
     alloc: Global,
     command: Command,
     given: Given<'_>,

@@ -10,3 +10,4 @@ mod value;
 
 pub use options::{CertOptions, options_of};
 pub use parts::{Parts, parts_of};
+pub use value::number_of;

@@ -23,6 +23,8 @@ mod refused_inputs;
 #[cfg(test)]
 mod runs;
 #[cfg(test)]
+mod samples;
+#[cfg(test)]
 mod sealed_conversions;
 #[cfg(test)]
 mod statuses;

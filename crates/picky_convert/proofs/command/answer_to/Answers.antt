@@ -1,5 +1,5 @@
 -- A command's answer, by the command.
-use Rattle.std.proofs.Common.{Global, ap, sym}
+use Rattle.std.proofs.Common.{Global, ap, refl, sym}
 use Rattle.std.specs.Prelude.{string_bytes}
 use Rattle.picky_layout.specs.Outcome.{map_ok}
 use Rattle.picky_wire.specs.Count.{Rose}
@@ -10,6 +10,7 @@ use Rattle.picky_conversion.specs.Made.{Whole}
 use Rattle.picky_conversion.specs.Outside.{outside}
 use Rattle.picky_conversion.proofs.CertifyLemmas.{plain_made}
 use Rattle.picky_conversion.proofs.CertifyLemmas.{still_leaves, still_signs}
+use Rattle.picky_sample.specs.Sample.{sample_text}
 use Rattle.picky_convert.proofs.command.answer_to.Goals as goal
 
 pub returns-in-Ok-clause-gives : goal.returns-in-Ok-clause-gives
@@ -40,3 +41,7 @@ returns-in-Fingerprint-clause-gives g c =
     rw c.in-Fingerprint.is
     (plain_made (g.G.Signer.signs c.args.signer.now) (string_bytes {Z = Global}) (fingerprints o c.args.text.now)
     (λ e. IsReadFault o c.args.text.now e rose) _ c.fingerprint.result c.fingerprint.ensures.gives)
+
+pub returns-in-Ok-sample-clause-gives : goal.returns-in-Ok-sample-clause-gives
+returns-in-Ok-sample-clause-gives g c =
+    rw c.in-Sample.is (Whole (sample_text (g.S.Suite.meanings c.args.suite.now) c.in-Sample.keys), refl, c.in-Ok-sample.ensures.gives)

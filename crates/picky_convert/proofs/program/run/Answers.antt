@@ -3,10 +3,11 @@ use Rattle.std.proofs.Common.{ℕ, List, Option, subst}
 use Rattle.std.specs.Option.{option_copied}
 use Rattle.picky_suite.specs.Meanings.{Meanings}
 use Rattle.picky_conversion.specs.Outside.{Outside}
-use Rattle.picky_convert.specs.Run.{outcome, Explains}
+use Rattle.picky_convert.specs.Run.{input_for, input_limit, outcome, Explains}
 use Rattle.picky_convert.proofs.CommandLemmas.{named_fits}
 use Rattle.picky_convert.proofs.RunLemmas.{outcome_valid, writes_answer, writes_prefix}
 use Rattle.picky_convert.proofs.CauseLemmas.{ends_so, long_of, no_text_of, settled}
+use Rattle.picky_convert.proofs.SourceLemmas.{no_longer, text_read}
 use Rattle.picky_convert.proofs.program.run.Goals as goal
 
 -- what the run is given
@@ -43,22 +44,26 @@ returns-clause-input_too_long g c = λ is told.
     let named = ran.command (λ usage. cc (is, usage)) (λ want. cc (is, want)) in
     let taken = ran.taken named.0 named.1 (λ done. cc (is, done)) (λ wrote. cc (is, wrote)) (λ usage. cc (is, usage)) told in
     let o = given (g.S.Suite.meanings c.args.suite.now) (option_copied c.args.pass_in) (option_copied c.args.pass_out) c.args.fresh.now in
-    let input = g.I.Source.left c.args.source.now in
-    long_of o named.0 input (subst (λ s. Explains (g.G.Signer.signs c.args.signer.now) s (outcome o named.0 input)) is taken)
+    let left = g.I.Source.left c.args.source.now in
+    let input = input_for named.0 left in
+    no_longer named.0 left input_limit
+    (long_of o named.0 input (subst (λ s. Explains (g.G.Signer.signs c.args.signer.now) s (outcome o named.0 input)) is taken))
 
 pub returns-clause-input_not_utf8 : goal.returns-clause-input_not_utf8
-returns-clause-input_not_utf8 g c = λ is told.
+returns-clause-input_not_utf8 g c = λ is told utf8.
     let ran = c.attempt-status.ensures in
     let named = ran.command (λ usage. cc (is, usage)) (λ want. cc (is, want)) in
     let taken = ran.taken named.0 named.1 (λ done. cc (is, done)) (λ wrote. cc (is, wrote)) (λ usage. cc (is, usage)) told in
     let o = given (g.S.Suite.meanings c.args.suite.now) (option_copied c.args.pass_in) (option_copied c.args.pass_out) c.args.fresh.now in
-    let input = g.I.Source.left c.args.source.now in
+    let left = g.I.Source.left c.args.source.now in
+    let input = input_for named.0 left in
     no_text_of o named.0 input (subst (λ s. Explains (g.G.Signer.signs c.args.signer.now) s (outcome o named.0 input)) is taken)
+    (text_read named.0 left utf8)
 
 pub returns-clause-exact : goal.returns-clause-exact
 returns-clause-exact g c = λ command named told calm_in calm status refused.
     let o = given (g.S.Suite.meanings c.args.suite.now) (option_copied c.args.pass_in) (option_copied c.args.pass_out) c.args.fresh.now in
-    let input = g.I.Source.left c.args.source.now in
+    let input = input_for command (g.I.Source.left c.args.source.now) in
     let ran = c.attempt-status.ensures in
     ends_so (g.G.Signer.signs c.args.signer.now) o command input c.attempt-status.result status _ _ _ refused calm_in calm
     (λ usage. (ran.usage usage).0 command named)
@@ -70,7 +75,7 @@ returns-clause-exact g c = λ command named told calm_in calm status refused.
 pub returns-clause-complete : goal.returns-clause-complete
 returns-clause-complete g c = λ command named told valid calm_in calm_out calm still.
     let o = given (g.S.Suite.meanings c.args.suite.now) (option_copied c.args.pass_in) (option_copied c.args.pass_out) c.args.fresh.now in
-    let input = g.I.Source.left c.args.source.now in
+    let input = input_for command (g.I.Source.left c.args.source.now) in
     let made = outcome_valid o command input valid in
     let ran = c.attempt-status.ensures in
     settled (g.G.Signer.signs c.args.signer.now) o command input c.attempt-status.result made.0 _ _ _ _ made.1 calm_in calm_out calm still
