@@ -131,7 +131,7 @@ fn refuses_the_first_of_two_faults(rt: HostRuntime) -> Result<(), Fail> {
 }
 
 // The name, a line, and why it is refused. base64 is RFC 4648's, section 4.
-static LINES: [(&str, &str, &str); 9] = [
+static LINES: [(&str, &str, &str); 11] = [
     (
         "a type alone",
         "ssh-ed25519-cert-v01@openssh.com",
@@ -172,6 +172,18 @@ static LINES: [(&str, &str, &str); 9] = [
         "a certificate of DSS",
         "ssh-dss-cert-v01@openssh.com AAAAHHNzaC1kc3MtY2VydC12MDFAb3BlbnNzaC5jb20=",
         "UnsupportedCertificateType(Text { string: \"ssh-dss-cert-v01@openssh.com\" })",
+    ),
+    // ZERO_LINE with AAAC for the first four symbols of its base64
+    (
+        "a name of 544 bytes",
+        "ssh-ed25519-cert-v01@openssh.com AAACIHNzaC1lZDI1NTE5LWNlcnQtdjAxQG9wZW5zc2guY29tAAAAIAAAAAAAAAAAAAAAAAAAAAAAAAAAAAAAAAAAAAAAAAAAAAAAIAAAAAAAAAAAAAAAAAAAAAAAAAAAAAAAAAAAAAAAAAAAAAAAAAAAAAAAAAACAAAAAAAAAAAAAAAAAAAAAAAAAAAAAAAAAAAAAAAAAAAAAAAAAAAAMwAAAAtzc2gtZWQyNTUxOQAAACAAAAAAAAAAAAAAAAAAAAAAAAAAAAAAAAAAAAAAAAAAAAAAAFMAAAALc3NoLWVkMjU1MTkAAABAAAAAAAAAAAAAAAAAAAAAAAAAAAAAAAAAAAAAAAAAAAAAAAAAAAAAAAAAAAAAAAAAAAAAAAAAAAAAAAAAAAAAAA== host",
+        "CertificateProcessingError(UnexpectedEnd)",
+    ),
+    // ZERO_LINE with AAAC for the four symbols AAAA in front of MwAAAAtzc2gt
+    (
+        "an issuer's string of 563 bytes",
+        "ssh-ed25519-cert-v01@openssh.com AAAAIHNzaC1lZDI1NTE5LWNlcnQtdjAxQG9wZW5zc2guY29tAAAAIAAAAAAAAAAAAAAAAAAAAAAAAAAAAAAAAAAAAAAAAAAAAAAAIAAAAAAAAAAAAAAAAAAAAAAAAAAAAAAAAAAAAAAAAAAAAAAAAAAAAAAAAAACAAAAAAAAAAAAAAAAAAAAAAAAAAAAAAAAAAAAAAAAAAAAAAAAAAACMwAAAAtzc2gtZWQyNTUxOQAAACAAAAAAAAAAAAAAAAAAAAAAAAAAAAAAAAAAAAAAAAAAAAAAAFMAAAALc3NoLWVkMjU1MTkAAABAAAAAAAAAAAAAAAAAAAAAAAAAAAAAAAAAAAAAAAAAAAAAAAAAAAAAAAAAAAAAAAAAAAAAAAAAAAAAAAAAAAAAAA== host",
+        "CertificateProcessingError(UnexpectedEnd)",
     ),
     // ssh-keygen -s ca_ed -I user -O clear -O critical:x@y=1 ed.pub
     (

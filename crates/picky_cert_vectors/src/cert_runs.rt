@@ -74,13 +74,14 @@ fn writes_the_same_as_for_the_public_key(rt: HostRuntime) {
 
 #[test]
 fn makes_no_private_file_of_a_certificate(rt: HostRuntime) -> Result<(), Fail> {
+    let line = format!(in rt.alloc(); "{ZERO_LINE}\r\n")?;
     for command in ["openssh", "ppk2", "ppk3"] {
         refuses(
             &rt,
             rt.alloc(),
             "a certificate",
             command,
-            ZERO_LINE.as_bytes(),
+            line.as_bytes(),
             (1, "keyconv: refused: NoPrivateKey\n"),
         )?;
     }

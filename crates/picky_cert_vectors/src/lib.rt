@@ -14,6 +14,8 @@ mod cert_lines;
 #[cfg(test)]
 mod cert_names;
 #[cfg(test)]
+mod cert_parts;
+#[cfg(test)]
 mod cert_refusals;
 #[cfg(test)]
 mod cert_runs;

@@ -6,7 +6,7 @@ use picky_cert::{SshCertKeyType, SshCertType};
 use picky_convert::{CertRequest, Key, Target, convert};
 use picky_sshpub::SshBasePublicKey;
 use picky_suite::{MemorySigner, PlainSuite};
-use picky_wire::{List, Timestamp};
+use picky_wire::{List, Timestamp, TryClone};
 use std::alloc::Global;
 
 // The signature of the signer for tests is the SHA-256 digest of what is signed. With the functions of crate::zero_lines:
@@ -82,11 +82,15 @@ fn is_converted(alloc: Global, signer: &mut MemorySigner, target: &Target) -> bo
     }
 }
 
+/// By a copy of the request.
 fn is_certified(alloc: Global) -> bool {
-    let target = Target::Certificate(zero_request(alloc));
-    match MemorySigner::new(alloc, &[]) {
-        Ok(mut signer) => is_converted(alloc, &mut signer, &target),
-        Err(_) => false,
+    let request = zero_request(alloc);
+    match (request.try_clone(alloc), MemorySigner::new(alloc, &[])) {
+        (Ok(copy), Ok(mut signer)) => {
+            let target = Target::Certificate(copy);
+            is_converted(alloc, &mut signer, &target)
+        }
+        _ => false,
     }
 }
 

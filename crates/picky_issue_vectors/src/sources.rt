@@ -49,9 +49,13 @@ fn cuts_a_source_at_its_first_mark(rt: HostRuntime) {
 }
 
 // A source, and the line on `err`.
-static REFUSED: [(&str, &str); 7] = [
+static REFUSED: [(&str, &str); 8] = [
     (
         "ssh-ed25519 AAAAC3NzaC1lZDI1NTE5AAAAIAAAAAAAAAAAAAAAAAAAAAAAAAAAAAAAAAAAAAAAAAAA host\n",
+        "keyconv: refused: request.MissingSignatureKey\n",
+    ),
+    (
+        "ssh-ed25519 AAAAC3NzaC1lZDI1NTE5AAAAIAAAAAAAAAAAAAAAAAAAAAAAAAAAAAAAAAAAAAAAAAAA ca\nssh-ed25519 AAAAC3NzaC1lZDI1NTE5AAAAIAAAAAAAAAAAAAAAAAAAAAAAAAAAAAAAAAAAAAAAAAAA host\n",
         "keyconv: refused: request.MissingSignatureKey\n",
     ),
     (

@@ -272,7 +272,9 @@ fn prints_the_errors_of_conversions(rt: HostRuntime) -> Result<(), Fail> {
     prints(
         &rt,
         &[
+            (ReadError::Private(SshPrivateKeyError::KeyError), "Private"),
             (ReadError::Public(SshPublicKeyError::KeyError), "Public"),
+            (ReadError::Putty(PuttyError::Aes), "Putty"),
             (ReadError::NoMemory, "NoMemory"),
         ],
     )?;
@@ -281,13 +283,20 @@ fn prints_the_errors_of_conversions(rt: HostRuntime) -> Result<(), Fail> {
         &[
             (ConvertError::Input(ReadError::NoMemory), "Input"),
             (ConvertError::Issuer(ReadError::NoMemory), "Issuer"),
+            (ConvertError::NoPrivateKey, "NoPrivateKey"),
             (
                 ConvertError::Request(SshCertificateGenerationError::NoKeyType),
                 "Request",
             ),
             (ConvertError::CommentNotCarried, "CommentNotCarried"),
+            (
+                ConvertError::Private(SshPrivateKeyError::HashingError),
+                "Private",
+            ),
             (ConvertError::Putty(PuttyError::Aes), "Putty"),
+            (ConvertError::FreshTooShort, "FreshTooShort"),
             (ConvertError::TooLong, "TooLong"),
+            (ConvertError::TooManyLines, "TooManyLines"),
             (ConvertError::NoMemory, "NoMemory"),
         ],
     )?;

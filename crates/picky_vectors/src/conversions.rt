@@ -43,12 +43,17 @@ static COMMENTS: [(&str, &str, &str); 18] = [
 ];
 
 // The name, a line whose key is 32 zero bytes, and the comment in PuTTY's text. PuTTYgen writes no
-// comment line for the first and AAAAAA== for the second, the byte after the key in it, and it
-// refuses the third.
-static ZERO_KEYS: [(&str, &str, &str); 3] = [
+// comment line for the first two and AAAAAA== for the third, the byte after the key in it, and it
+// refuses the fourth.
+static ZERO_KEYS: [(&str, &str, &str); 4] = [
     (
         "no comment",
         "ssh-ed25519 AAAAC3NzaC1lZDI1NTE5AAAAIAAAAAAAAAAAAAAAAAAAAAAAAAAAAAAAAAAAAAAAAAAA",
+        "",
+    ),
+    (
+        "no comment and LF",
+        "ssh-ed25519 AAAAC3NzaC1lZDI1NTE5AAAAIAAAAAAAAAAAAAAAAAAAAAAAAAAAAAAAAAAAAAAAAAAA\n",
         "",
     ),
     (

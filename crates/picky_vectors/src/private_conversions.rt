@@ -81,10 +81,17 @@ fn loses_nothing(alloc: Global, text: &str) -> Result<bool, Fail> {
     writes(alloc, "openssh", second.as_str(), own.as_str())
 }
 
+// base64.b64decode("A8iqDGUDqgxlAwAA").hex() is 03c8 aa0c6503 aa0c6503 0000: the check number twice, which is written as 0.
+fn writes_no_check_number(alloc: Global) -> Result<bool, Fail> {
+    let text = V2.replace(alloc, "A8iqDGUDqgxlAwAA", "A8gAAAAAAAAAAAAA")?;
+    writes(alloc, "openssh", V2, text.as_str())
+}
+
 #[test]
 fn loses_nothing_by_the_way(rt: HostRuntime) -> Result<(), Fail> {
     assert!(rt; loses_nothing(rt.alloc(), V2)?);
     assert!(rt; loses_nothing(rt.alloc(), ZERO_KEY)?);
+    assert!(rt; writes_no_check_number(rt.alloc())?);
     Ok(())
 }
 
@@ -159,8 +166,9 @@ fn writes_the_one_spelling(rt: HostRuntime) -> Result<(), Fail> {
     Ok(())
 }
 
-// A command, a text, what is replaced in it, and the refusal.
-static REFUSALS: [(&str, &str, [&str; 2], &str); 9] = [
+// A command, a text, what is replaced in it, and the refusal. AQAA at the end of ZERO_KEY's second row makes the last byte of
+// the public key 1, and AAEA in front of its fifth row the first byte of the copy behind the secret.
+static REFUSALS: [(&str, &str, [&str; 2], &str); 12] = [
     (
         "openssh",
         ZERO_KEY,
@@ -178,6 +186,21 @@ static REFUSALS: [(&str, &str, [&str; 2], &str); 9] = [
         ZERO_KEY,
         ["\n-----END OPENSSH PRIVATE KEY-----", ""],
         "keyconv: refused: input.private.PemError\n",
+    ),
+    (
+        "openssh",
+        ZERO_KEY,
+        ["AAAA\nAJAA", "AQAA\nAJAA"],
+        "keyconv: refused: input.private.PublicKeyMismatch\n",
+    ),
+    (
+        "openssh",
+        ZERO_KEY,
+        [
+            "\nAAAAAAAAAAAAAAAAAAAAAAAAAAAAAAAAAAAAAAAAAAAAAAAABWhl",
+            "\nAAEAAAAAAAAAAAAAAAAAAAAAAAAAAAAAAAAAAAAAAAAAAAAABWhl",
+        ],
+        "keyconv: refused: input.private.InvalidKeyFormat\n",
     ),
     (
         "openssh",
@@ -205,6 +228,12 @@ static REFUSALS: [(&str, &str, [&str; 2], &str); 9] = [
     ),
     (
         "ppk3",
+        ENDS_IN_CR,
+        ["", ""],
+        "keyconv: refused: CommentNotCarried\n",
+    ),
+    (
+        "openssh",
         ENDS_IN_CR,
         ["", ""],
         "keyconv: refused: CommentNotCarried\n",
@@ -285,7 +314,7 @@ fn has_no_file(alloc: Global, key: &PrivateRow) -> Result<bool, Fail> {
             "ppk3",
             key.text,
             "keyconv: refused: output.putty.NotSupported\n",
-        )? && !own.as_str().is_empty(),
+        )? && writes(alloc, "openssh", key.text, own.as_str())?,
     )
 }
 

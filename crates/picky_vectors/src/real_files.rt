@@ -136,6 +136,7 @@ fn writes_line_of_picky(alloc: Global, row: &KeyRow) -> Result<bool, Fail> {
     writes(alloc, "ssh-pub", V2, text.as_str())
 }
 
+/// For the private key, and for its public line with CR LF.
 fn prints_digests_of_picky(alloc: Global, row: &KeyRow) -> Result<bool, Fail> {
     let digests = Digests {
         md5: row.md5,
@@ -143,7 +144,11 @@ fn prints_digests_of_picky(alloc: Global, row: &KeyRow) -> Result<bool, Fail> {
         sha256: row.sha256,
     };
     let text = lines_of(alloc, digests)?;
-    writes(alloc, "fingerprint", V2, text.as_str())
+    let line = format!(in alloc; "{}\r\n", row.line)?;
+    Ok(
+        writes(alloc, "fingerprint", V2, text.as_str())?
+            && writes(alloc, "fingerprint", line.as_str(), text.as_str())?,
+    )
 }
 
 #[test]

@@ -189,11 +189,27 @@ fn takes_27_fresh_bytes(alloc: Global, envelope: &str) -> Result<bool, Fail> {
     )
 }
 
+/// The suite is asked twice to seal it, and fails where it has no ciphers.
+fn asks_twice(alloc: Global, envelope: &str) -> Result<bool, Fail> {
+    let enough = Given {
+        fresh: &FRESH[..27],
+        ..SEAL
+    };
+    let fault = (5, "keyconv: outside fault\n");
+    let later = &[2, 3, 4, 5, 6, 7, 8, 9];
+    Ok(
+        ends_over(alloc, "ppk3", envelope, enough, &[0], fault)?
+            && ends_over(alloc, "ppk3", envelope, enough, &[1], fault)?
+            && ends_over(alloc, "ppk3", envelope, enough, later, (0, ""))?
+            && fails_over_none(alloc, "ppk3", envelope, enough)?,
+    )
+}
+
 /// The sealed text opens as the envelope, under the passphrase alone.
 fn opens_as(alloc: Global, sealed: &str, envelope: &str) -> Result<bool, Fail> {
-    let locked = (1, "keyconv: refused: input.putty.Encrypted\n");
+    let refusal = "keyconv: refused: input.putty.Encrypted\n";
     Ok(
-        ends_over(alloc, "openssh", sealed, NOTHING, &[], locked)?
+        opens(alloc, sealed, refusal)?
             && writes_over(alloc, "openssh", sealed, OPEN, &[], envelope)?,
     )
 }
@@ -205,7 +221,12 @@ fn comes_back(alloc: Global, envelope: &str) -> Result<bool, Fail> {
 
 fn is_secret_sealed(alloc: Global, secret: [u8; 32]) -> Result<bool, Fail> {
     let envelope = secret_envelope(alloc, secret)?;
-    Ok(takes_27_fresh_bytes(alloc, envelope.as_str())? && comes_back(alloc, envelope.as_str())?)
+    let envelope = envelope.as_str();
+    Ok(
+        takes_27_fresh_bytes(alloc, envelope)?
+            && asks_twice(alloc, envelope)?
+            && comes_back(alloc, envelope)?,
+    )
 }
 
 #[test]
@@ -248,23 +269,28 @@ fn opens_whole_blocks(rt: HostRuntime) -> Result<(), Fail> {
     Ok(())
 }
 
-/// Over a suite that has no ciphers.
+/// Over a suite that has no ciphers, and alike where `err` takes nothing.
 fn fails_over_none(
     alloc: Global,
     command: &str,
     input: &str,
     given: Given<'_>,
 ) -> Result<bool, Fail> {
-    let mut source = SliceSource::new(input.as_bytes());
-    let ran = run_given(
-        alloc,
-        &[command],
-        given,
-        &mut PlainSuite::new(),
-        &mut source,
-        (ROOM, 999),
-    )?;
-    Ok(ended(&ran, 5, b"", "keyconv: outside fault\n"))
+    for (err_room, line) in [(999, "keyconv: outside fault\n"), (0, "")] {
+        let mut source = SliceSource::new(input.as_bytes());
+        let ran = run_given(
+            alloc,
+            &[command],
+            given,
+            &mut PlainSuite::new(),
+            &mut source,
+            (ROOM, err_room),
+        )?;
+        if !ended(&ran, 5, b"", line) {
+            return Ok(false);
+        }
+    }
+    Ok(true)
 }
 
 fn has_no_cipher(alloc: Global, command: &str) -> Result<bool, Fail> {
@@ -288,5 +314,6 @@ fn asks_nothing_without_a_passphrase(rt: HostRuntime) -> Result<(), Fail> {
     let failing = &[0, 1, 2, 3, 4, 5, 6, 7, 8, 9];
     assert!(rt; writes_over(rt.alloc(), "ppk3", ZERO_KEY, NOTHING, failing, ZERO_TEXT)?);
     assert!(rt; writes_over(rt.alloc(), "openssh", ZERO_TEXT, NOTHING, failing, ZERO_KEY)?);
+    assert!(rt; ends_over(rt.alloc(), "ppk2", ZERO_KEY, NOTHING, failing, (0, ""))?);
     Ok(())
 }

@@ -42,7 +42,7 @@ SHA256:kmYcvdi2GkPeWxB6XLjrZB8JHsy2Hm8luHMFp9GMvqk
 ];
 
 // Words that name no command.
-static NO_COMMANDS: [&[&str]; 11] = [
+static NO_COMMANDS: [&[&str]; 20] = [
     &[],
     &[""],
     &["putty-pub", "putty-pub"],
@@ -54,6 +54,15 @@ static NO_COMMANDS: [&[&str]; 11] = [
     &["fingerprints"],
     &["--help"],
     &["--version"],
+    &["sample"],
+    &["sample", ""],
+    &["sample", "0"],
+    &["sample", "1001"],
+    &["sample", "18446744073709551617"],
+    &["sample", "07"],
+    &["sample", "+7"],
+    &["sample", "7 "],
+    &["sample", "7", "7"],
 ];
 
 const USAGE: &str =
@@ -146,11 +155,16 @@ fn prints_a_line_for_each_status(rt: HostRuntime) {
     }
 }
 
-/// The words get the usage line, and nothing is read.
+/// The words get the usage line, and nothing is read; alike where `err` takes nothing.
 fn is_usage(alloc: Global, words: &[&str]) -> Result<bool, Fail> {
-    let mut source = SliceSource::new(FIRST_LINE.as_bytes());
-    let end = run_on(alloc, words, &mut source, 400, 400)?;
-    Ok(ended(&end, 2, b"", USAGE) && source.rest() == FIRST_LINE.as_bytes())
+    for (err_room, line) in [(400, USAGE), (0, "")] {
+        let mut source = SliceSource::new(FIRST_LINE.as_bytes());
+        let end = run_on(alloc, words, &mut source, 400, err_room)?;
+        if !ended(&end, 2, b"", line) || source.rest() != FIRST_LINE.as_bytes() {
+            return Ok(false);
+        }
+    }
+    Ok(true)
 }
 
 #[test]
@@ -181,6 +195,18 @@ fn ends<S: Source>(
     Ok(ended(&ran, end.code, end.out, end.err))
 }
 
+/// It ends so, but for its line, where `err` takes nothing.
+fn ends_unsaid<S: Source>(
+    alloc: Global,
+    command: &str,
+    source: &mut S,
+    room: usize,
+    end: End<'_>,
+) -> Result<bool, Fail> {
+    let ran = run_on(alloc, &[command], source, room, 0)?;
+    Ok(ended(&ran, end.code, end.out, ""))
+}
+
 // So many bytes, the first line in front.
 fn first_line_within(alloc: Global, len: usize) -> Result<Vec<u8>, Fail> {
     let mut input = Vec::from_slice(alloc, FIRST_LINE.as_bytes())?;
@@ -190,12 +216,11 @@ fn first_line_within(alloc: Global, len: usize) -> Result<Vec<u8>, Fail> {
 
 fn ends_over(alloc: Global, command: &str, len: usize, end: End<'_>) -> Result<bool, Fail> {
     let input = first_line_within(alloc, len)?;
-    ends(
-        alloc,
-        command,
-        &mut SliceSource::new(input.as_slice()),
-        400,
-        end,
+    let mut source = SliceSource::new(input.as_slice());
+    let mut again = SliceSource::new(input.as_slice());
+    Ok(
+        ends(alloc, command, &mut source, 400, end)?
+            && ends_unsaid(alloc, command, &mut again, 400, end)?,
     )
 }
 
@@ -226,7 +251,11 @@ fn takes_16_mib_and_no_more(rt: HostRuntime) -> Result<(), Fail> {
 
 fn ends_at(alloc: Global, command: &str, call: u64, end: End<'_>) -> Result<bool, Fail> {
     let mut source = MemorySource::new(alloc, FIRST_LINE.as_bytes(), 7, &[call])?;
-    ends(alloc, command, &mut source, 400, end)
+    let mut again = MemorySource::new(alloc, FIRST_LINE.as_bytes(), 7, &[call])?;
+    Ok(
+        ends(alloc, command, &mut source, 400, end)?
+            && ends_unsaid(alloc, command, &mut again, 400, end)?,
+    )
 }
 
 #[test]
@@ -256,19 +285,27 @@ fn says_that_the_source_failed(rt: HostRuntime) -> Result<(), Fail> {
     Ok(())
 }
 
+fn ends_within(alloc: Global, command: &str, room: usize, end: End<'_>) -> Result<bool, Fail> {
+    let mut source = SliceSource::new(FIRST_LINE.as_bytes());
+    let mut again = SliceSource::new(FIRST_LINE.as_bytes());
+    Ok(
+        ends(alloc, command, &mut source, room, end)?
+            && ends_unsaid(alloc, command, &mut again, room, end)?,
+    )
+}
+
 #[test]
 fn says_that_out_failed(rt: HostRuntime) -> Result<(), Fail> {
     for (command, text) in &FIRST_TEXTS {
         let text = text.as_bytes();
         for room in 0..text.len() {
-            let mut source = SliceSource::new(FIRST_LINE.as_bytes());
             let end = End {
                 code: 4,
                 out: &text[..room],
                 err: "keyconv: write fault\n",
             };
             assert!(rt;
-                ends(rt.alloc(), *command, &mut source, room, end)?,
+                ends_within(rt.alloc(), *command, room, end)?,
                 "{command}: room {room}"
             );
         }
