@@ -134,7 +134,7 @@ pub fn run<S: Suite, G: Signer, I: Source, O: Sink, E: Sink>(
         → I.left source.new ≡ drop (input_limit + 1) (I.left source.old) }
     ensures cut { result ≡ Status.ReadFault → I.tells source.old
         → length (I.left source.old) < input_limit + 1 + length (I.left source.new) }
-    ensures unread { result ≡ Status.Usage → (source.new ≡ source.old) × (suite.new ≡ suite.old) × (signer.new ≡ signer.old) }
+    ensures unread { ((c : Command) → Names words.now c → ⊥) → (source.new ≡ source.old) × (suite.new ≡ suite.old) × (signer.new ≡ signer.old) }
     ensures unwritten { result ≢ Status.Done → result ≢ Status.WriteFault → out.new ≡ out.old }
     ensures prefix { (c : Command) → Names words.now c → result ≡ Status.WriteFault
         → I.tells source.old → O.tells out.old
@@ -164,8 +164,8 @@ fn attempt<S: Suite, G: Signer, I: Source, O: Sink>(
     source: &mut I,
     out: &mut O,
 ) -> Status
-    ensures usage { result ≡ Status.Usage → ((c : Command) → Names words.now c → ⊥) × (source.new ≡ source.old)
-        × (suite.new ≡ suite.old) × (signer.new ≡ signer.old) }
+    ensures usage { result ≡ Status.Usage → (c : Command) → Names words.now c → ⊥ }
+    ensures unread { ((c : Command) → Names words.now c → ⊥) → (source.new ≡ source.old) × (suite.new ≡ suite.old) × (signer.new ≡ signer.old) }
     ensures command { result ≢ Status.Usage → result ≢ Status.NoMemory → (c : Command) × Names words.now c }
     ensures done { (c : Command) → Names words.now c → result ≡ Status.Done → I.tells source.old → (text : List ℕ)
         × Writes (G.signs signer.old) (outcome (outside (S.meanings suite.old) given.entry) c (input_for c (I.left source.old))) text × (O.tells out.old → O.written out.new ≡ O.written out.old ++ text) }

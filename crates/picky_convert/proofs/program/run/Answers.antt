@@ -66,7 +66,7 @@ returns-clause-exact g c = λ command named told calm_in calm status refused.
     let input = input_for command (g.I.Source.left c.args.source.now) in
     let ran = c.attempt-status.ensures in
     ends_so (g.G.Signer.signs c.args.signer.now) o command input c.attempt-status.result status _ _ _ refused calm_in calm
-    (λ usage. (ran.usage usage).0 command named)
+    (λ usage. ran.usage usage command named)
     (λ is. let done = ran.done command named is told in (done.0, done.1))
     (λ is. let wrote = ran.write_fault command named is told in (wrote.0, wrote.1))
     (λ is. ran.outside_fault command named is told)
@@ -79,5 +79,5 @@ returns-clause-complete g c = λ command named told valid calm_in calm_out calm 
     let made = outcome_valid o command input valid in
     let ran = c.attempt-status.ensures in
     settled (g.G.Signer.signs c.args.signer.now) o command input c.attempt-status.result made.0 _ _ _ _ made.1 calm_in calm_out calm still
-    (λ usage. (ran.usage usage).0 command named) ran.write_fault_only_if_counted (λ is. ran.outside_fault command named is told)
+    (λ usage. ran.usage usage command named) ran.write_fault_only_if_counted (λ is. ran.outside_fault command named is told)
     (λ done wrote usage. (ran.known done wrote usage, ran.taken command named done wrote usage told))
