@@ -31,7 +31,7 @@ pub struct CertRequest {
     pub extensions: List<SshExtension>,
     /// The algorithm to sign by, where it isn't the type's own.
     pub signature_algo: Option<SignatureAlgorithm>,
-    /// The key of who signs; the device is handed its secret too, where it is here.
+    /// The key of who signs, with its secret where that is here.
     pub issuer: Option<Key>,
 }
 

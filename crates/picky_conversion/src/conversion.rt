@@ -115,7 +115,7 @@ fn convert_to<S: Suite, G: Signer>(
     }
 }
 
-/// The conversion to a target that no device signs.
+/// The conversion to a target that no device signs. Refuses as `convert`.
 pub fn convert_key<S: Suite>(
     alloc: Global,
     suite: &mut S,

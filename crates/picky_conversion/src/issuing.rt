@@ -24,6 +24,8 @@ use picky_wire::Text;
 use std::alloc::{AllocError, Global};
 
 /// The line of the certificate that the options ask of the key text, of the issuer whose text stands before it.
+///
+/// Refuses, in order: `Issuer` and then `Input`, each as `read_text`; and as `picky_cert_target::write_certificate`.
 pub fn issue<S: Suite, G: Signer>(
     alloc: Global,
     suite: &mut S,
@@ -54,6 +56,8 @@ pub fn issue<S: Suite, G: Signer>(
 }
 
 /// What is to be signed of it, in lower-case hex, and LF.
+///
+/// Refuses, in order: `Issuer` and then `Input`, each as `read_text`; and as `picky_cert_target::write_signed_bytes`.
 pub fn print_signed<S: Suite>(
     alloc: Global,
     suite: &mut S,
