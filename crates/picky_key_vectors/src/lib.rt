@@ -27,6 +27,8 @@ mod ppk_secrets;
 #[cfg(test)]
 mod ppk_views;
 #[cfg(test)]
+mod ppk_wrappers;
+#[cfg(test)]
 mod private_keys;
 #[cfg(test)]
 mod private_views;

@@ -182,12 +182,15 @@ fn is_base(alloc: Global, ppk: &Ppk, key: &SshPrivateKey) -> Result<bool, PuttyE
 
 fn is_given(alloc: Global, ppk: &Ppk, key: &SshPrivateKey) -> Result<bool, Fail> {
     let given = ppk.to_openssh_private_key(alloc, None, &[0; 16])?;
-    Ok(
-        given.base_key == key.base_key
-            && given.public_key == key.public_key
-            && given.comment == key.comment
-            && given.passphrase.is_none(),
-    )
+    Ok(is_same_key(&given, key))
+}
+
+/// Both are one key, and the first has no passphrase.
+pub fn is_same_key(given: &SshPrivateKey, key: &SshPrivateKey) -> bool {
+    given.base_key == key.base_key
+        && given.public_key == key.public_key
+        && given.comment == key.comment
+        && given.passphrase.is_none()
 }
 
 fn is_inner(alloc: Global, ppk: &Ppk, key: &SshPrivateKey) -> Result<bool, Fail> {
@@ -195,7 +198,7 @@ fn is_inner(alloc: Global, ppk: &Ppk, key: &SshPrivateKey) -> Result<bool, Fail>
     is_of_key(alloc, inner, key)
 }
 
-fn is_of_key(alloc: Global, inner: PrivateKey, key: &SshPrivateKey) -> Result<bool, Fail> {
+pub fn is_of_key(alloc: Global, inner: PrivateKey, key: &SshPrivateKey) -> Result<bool, Fail> {
     Ok(SshPrivateKey::from_private_key(alloc, inner)?.base_key == key.base_key)
 }
 

@@ -2,13 +2,15 @@
 
 use crate::hex_texts::hex_of;
 use crate::ppk_files::{is_kept, is_written, p256_ppk, ppk_of, row_ppk};
+use crate::ppk_views::is_copied;
 use picky_key_rows::{CONFIG, PASS, PPK_ROWS, PpkRow, SEALED_V2, SEALED_V3, TOY_V2, TOY_V3};
+use picky_ppk::aes::make_padding;
 use picky_ppk::{
     Argon2Flavour, Argon2Params, KeyMaterialV2, KeyMaterialV3, Ppk, PpkFile, PpkKeyAlgorithm,
     PpkVersion, file_draft,
 };
 use picky_suite::MemorySuite;
-use picky_wire::Bytes;
+use picky_wire::{Bytes, SizeError, TryClone};
 use rand_pcg::Pcg32;
 use std::alloc::Global;
 use std::test::Fail;
@@ -66,13 +68,15 @@ fn params(alloc: Global, salt: &[u8]) -> Result<Argon2Params, Fail> {
 // The salt in SEALED_V3.
 const SEALED_SALT: &[u8] = b"\xc5\x63\x9f\x04\xb9\xab\xb4\x49\x97\x9f\xef\x76\x43\x3e\xd2\xc8";
 
+/// The file's are a copy of these.
 fn has_params(alloc: Global, ppk: &Ppk) -> Result<bool, Fail> {
-    Ok(ppk.argon2_params() == Some(&params(alloc, SEALED_SALT)?))
+    let params = params(alloc, SEALED_SALT)?;
+    Ok(ppk.argon2_params() == Some(&params.try_clone(alloc)?))
 }
 
 fn is_shown(alloc: Global, text: &str, version: PpkVersion) -> Result<bool, Fail> {
     let ppk = ppk_of(alloc, text)?;
-    Ok(is_sealed_row(&ppk, version) && shows_public(alloc, &ppk)?)
+    Ok(is_sealed_row(&ppk, version) && shows_public(alloc, &ppk)? && is_copied(alloc, &ppk)?)
 }
 
 fn shows_params(alloc: Global) -> Result<bool, Fail> {
@@ -224,11 +228,35 @@ fn draws_in(
     draws(alloc, &ppk, salt, bytes)
 }
 
+// The first twelve bytes of FIRST, and then its last four: for whole blocks between them the generator isn't asked.
+const FILLED: &[u8; 16] = b"four\xb7\x02\x5c\xa1\x09\xf4\x47\x7b\x30\x33\x1d\xba";
+
+const FILLED_NEXT: &[u8; 16] = b"twelve bytes\x93\xf2\xd2\x83";
+
+/// The message, filled up to whole blocks by the generator.
+fn filled(alloc: Global, message: &[u8], rng: &mut Pcg32) -> Result<Bytes, SizeError> {
+    let message = Bytes::new(alloc, message)?;
+    make_padding(message, rng)
+}
+
+fn fills_blocks(alloc: Global) -> Result<bool, SizeError> {
+    let mut rng = Pcg32::new(42, 54);
+    let first = filled(alloc, b"four", &mut rng)?;
+    let whole = filled(alloc, SALT, &mut rng)?;
+    let next = filled(alloc, b"twelve bytes", &mut rng)?;
+    Ok(
+        first.as_slice() == FILLED.as_slice()
+            && whole.as_slice() == SALT
+            && next.as_slice() == FILLED_NEXT.as_slice(),
+    )
+}
+
 // Version 2 has no salt.
 #[test]
 fn draws_a_salt_and_then_a_padding(rt: HostRuntime) -> Result<(), Fail> {
     assert!(rt; draws_in(rt.alloc(), PpkVersion::V3, FIRST, SECOND)?);
     assert!(rt; draws_in(rt.alloc(), PpkVersion::V2, SECOND, FIRST)?);
+    assert!(rt; fills_blocks(rt.alloc())?);
     Ok(())
 }
 

@@ -34,7 +34,7 @@ fn is_extracted(alloc: Global, ppk: &Ppk, key: &SshPublicKey) -> Result<bool, Pu
     Ok(public.to_openssh(alloc)? == *key)
 }
 
-fn is_copied(alloc: Global, ppk: &Ppk) -> Result<bool, Fail> {
+pub fn is_copied(alloc: Global, ppk: &Ppk) -> Result<bool, Fail> {
     Ok(ppk.try_clone(alloc)? == *ppk)
 }
 

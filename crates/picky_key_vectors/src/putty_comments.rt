@@ -7,10 +7,11 @@ use std::test::Fail;
 
 // A comment, and its line: echo "ssh-ed25519 BODY COMMENT" >key.pub
 // puttygen key.pub -O public | sed -n 2p
-static WRITTEN_COMMENTS: [(&str, &str, &str); 6] = [
+static WRITTEN_COMMENTS: [(&str, &str, &str); 7] = [
     ("none", "", r#"Comment: """#),
     ("quote and backslash", r#"a"b\c"#, r#"Comment: "a\"b\\c""#),
     ("three backslashes", r#"a\\\b"#, r#"Comment: "a\\\\\\b""#),
+    ("three backslashes alone", r#"\\\"#, r#"Comment: "\\\\\\""#),
     ("a backslash alone", r#"\"#, r#"Comment: "\\""#),
     ("two quotes alone", r#""""#, r#"Comment: "\"\"""#),
     ("another script", "é  鍵", r#"Comment: "é  鍵""#),
