@@ -1,9 +1,14 @@
 //! Of two faults in a certificate the one that is tried first, and why a line is refused whatever its bytes.
 
+use crate::cert_conversions::converted;
 use crate::cert_fault_rows::CertFault;
-use crate::cert_refusals::{is_fault, is_refused, is_reported};
-use crate::runs::{Refusal, refuses};
+use crate::cert_refusals::{is_fault, is_refused, is_unread};
 use picky_cert::CertPart;
+use picky_conversion::Target;
+use picky_key_text::ReadError;
+use picky_sshpub::SshPublicKeyError;
+use picky_target::ConvertError;
+use std::alloc::Global;
 use std::test::Fail;
 
 // Two faults of neighbouring parts. The bytes are told as those of the single faults, and end with the part that `end` names.
@@ -197,14 +202,12 @@ static LINES: [(&str, &str, &str); 11] = [
 fn refuses_lines_of_certificates(rt: HostRuntime) -> Result<(), Fail> {
     for (name, line, why) in &LINES {
         assert!(rt; is_refused(rt.alloc(), line, why)?, "{name}");
-        assert!(rt; is_reported(rt.alloc(), line, why)?, "{name}");
+        assert!(rt; is_unread(rt.alloc(), line, why)?, "{name}");
     }
     Ok(())
 }
 
-const UNKNOWN_KEY_TYPE: Refusal = (1, "keyconv: refused: input.public.UnknownKeyType\n");
-
-// A line whose first word is no type of certificates, and why the call refuses it. To the program it is a public key's.
+// A line whose first word is no type of certificates, and why the call refuses it. To the conversion it is a public key's.
 static FIRST_WORDS: [(&str, &str); 4] = [
     ("", "InvalidCertificateKeyType(Text { string: \"\" })"),
     (
@@ -221,18 +224,19 @@ static FIRST_WORDS: [(&str, &str); 4] = [
     ),
 ];
 
+/// The conversion refuses the line as that of a public key of no type.
+fn is_of_no_type(alloc: Global, line: &str) -> bool {
+    match converted(alloc, line, &Target::OpenSshPublic) {
+        Err(ConvertError::Input(ReadError::Public(e))) => e == SshPublicKeyError::UnknownKeyType,
+        Err(_) | Ok(_) => false,
+    }
+}
+
 #[test]
 fn refuses_the_first_word_of_another_line(rt: HostRuntime) -> Result<(), Fail> {
     for (line, why) in &FIRST_WORDS {
         assert!(rt; is_refused(rt.alloc(), line, why)?, "{line}");
-        refuses(
-            &rt,
-            rt.alloc(),
-            line,
-            "ssh-pub",
-            line.as_bytes(),
-            UNKNOWN_KEY_TYPE,
-        )?;
+        assert!(rt; is_of_no_type(rt.alloc(), line), "{line}");
     }
     Ok(())
 }

@@ -1,11 +1,14 @@
 //! Why a certificate is refused: each reason, and the part at which its bytes are stuck.
 
+use crate::cert_conversions::converted;
 use crate::cert_fault_rows::{CertFault, FAULTS};
 use crate::cert_fields::blob_of;
-use crate::runs::{ended, run_on};
 use crate::zero_cert::ZERO_LINE;
 use picky_cert::{CertPart, CertView, SshCertificate};
-use picky_wire::{Bytes, SliceSource};
+use picky_conversion::Target;
+use picky_key_text::ReadError;
+use picky_target::ConvertError;
+use picky_wire::Bytes;
 use std::alloc::Global;
 use std::test::Fail;
 
@@ -23,22 +26,13 @@ pub fn is_refused(alloc: Global, line: &str, why: &str) -> Result<bool, Fail> {
     Ok(printed.as_str() == why)
 }
 
-/// The name of the variant.
-fn variant(why: &str) -> &str {
-    match why.split_once('(') {
-        Some((name, _)) => name,
-        None => why,
-    }
-}
-
-/// And so does the program.
-pub fn is_reported(alloc: Global, line: &str, why: &str) -> Result<bool, Fail> {
-    let name = variant(why);
-    let report = format!(in alloc; "keyconv: refused: input.cert.{name}\n")?;
-    let mut source = SliceSource::new(line.as_bytes());
-    match run_on(alloc, &["ssh-pub"], &mut source, 999, 999) {
-        Ok(end) => Ok(ended(&end, 1, b"", report.as_str())),
-        Err(e) => Err(Fail::from(e)),
+/// And so does the conversion.
+pub fn is_unread(alloc: Global, line: &str, why: &str) -> Result<bool, Fail> {
+    match converted(alloc, line, &Target::OpenSshPublic) {
+        Err(ConvertError::Input(ReadError::Certificate(e))) => {
+            Ok(format!(in alloc; "{e:?}")?.as_str() == why)
+        }
+        Err(_) | Ok(_) => Ok(false),
     }
 }
 
@@ -57,7 +51,7 @@ pub fn is_fault(alloc: Global, row: &CertFault) -> Result<bool, Fail> {
     let line = line_of(alloc, row)?;
     let blob = blob_of(alloc, line.as_str())?;
     let is_so = is_refused(alloc, line.as_str(), row.why)?
-        && is_reported(alloc, line.as_str(), row.why)?;
+        && is_unread(alloc, line.as_str(), row.why)?;
     Ok(is_so && is_stuck(&blob, row.part))
 }
 
@@ -157,7 +151,7 @@ static CUTS: [(usize, CertPart, &str); 16] = [
 fn is_cut(alloc: Global, len: usize, part: CertPart, why: &str) -> Result<bool, Fail> {
     let line = ZERO_LINE.get(..len).ok_or("a shorter line")?;
     let blob = blob_of(alloc, line)?;
-    let is_so = is_refused(alloc, line, why)? && is_reported(alloc, line, why)?;
+    let is_so = is_refused(alloc, line, why)? && is_unread(alloc, line, why)?;
     Ok(is_so && is_stuck(&blob, part))
 }
 

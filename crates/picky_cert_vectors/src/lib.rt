@@ -1,6 +1,8 @@
-//! The tests of certificates: those of ssh-keygen, read, printed and run, and why certificates are refused.
+//! The tests of certificates: those of ssh-keygen, read, printed and converted, and why certificates are refused.
 #![tactic(auto)]
 
+#[cfg(test)]
+mod cert_conversions;
 #[cfg(test)]
 mod cert_fault_rows;
 #[cfg(test)]
@@ -18,14 +20,10 @@ mod cert_parts;
 #[cfg(test)]
 mod cert_refusals;
 #[cfg(test)]
-mod cert_runs;
-#[cfg(test)]
 mod cert_streams;
 #[cfg(test)]
 mod certs;
 #[cfg(test)]
 mod issued;
-#[cfg(test)]
-mod runs;
 #[cfg(test)]
 mod zero_cert;

@@ -1,6 +1,6 @@
 //! The keys that a line means, part by part.
 
-use picky_convert::{Key, Meaning, read_text};
+use picky_key_text::{Key, Meaning, read_text};
 use picky_keys::EcCurve;
 use picky_sshpub::SshBasePublicKey;
 use picky_suite::PlainSuite;

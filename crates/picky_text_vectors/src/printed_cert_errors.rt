@@ -5,7 +5,7 @@ use picky_cert_parts::{
     SshCertTypeError, SshCertificateError, SshCriticalOptionError, SshExtensionError,
     SshSignatureError,
 };
-use picky_convert::ReadError;
+use picky_key_text::ReadError;
 use picky_sshpub::SshPublicKeyError;
 use picky_wire::IoKind;
 use std::test::Fail;

@@ -2,12 +2,13 @@
 
 use crate::ppk_fields::parsing_error;
 use picky_cert_builder::SshCertificateGenerationError;
-use picky_convert::{ConvertError, ReadError};
+use picky_key_text::ReadError;
 use picky_kv::{BlockError, KvError, PpkValueError};
 use picky_putty_public::PuttyError;
 use picky_sshkey::{PemError, SshPrivateKeyError};
 use picky_sshpub::SshPublicKeyError;
 use picky_suite::SignError;
+use picky_target::ConvertError;
 use picky_wire::{Failed, IoKind, NoMemory, SizeError, Text, WireError};
 use std::alloc::{AllocError, AllocGlobal, Global};
 use std::fmt::Display;

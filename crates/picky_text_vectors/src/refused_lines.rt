@@ -1,8 +1,10 @@
 //! Why a public key line is refused.
 
-use picky_convert::{ConvertError, ReadError, Target, convert, read_text};
+use picky_conversion::{Target, convert};
+use picky_key_text::{ReadError, read_text};
 use picky_sshpub::{SshPublicKey, SshPublicKeyError};
 use picky_suite::{HandedSigner, PlainSuite};
+use picky_target::ConvertError;
 use picky_wire::{IoKind, MemorySource, SshComplexTypeDecode};
 use std::alloc::Global;
 use std::test::Fail;

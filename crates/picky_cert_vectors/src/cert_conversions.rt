@@ -1,0 +1,77 @@
+//! Certificates converted: a line means its subject's public key and its comment.
+
+use crate::certs::{CertRow, ROW_COUNT, cert_row};
+use crate::zero_cert::ZERO_LINE;
+use picky_conversion::{Target, convert};
+use picky_ppk::{PpkEncryptionConfig, PpkVersion};
+use picky_suite::{HandedSigner, PlainSuite};
+use picky_target::ConvertError;
+use picky_wire::Text;
+use std::alloc::Global;
+use std::test::Fail;
+
+/// The conversion without passphrases and fresh bytes, for which no device signs.
+pub fn converted(alloc: Global, line: &str, target: &Target) -> Result<Text, ConvertError> {
+    convert(
+        alloc,
+        &mut PlainSuite::new(),
+        &mut HandedSigner::new(None),
+        line,
+        None,
+        target,
+        None,
+        &[],
+    )
+}
+
+/// The second line is the public key's for the first.
+fn is_public(alloc: Global, line: &str, public: &str) -> bool {
+    match converted(alloc, line, &Target::OpenSshPublic) {
+        Ok(text) => text.as_str() == public,
+        Err(_) => false,
+    }
+}
+
+/// It is the line of the subject's key and the certificate's comment.
+fn is_subjects(alloc: Global, row: &CertRow) -> bool {
+    match format!(in alloc; "{} {}\r\n", row.public_key, row.comment) {
+        Ok(public) => is_public(alloc, row.line, public.as_str()),
+        Err(_) => false,
+    }
+}
+
+// base64 of s(b"ssh-ed25519") + s(bytes(32))
+const PUBLIC_LINE: &str =
+    "ssh-ed25519 AAAAC3NzaC1lZDI1NTE5AAAAIAAAAAAAAAAAAAAAAAAAAAAAAAAAAAAAAAAAAAAAAAAA host\r\n";
+
+#[test]
+fn writes_the_subjects_public_key(rt: HostRuntime) {
+    for number in 0..ROW_COUNT {
+        let row = cert_row(number);
+        assert!(rt; is_subjects(rt.alloc(), row), "{}", row.name);
+    }
+}
+
+#[test]
+fn writes_the_same_as_for_the_public_key(rt: HostRuntime) -> Result<(), Fail> {
+    assert!(rt; is_public(rt.alloc(), ZERO_LINE, PUBLIC_LINE));
+    let text = converted(rt.alloc(), ZERO_LINE, &Target::PuttyPublic)?;
+    assert!(rt; text == converted(rt.alloc(), PUBLIC_LINE, &Target::PuttyPublic)?);
+    Ok(())
+}
+
+/// The target keeps a secret, which the zero certificate has none of.
+fn is_private(alloc: Global, target: &Target) -> bool {
+    match converted(alloc, ZERO_LINE, target) {
+        Err(e) => e == ConvertError::NoPrivateKey,
+        Ok(_) => false,
+    }
+}
+
+#[test]
+fn makes_no_private_file_of_a_certificate(rt: HostRuntime) {
+    let config = PpkEncryptionConfig::default();
+    assert!(rt; is_private(rt.alloc(), &Target::OpenSsh));
+    assert!(rt; is_private(rt.alloc(), &Target::Ppk(PpkVersion::V2, config)));
+    assert!(rt; is_private(rt.alloc(), &Target::Ppk(PpkVersion::V3, config)));
+}
