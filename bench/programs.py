@@ -41,6 +41,20 @@ def build(folder, source, uses, key):
     return program / "out/bench_program"
 
 
+# Where Debian's packages put Go's sources.
+GO_SOURCES = "/usr/share/gocode"
+
+
+def build_go(folder, source):
+    """The program of this source of Go's, and None where Go or its library isn't there."""
+    if not shutil.which("go"):
+        return None
+    (folder / "main.go").write_text(source)
+    places = {"GO111MODULE": "off", "GOPATH": os.environ.get("GOPATH", GO_SOURCES)}
+    built = subprocess.run(["go", "build", "-o", "go_bench", "main.go"], cwd=folder, env={**os.environ, **places})
+    return folder / "go_bench" if built.returncode == 0 else None
+
+
 def timed(program, text, words):
     """The numbers of the lines that the program prints on a text with so many arguments, its peak memory in KiB, and
     the processor time of the whole process in seconds."""
