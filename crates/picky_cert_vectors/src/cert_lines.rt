@@ -4,6 +4,7 @@ use crate::cert_fields::{blob_of, prints};
 use picky_cert::{CertView, SshCertificate};
 use picky_wire::Bytes;
 use std::alloc::Global;
+use std::mem::ManuallyDrop;
 use std::test::Fail;
 
 // The name, a line, and the line that is written for it. The bytes of a line's second word stand above it: it is what
@@ -126,7 +127,7 @@ fn has_extensions(blob: &Bytes, extensions: &[u8]) -> bool {
 #[test]
 fn keeps_an_extension_that_is_not_known(rt: HostRuntime) -> Result<(), Fail> {
     assert!(rt; is_written(rt.alloc(), OTHER_LINE, OTHER_LINE));
-    let blob = blob_of(rt.alloc(), OTHER_LINE)?;
+    let blob = ManuallyDrop::new(blob_of(rt.alloc(), OTHER_LINE)?);
     assert!(rt; has_extensions(&blob, b"\0\0\0\x03x@y\0\0\0\x05\0\0\0\x011"));
     Ok(())
 }

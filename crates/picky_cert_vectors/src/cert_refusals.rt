@@ -10,6 +10,7 @@ use picky_key_text::ReadError;
 use picky_target::ConvertError;
 use picky_wire::Bytes;
 use std::alloc::Global;
+use std::mem::ManuallyDrop;
 use std::test::Fail;
 
 /// The error for the line, as `{:?}` prints it, and nothing where there is none.
@@ -48,8 +49,8 @@ fn line_of(alloc: Global, row: &CertFault) -> Result<String, Fail> {
 
 /// Each call refuses the row's bytes so.
 pub fn is_fault(alloc: Global, row: &CertFault) -> Result<bool, Fail> {
-    let line = line_of(alloc, row)?;
-    let blob = blob_of(alloc, line.as_str())?;
+    let line = ManuallyDrop::new(line_of(alloc, row)?);
+    let blob = ManuallyDrop::new(blob_of(alloc, line.as_str())?);
     let is_so = is_refused(alloc, line.as_str(), row.why)?
         && is_unread(alloc, line.as_str(), row.why)?;
     Ok(is_so && is_stuck(&blob, row.part))

@@ -6,6 +6,7 @@ use picky_cert::SshCertificate;
 use picky_cert_parts::SshCertificateError;
 use picky_wire::{IoKind, MemorySink, MemorySource, SliceSource, SshComplexTypeDecode, TryClone};
 use std::alloc::Global;
+use std::mem::ManuallyDrop;
 use std::test::Fail;
 
 /// The certificate is written to a sink as it is printed.
@@ -65,7 +66,7 @@ fn leaves(alloc: Global, bytes: &[u8], why: Option<SshCertificateError>, left: &
 
 #[test]
 fn takes_one_certificate_of_a_source(rt: HostRuntime) -> Result<(), Fail> {
-    let two = format!(in rt.alloc(); "{ZERO_LINE}\r\nmore")?;
+    let two = ManuallyDrop::new(format!(in rt.alloc(); "{ZERO_LINE}\r\nmore")?);
     assert!(rt; leaves(rt.alloc(), two.as_bytes(), None, b"\nmore"));
     let bad = b"ssh-ed25519-cert-v01@openssh.com ? \xc3(\nmore";
     let why = SshCertificateError::Base64DecodeError;

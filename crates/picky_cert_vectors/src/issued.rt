@@ -11,6 +11,7 @@ use picky_keys::{HashAlgorithm, SignatureAlgorithm};
 use picky_suite::{HandedSigner, MemorySigner};
 use picky_wire::{NoMemory, TryClone};
 use std::alloc::{AllocError, Global};
+use std::mem::ManuallyDrop;
 use std::test::Fail;
 
 /// The algorithm that makes signatures of a format, where no device makes them.
@@ -163,7 +164,7 @@ fn issues_what_ssh_keygen_issued(rt: HostRuntime) {
 
 /// The zero certificate's request.
 fn asks_for_zero(alloc: Global) -> Result<SshCertificateBuilder, Fail> {
-    let cert = SshCertificate::from_str(alloc, ZERO_LINE)?;
+    let cert = ManuallyDrop::new(SshCertificate::from_str(alloc, ZERO_LINE)?);
     Ok(asks_for(alloc, &cert)?)
 }
 
@@ -190,7 +191,7 @@ fn keeps_what_is_asked_for_until_it_is_signed(rt: HostRuntime) -> Result<(), Fai
 
 /// The first so many bytes of the zero certificate are those to be signed.
 fn is_unsigned(alloc: Global) -> Result<bool, Fail> {
-    let blob = blob_of(alloc, ZERO_LINE)?;
+    let blob = ManuallyDrop::new(blob_of(alloc, ZERO_LINE)?);
     let builder = asks_for_zero(alloc)?;
     match builder.unsigned(alloc, &[0; 32]) {
         Ok(bytes) => Ok(Some(bytes.as_slice()) == blob.as_slice().get(..211)),

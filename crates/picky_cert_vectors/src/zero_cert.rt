@@ -6,6 +6,7 @@ use picky_cert_parts::SshCertType;
 use picky_sshpub::PublicView;
 use picky_wire::{Bytes, Part};
 use std::alloc::Global;
+use std::mem::ManuallyDrop;
 use std::test::Fail;
 
 // By python3 from the fields of OpenSSH's PROTOCOL.certkeys, with s = lambda b: len(b).to_bytes(4, "big") + b and
@@ -119,7 +120,7 @@ fn are_stuck(blob: &Bytes, from: usize, end: usize, part: CertPart) -> bool {
 
 #[test]
 fn is_stuck_where_the_bytes_are_cut(rt: HostRuntime) -> Result<(), Fail> {
-    let blob = blob_of(rt.alloc(), ZERO_LINE)?;
+    let blob = ManuallyDrop::new(blob_of(rt.alloc(), ZERO_LINE)?);
     let mut from = 0;
     for (end, part) in &ENDS {
         assert!(rt; are_stuck(&blob, from, *end, *part), "up to {end}");

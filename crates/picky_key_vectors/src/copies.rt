@@ -12,6 +12,7 @@ use picky_sshkey::{Kdf, Pem, SshBasePrivateKey};
 use picky_sshpub::SshBasePublicKey;
 use picky_wire::{Bytes, Mpint, Text, TryClone};
 use std::alloc::{AllocGlobal, Global};
+use std::mem::ManuallyDrop;
 use std::process::Abort;
 use std::test::Fail;
 
@@ -42,8 +43,8 @@ fn copies_a_text(rt: HostRuntime) -> Result<(), Fail> {
 
 #[test]
 fn copies_a_number(rt: HostRuntime) -> Result<(), Fail> {
-    let number = Mpint::from_vec(Vec::from_slice(rt.alloc(), b"\0\x01")?)?;
-    let copy = number.try_clone(rt.alloc())?;
+    let number = ManuallyDrop::new(Mpint::from_vec(Vec::from_slice(rt.alloc(), b"\0\x01")?)?);
+    let copy = ManuallyDrop::new(number.try_clone(rt.alloc())?);
     assert_eq!(rt; copy.bytes(), b"\x01".as_slice());
     Ok(())
 }
@@ -70,7 +71,7 @@ fn copies_each_kind_of_key(rt: HostRuntime) -> Result<(), Fail> {
 }
 
 fn base_key_of(alloc: Global, text: &str) -> Result<SshBasePrivateKey, Fail> {
-    let key = unsealed(alloc, text)?;
+    let key = ManuallyDrop::new(unsealed(alloc, text)?);
     Ok(key.base_key().try_clone(alloc)?)
 }
 

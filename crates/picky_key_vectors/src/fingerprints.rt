@@ -5,6 +5,7 @@ use picky_key_rows::{KEY_ROWS, KeyRow};
 use picky_sshpub::SshPublicKey;
 use picky_text::encode;
 use std::alloc::Global;
+use std::mem::ManuallyDrop;
 use std::test::Fail;
 
 /// Base64 without its padding, as `ssh-keygen` shows a digest.
@@ -15,7 +16,7 @@ fn shown(alloc: Global, digest: &[u8]) -> Result<String, Fail> {
 
 /// The key of the row's line has the row's digests.
 fn is_shown(alloc: Global, row: &KeyRow) -> Result<bool, Fail> {
-    let key = SshPublicKey::from_str(alloc, row.line)?;
+    let key = ManuallyDrop::new(SshPublicKey::from_str(alloc, row.line)?);
     Ok(
         hex_of(alloc, &key.fingerprint_md5())?.as_str() == row.md5
             && shown(alloc, &key.fingerprint_sha1())?.as_str() == row.sha1

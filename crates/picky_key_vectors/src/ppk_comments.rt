@@ -7,6 +7,7 @@ use picky_ppk::{Ppk, PpkVersion, PuttyError};
 use picky_suite::PlainSuite;
 use picky_wire::Text;
 use std::alloc::Global;
+use std::mem::ManuallyDrop;
 use std::test::Fail;
 
 // puttygen p256.ppk -C another -O private -o other.ppk --ppk-param version=3; tail -1 other.ppk; and with version=2
@@ -26,7 +27,7 @@ fn is_commented_in(alloc: Global, version: PpkVersion, text: &str) -> Result<boo
 }
 
 fn is_commented_as_by_puttygen(alloc: Global, version: PpkVersion) -> Result<bool, Fail> {
-    let body = P256_BODY.replace(alloc, "a comment", "another")?;
+    let body = ManuallyDrop::new(P256_BODY.replace(alloc, "a comment", "another")?);
     let text = text_with_macs(alloc, body.as_str(), version, OTHER_MAC_V2, OTHER_MAC_V3)?;
     is_commented_in(alloc, version, text.as_str())
 }
@@ -48,7 +49,7 @@ fn is_public(alloc: Global, ppk: &Ppk) -> Result<bool, PuttyError> {
 }
 
 fn is_row_public(alloc: Global) -> Result<bool, Fail> {
-    let ppk = p256_ppk(alloc, PpkVersion::V3)?;
+    let ppk = ManuallyDrop::new(p256_ppk(alloc, PpkVersion::V3)?);
     Ok(is_public(alloc, &ppk)?)
 }
 

@@ -8,6 +8,7 @@ use picky_sshkey::SshPrivateKey;
 use picky_suite::PlainSuite;
 use picky_wire::TryClone;
 use std::alloc::Global;
+use std::mem::ManuallyDrop;
 use std::test::Fail;
 
 /// The file of a text. No call of a suite that can fail is needed, and this one has none.
@@ -32,7 +33,7 @@ pub fn says(alloc: Global, text: &str, ppk: &Ppk) -> Result<bool, Fail> {
 
 /// The file of the row.
 pub fn row_ppk(alloc: Global, row: &PpkRow, version: PpkVersion) -> Result<Ppk, Fail> {
-    let text = text_of(alloc, row, version)?;
+    let text = ManuallyDrop::new(text_of(alloc, row, version)?);
     Ok(ppk_of(alloc, text.as_str())?)
 }
 
@@ -234,7 +235,7 @@ fn gives_the_keys_of_openssh_back(rt: HostRuntime) -> Result<(), Fail> {
 
 /// The key that is sealed under a passphrase and a salt, of the file of the other.
 fn sealed_by_file(alloc: Global, key: &SshPrivateKey) -> Result<SshPrivateKey, Fail> {
-    let ppk = made_of(alloc, key)?;
+    let ppk = ManuallyDrop::new(made_of(alloc, key)?);
     Ok(ppk.to_openssh_private_key(alloc, Some(PASS), b"saltsaltsaltsalt")?)
 }
 

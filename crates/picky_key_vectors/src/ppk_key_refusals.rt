@@ -7,6 +7,7 @@ use crate::private_keys::unsealed;
 use picky_key_rows::PRIVATE_ROWS;
 use picky_ppk::Ppk;
 use std::alloc::{AllocError, Global};
+use std::mem::ManuallyDrop;
 use std::test::Fail;
 
 /// The fields of a file of version 3 with an empty comment, in base64 and hex, and why its key is refused.
@@ -155,7 +156,7 @@ fn text_of(alloc: Global, row: &KeyRow) -> Result<String, AllocError> {
 }
 
 fn row_ppk(alloc: Global, row: &KeyRow) -> Result<Ppk, Fail> {
-    let text = text_of(alloc, row)?;
+    let text = ManuallyDrop::new(text_of(alloc, row)?);
     Ok(ppk_of(alloc, text.as_str())?)
 }
 
@@ -211,11 +212,11 @@ fn has_no_keys_of_devices(rt: HostRuntime) -> Result<(), Fail> {
     let wanted = "NotSupported: SK keys";
     for row in &PRIVATE_ROWS {
         if row.is_on_device {
-            let why = made_refusal(rt.alloc(), row.text)?;
+            let why = ManuallyDrop::new(made_refusal(rt.alloc(), row.text)?);
             assert_eq!(rt; why.as_str(), wanted, "{}", row.name);
         }
     }
-    let why = public_refusal(rt.alloc())?;
+    let why = ManuallyDrop::new(public_refusal(rt.alloc())?);
     assert_eq!(rt; why.as_str(), wanted);
     Ok(())
 }

@@ -4,6 +4,7 @@ use crate::ppk_files::{ppk_of, says};
 use picky_key_rows::ZERO_TEXT;
 use picky_ppk::PuttyError;
 use std::alloc::{AllocError, Global};
+use std::mem::ManuallyDrop;
 use std::test::Fail;
 
 /// The error's name, and the texts behind it; nothing where there is no error.
@@ -150,8 +151,8 @@ const SEALED: &str = "FIRST\nEncryption: aes256-cbc\nComment: hello\nPublic-Line
 
 /// The text with whole lines in place of `SEALED`, `HEAD` and `FIRST`.
 fn spelled(alloc: Global, short: &str) -> Result<String, Fail> {
-    let text = short.replace(alloc, "SEALED", SEALED)?;
-    let text = text.replace(alloc, "HEAD", HEAD)?;
+    let text = ManuallyDrop::new(short.replace(alloc, "SEALED", SEALED)?);
+    let text = ManuallyDrop::new(text.replace(alloc, "HEAD", HEAD)?);
     Ok(text.replace(alloc, "FIRST", FIRST)?)
 }
 
@@ -164,7 +165,7 @@ fn text_refusal(alloc: Global, short: &str) -> Result<String, Fail> {
 #[test]
 fn refuses_files_by_line(rt: HostRuntime) -> Result<(), Fail> {
     for (name, short, wanted) in &TEXTS {
-        let why = text_refusal(rt.alloc(), *short)?;
+        let why = ManuallyDrop::new(text_refusal(rt.alloc(), *short)?);
         assert_eq!(rt; why.as_str(), *wanted, "{name}");
     }
     Ok(())
@@ -192,7 +193,7 @@ fn is_zero(alloc: Global, text: &str) -> Result<bool, Fail> {
 #[test]
 fn reads_other_spellings_of_a_file(rt: HostRuntime) -> Result<(), Fail> {
     for (name, from, to) in &SPELLINGS {
-        let text = ZERO_TEXT.replace(rt.alloc(), *from, *to)?;
+        let text = ManuallyDrop::new(ZERO_TEXT.replace(rt.alloc(), *from, *to)?);
         assert!(rt; is_zero(rt.alloc(), text.as_str())?, "{name}");
     }
     Ok(())

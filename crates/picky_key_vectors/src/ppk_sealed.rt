@@ -13,6 +13,7 @@ use picky_suite::MemorySuite;
 use picky_wire::{Bytes, SizeError, TryClone};
 use rand_pcg::Pcg32;
 use std::alloc::Global;
+use std::mem::ManuallyDrop;
 use std::test::Fail;
 
 pub const SALT: &[u8] = b"saltsaltsaltsalt";
@@ -70,12 +71,12 @@ const SEALED_SALT: &[u8] = b"\xc5\x63\x9f\x04\xb9\xab\xb4\x49\x97\x9f\xef\x76\x4
 
 /// The file's are a copy of these.
 fn has_params(alloc: Global, ppk: &Ppk) -> Result<bool, Fail> {
-    let params = params(alloc, SEALED_SALT)?;
+    let params = ManuallyDrop::new(params(alloc, SEALED_SALT)?);
     Ok(ppk.argon2_params() == Some(&params.try_clone(alloc)?))
 }
 
 fn is_shown(alloc: Global, text: &str, version: PpkVersion) -> Result<bool, Fail> {
-    let ppk = ppk_of(alloc, text)?;
+    let ppk = ManuallyDrop::new(ppk_of(alloc, text)?);
     Ok(is_sealed_row(&ppk, version) && shows_public(alloc, &ppk)? && is_copied(alloc, &ppk)?)
 }
 
@@ -241,8 +242,8 @@ fn filled(alloc: Global, message: &[u8], rng: &mut Pcg32) -> Result<Bytes, SizeE
 
 fn fills_blocks(alloc: Global) -> Result<bool, SizeError> {
     let mut rng = Pcg32::new(42, 54);
-    let first = filled(alloc, b"four", &mut rng)?;
-    let whole = filled(alloc, SALT, &mut rng)?;
+    let first = ManuallyDrop::new(filled(alloc, b"four", &mut rng)?);
+    let whole = ManuallyDrop::new(filled(alloc, SALT, &mut rng)?);
     let next = filled(alloc, b"twelve bytes", &mut rng)?;
     Ok(
         first.as_slice() == FILLED.as_slice()
@@ -265,7 +266,7 @@ fn draws_a_salt_and_then_a_padding(rt: HostRuntime) -> Result<(), Fail> {
 #[test]
 fn derives_the_key_of_puttygen_in_version_2(rt: HostRuntime) -> Result<(), Fail> {
     let material = KeyMaterialV2::derive("pass");
-    let key = hex_of(rt.alloc(), material.key())?;
+    let key = ManuallyDrop::new(hex_of(rt.alloc(), material.key())?);
     assert_eq!(rt;
         key.as_str(),
         "a29e49726b1ebcf350e0d5af740ff41d2143228a4308cd1349407aca6755db79"
@@ -276,7 +277,7 @@ fn derives_the_key_of_puttygen_in_version_2(rt: HostRuntime) -> Result<(), Fail>
 
 fn material(alloc: Global) -> Result<KeyMaterialV3, Fail> {
     let mut suite = MemorySuite::new(alloc, &[])?;
-    let params = params(alloc, SALT)?;
+    let params = ManuallyDrop::new(params(alloc, SALT)?);
     Ok(KeyMaterialV3::derive(&mut suite, &params, PASS)?)
 }
 
@@ -291,8 +292,8 @@ fn in_hex(alloc: Global, material: &KeyMaterialV3) -> Result<String, Fail> {
 // Of D in picky_key_rows::ppk_texts: D[:32].hex(), D[32:48].hex(), D[48:80].hex()
 #[test]
 fn cuts_the_keys_of_version_3(rt: HostRuntime) -> Result<(), Fail> {
-    let material = material(rt.alloc())?;
-    let keys = in_hex(rt.alloc(), &material)?;
+    let material = ManuallyDrop::new(material(rt.alloc())?);
+    let keys = ManuallyDrop::new(in_hex(rt.alloc(), &material)?);
     assert_eq!(rt;
         keys.as_str(),
         "506a4b2573d1c741c0ce4c93734f6a225ea38d53097044fb95e702a25e550562 \

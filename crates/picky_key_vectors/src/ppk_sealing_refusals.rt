@@ -9,6 +9,7 @@ use picky_ppk::{Ppk, PpkEncryptionConfig, PpkVersion, PuttyError};
 use picky_suite::{MemorySuite, PlainSuite};
 use rand_pcg::Pcg32;
 use std::alloc::Global;
+use std::mem::ManuallyDrop;
 use std::test::Fail;
 
 /// A file that is sealed doesn't give its key, and isn't changed.
@@ -146,13 +147,13 @@ static SEALED_ROWS: [SealedRow; 7] = [
 
 /// The row's file.
 fn sealed_text(alloc: Global, row: &SealedRow) -> Result<String, Fail> {
-    let text = TOY_V3.replace(alloc, "Memory: 8", row.memory)?;
-    let text = text.replace(alloc, WHOLE, row.private)?;
+    let text = ManuallyDrop::new(TOY_V3.replace(alloc, "Memory: 8", row.memory)?);
+    let text = ManuallyDrop::new(text.replace(alloc, WHOLE, row.private)?);
     Ok(text.replace(alloc, MAC, row.mac)?)
 }
 
 fn row_sealed(alloc: Global, row: &SealedRow) -> Result<Ppk, Fail> {
-    let text = sealed_text(alloc, row)?;
+    let text = ManuallyDrop::new(sealed_text(alloc, row)?);
     Ok(ppk_of(alloc, text.as_str())?)
 }
 
@@ -180,7 +181,7 @@ fn sealed_refusal(alloc: Global, row: &SealedRow) -> Result<String, Fail> {
 #[test]
 fn refuses_to_open_in_order(rt: HostRuntime) -> Result<(), Fail> {
     for row in &SEALED_ROWS {
-        let why = sealed_refusal(rt.alloc(), row)?;
+        let why = ManuallyDrop::new(sealed_refusal(rt.alloc(), row)?);
         assert_eq!(rt; why.as_str(), row.wanted, "{}", row.name);
     }
     Ok(())

@@ -7,6 +7,7 @@ use picky_ppk::{Ppk, PpkVersion, PuttyError};
 use picky_sshpub::SshPublicKey;
 use picky_wire::TryClone;
 use std::alloc::Global;
+use std::mem::ManuallyDrop;
 use std::test::Fail;
 
 /// The file has the row's fields in the version.
@@ -21,7 +22,7 @@ fn has_fields(ppk: &Ppk, row: &PpkRow, version: PpkVersion) -> bool {
 
 /// The file has the public key of the line.
 fn has_public(alloc: Global, ppk: &Ppk, line: &str) -> Result<bool, Fail> {
-    let key = SshPublicKey::from_str(alloc, line)?;
+    let key = ManuallyDrop::new(SshPublicKey::from_str(alloc, line)?);
     Ok(is_public(alloc, ppk, &key)? && is_extracted(alloc, ppk, &key)?)
 }
 
@@ -30,7 +31,7 @@ fn is_public(alloc: Global, ppk: &Ppk, key: &SshPublicKey) -> Result<bool, Putty
 }
 
 fn is_extracted(alloc: Global, ppk: &Ppk, key: &SshPublicKey) -> Result<bool, PuttyError> {
-    let public = ppk.extract_putty_public_key(alloc)?;
+    let public = ManuallyDrop::new(ppk.extract_putty_public_key(alloc)?);
     Ok(public.to_openssh(alloc)? == *key)
 }
 
@@ -39,7 +40,7 @@ pub fn is_copied(alloc: Global, ppk: &Ppk) -> Result<bool, Fail> {
 }
 
 fn shows_row(alloc: Global, row: &PpkRow, version: PpkVersion, line: &str) -> Result<bool, Fail> {
-    let ppk = row_ppk(alloc, row, version)?;
+    let ppk = ManuallyDrop::new(row_ppk(alloc, row, version)?);
     Ok(has_fields(&ppk, row, version) && has_parts(alloc, &ppk, line)?)
 }
 

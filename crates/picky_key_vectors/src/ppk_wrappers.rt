@@ -11,6 +11,7 @@ use picky_sshkey::SshPrivateKey;
 use picky_sshpub::SshPublicKey;
 use picky_wire::{NoMemory, TryClone};
 use std::alloc::Global;
+use std::mem::ManuallyDrop;
 use std::test::Fail;
 
 /// The key has the parts of the file.
@@ -107,7 +108,7 @@ fn has_key(alloc: Global, putty: &PuttyPrivateKey, key: &SshPrivateKey) -> Resul
 }
 
 fn is_wrapped(alloc: Global, key: &SshPrivateKey, file: &PpkFile) -> Result<bool, Fail> {
-    let putty = PuttyPrivateKey::from_openssh(alloc, key)?;
+    let putty = ManuallyDrop::new(PuttyPrivateKey::from_openssh(alloc, key)?);
     Ok(has_parts(&putty, file) && has_key(alloc, &putty, key)?)
 }
 

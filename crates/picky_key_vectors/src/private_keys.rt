@@ -9,6 +9,7 @@ use picky_wire::{
     Bytes, MemorySink, SliceSource, SshComplexTypeDecode, SshComplexTypeEncode, Text,
 };
 use std::alloc::Global;
+use std::mem::ManuallyDrop;
 use std::test::Fail;
 
 /// The key of an unsealed text. No call of a suite is needed, and this one has none.
@@ -48,7 +49,7 @@ fn rewritten(alloc: Global, text: &str) -> Result<Text, Fail> {
 /// The key, read of its envelope's bytes.
 fn by_pem(alloc: Global, key: &SshPrivateKey) -> Result<SshPrivateKey, Fail> {
     let mut suite = PlainSuite::new();
-    let pem = key.to_pem(alloc, &mut suite)?;
+    let pem = ManuallyDrop::new(key.to_pem(alloc, &mut suite)?);
     Ok(SshPrivateKey::from_pem(alloc, &mut suite, &pem, None)?)
 }
 
@@ -88,7 +89,7 @@ fn says_key(alloc: Global, text: &str, key: &SshPrivateKey) -> Result<bool, Fail
 fn writes_a_key_that_is_made(rt: HostRuntime) -> Result<(), Fail> {
     assert_eq!(rt; zero_text(rt.alloc())?.as_str(), ZERO_KEY);
     assert!(rt; is_zero_key(rt.alloc(), ZERO_KEY)?);
-    let unbroken = ZERO_KEY.replace(rt.alloc(), "\n", "")?;
+    let unbroken = ManuallyDrop::new(ZERO_KEY.replace(rt.alloc(), "\n", "")?);
     assert!(rt; is_zero_key(rt.alloc(), unbroken.as_str())?);
     Ok(())
 }
@@ -167,7 +168,7 @@ fn reads_and_writes_the_options_of_a_derivation(rt: HostRuntime) -> Result<(), F
 
 /// What is written of the row's key is read as the same key, and has the row's content.
 fn is_kept(alloc: Global, row: &PrivateRow, key: &SshPrivateKey) -> Result<bool, Fail> {
-    let text = written(alloc, key)?;
+    let text = ManuallyDrop::new(written(alloc, key)?);
     Ok(unsealed(alloc, text.as_str())? == *key && is_same_content(alloc, text.as_str(), row.text)?)
 }
 
@@ -190,7 +191,7 @@ fn is_of_its_line(alloc: Global, row: &PrivateRow, key: &SshPrivateKey) -> Resul
 #[test]
 fn reads_and_writes_the_keys_of_ssh_keygen(rt: HostRuntime) -> Result<(), Fail> {
     for row in &PRIVATE_ROWS {
-        let key = unsealed(rt.alloc(), row.text)?;
+        let key = ManuallyDrop::new(unsealed(rt.alloc(), row.text)?);
         assert!(rt; is_kept(rt.alloc(), row, &key)?, "{}", row.name);
         assert!(rt; is_of_its_line(rt.alloc(), row, &key)?, "{}", row.name);
     }
@@ -257,14 +258,14 @@ fn is_encoded(alloc: Global, key: &SshPrivateKey) -> Result<bool, Fail> {
 /// The text is that of what `to_pem` gives, and a last LF.
 fn is_armoured(alloc: Global, key: &SshPrivateKey) -> Result<bool, Fail> {
     let mut suite = PlainSuite::new();
-    let pem = key.to_pem(alloc, &mut suite)?;
-    let lines = pem.to_string(alloc)?;
+    let pem = ManuallyDrop::new(key.to_pem(alloc, &mut suite)?);
+    let lines = ManuallyDrop::new(pem.to_string(alloc)?);
     let text = written(alloc, key)?;
     Ok(text.as_str().strip_suffix("\n") == Some(lines.as_str()))
 }
 
 fn is_made_alike(alloc: Global) -> Result<bool, Fail> {
-    let key = bare_key(alloc)?;
+    let key = ManuallyDrop::new(bare_key(alloc)?);
     Ok(is_encoded(alloc, &key)? && is_armoured(alloc, &key)?)
 }
 

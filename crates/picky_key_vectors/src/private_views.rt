@@ -3,6 +3,7 @@
 use picky_sshkey::{PrivateView, SshBasePrivateKey};
 use picky_wire::{Bytes, Part, SliceSource, SshComplexTypeDecode, Stuck};
 use std::alloc::Global;
+use std::mem::ManuallyDrop;
 use std::test::Fail;
 
 /// A blob with a word behind it, what is seen of it, and how many bytes it takes.
@@ -57,7 +58,7 @@ const DEVICE_BLOB: &[u8] =
 
 /// The row's blob is seen so, and is stuck nowhere.
 fn is_seen(alloc: Global, row: &SeenRow) -> Result<bool, Fail> {
-    let blob = Bytes::new(alloc, row.blob)?;
+    let blob = ManuallyDrop::new(Bytes::new(alloc, row.blob)?);
     let (view, len) = PrivateView::read(blob.as_slice())?;
     let is_whole = len == row.len && PrivateView::stuck_at(blob.as_slice()).is_none();
     Ok(is_whole && view == row.view)
@@ -65,7 +66,7 @@ fn is_seen(alloc: Global, row: &SeenRow) -> Result<bool, Fail> {
 
 /// A copy of the key that the bytes begin with.
 fn copied(alloc: Global, bytes: &[u8]) -> Result<SshBasePrivateKey, Fail> {
-    let blob = Bytes::new(alloc, bytes)?;
+    let blob = ManuallyDrop::new(Bytes::new(alloc, bytes)?);
     let (view, _) = PrivateView::read(blob.as_slice())?;
     Ok(view.to_key(alloc)?)
 }

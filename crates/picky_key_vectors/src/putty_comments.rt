@@ -3,6 +3,7 @@
 use crate::putty_public::{ED25519, is_written, key_with, text_with};
 use picky_putty_public::{PuttyError, PuttyPublicKey};
 use std::alloc::Global;
+use std::mem::ManuallyDrop;
 use std::test::Fail;
 
 // A comment, and its line: echo "ssh-ed25519 BODY COMMENT" >key.pub
@@ -41,7 +42,7 @@ fn is_read(alloc: Global, comment: &str, line: &str) -> Result<bool, Fail> {
 
 /// The row's line is written for its comment.
 fn is_quoted(alloc: Global, comment: &str, line: &str) -> Result<bool, Fail> {
-    let text = text_with(alloc, line, ED25519)?;
+    let text = ManuallyDrop::new(text_with(alloc, line, ED25519)?);
     Ok(is_written(alloc, &commented(alloc, comment)?, text.as_str())?)
 }
 
@@ -66,7 +67,7 @@ fn reads_what_stands_between_the_first_and_the_last_quote(rt: HostRuntime) -> Re
 fn does_not_read_back_a_comment_with_lf(rt: HostRuntime) -> Result<(), Fail> {
     let line = "Comment: \"two\nlines\"";
     assert!(rt; is_quoted(rt.alloc(), "two\nlines", line)?);
-    let text = text_with(rt.alloc(), line, ED25519)?;
+    let text = ManuallyDrop::new(text_with(rt.alloc(), line, ED25519)?);
     let refused = PuttyPublicKey::from_str(rt.alloc(), text.as_str()).err();
     assert_eq!(rt; refused, Some(PuttyError::InvalidPublicKeyComment));
     Ok(())

@@ -6,6 +6,7 @@ use picky_putty_public::{PuttyError, PuttyPublicKey};
 use picky_sshpub::SshPublicKey;
 use picky_wire::TryClone;
 use std::alloc::Global;
+use std::mem::ManuallyDrop;
 use std::test::Fail;
 
 /// The body of the first Ed25519 key of the table, in rows.
@@ -21,14 +22,14 @@ pub fn text_with(alloc: Global, comment_line: &str, rows: &str) -> Result<String
 
 /// A key whose comment is `old`.
 pub fn key_with(alloc: Global, rows: &str) -> Result<PuttyPublicKey, Fail> {
-    let text = text_with(alloc, "Comment: \"old\"", rows)?;
+    let text = ManuallyDrop::new(text_with(alloc, "Comment: \"old\"", rows)?);
     Ok(PuttyPublicKey::from_str(alloc, text.as_str())?)
 }
 
 /// PuTTY's key of the line is made of OpenSSH's and gives it back, and the text spells it.
 fn agrees(alloc: Global, line: &str, text: &str) -> Result<bool, Fail> {
-    let key = SshPublicKey::from_str(alloc, line)?;
-    let putty = PuttyPublicKey::from_openssh(alloc, &key)?;
+    let key = ManuallyDrop::new(SshPublicKey::from_str(alloc, line)?);
+    let putty = ManuallyDrop::new(PuttyPublicKey::from_openssh(alloc, &key)?);
     Ok(
         is_spelled(alloc, &putty, text)?
             && is_taken(alloc, &putty, &key)?
@@ -38,7 +39,7 @@ fn agrees(alloc: Global, line: &str, text: &str) -> Result<bool, Fail> {
 
 /// The text with CR LF and with LF says the key, and the one with CR LF is written for it.
 fn is_spelled(alloc: Global, putty: &PuttyPublicKey, text: &str) -> Result<bool, Fail> {
-    let with_lf = text.replace(alloc, "\r\n", "\n")?;
+    let with_lf = ManuallyDrop::new(text.replace(alloc, "\r\n", "\n")?);
     Ok(
         says(alloc, text, putty)?
             && says(alloc, with_lf.as_str(), putty)?
@@ -114,11 +115,11 @@ static SPELLINGS: [(&str, &str); 7] = [
 #[test]
 fn reads_other_spellings_of_a_key(rt: HostRuntime) -> Result<(), Fail> {
     let alloc = rt.alloc();
-    let key = key_with(alloc, ED25519)?.with_comment(alloc, "me")?;
+    let key = ManuallyDrop::new(key_with(alloc, ED25519)?.with_comment(alloc, "me")?);
     let row = "AAAAC3NzaC1lZDI1NTE5AAAAIIW5ErFsW9CIpb/ceM1WtA5ZFaU4t08o4uVN3ER9";
     for (name, short) in &SPELLINGS {
-        let text = spelled(alloc, *short)?.replace(alloc, "ROW", row)?;
-        let read = PuttyPublicKey::from_str(alloc, text.as_str())?;
+        let text = ManuallyDrop::new(spelled(alloc, *short)?.replace(alloc, "ROW", row)?);
+        let read = ManuallyDrop::new(PuttyPublicKey::from_str(alloc, text.as_str())?);
         assert!(rt; read == key, "{name}");
     }
     Ok(())
@@ -126,7 +127,7 @@ fn reads_other_spellings_of_a_key(rt: HostRuntime) -> Result<(), Fail> {
 
 /// The rows are written as they are read.
 fn is_rewritten(alloc: Global, rows: &str) -> Result<bool, Fail> {
-    let text = text_with(alloc, "Comment: \"old\"", rows)?;
+    let text = ManuallyDrop::new(text_with(alloc, "Comment: \"old\"", rows)?);
     Ok(is_written(alloc, &key_with(alloc, rows)?, text.as_str())?)
 }
 

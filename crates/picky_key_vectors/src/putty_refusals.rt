@@ -5,6 +5,7 @@ use picky_putty_public::{PuttyError, PuttyPublicKey};
 use picky_sshpub::SshPublicKeyError;
 use picky_wire::IoKind;
 use std::alloc::AllocGlobal;
+use std::mem::ManuallyDrop;
 use std::process::Abort;
 use std::test::Fail;
 
@@ -47,7 +48,7 @@ fn refuses(
     why: &PuttyError,
 ) -> Result<(), Fail> {
     for (name, short) in rows {
-        let text = spelled(rt.alloc(), *short)?;
+        let text = ManuallyDrop::new(spelled(rt.alloc(), *short)?);
         match PuttyPublicKey::from_str(rt.alloc(), text.as_str()) {
             Ok(_) => assert!(rt; false, "{name}"),
             Err(e) => assert!(rt; e == *why, "{name}"),
@@ -113,7 +114,7 @@ fn wraps(error: Option<PuttyError>, wanted: &SshPublicKeyError) -> bool {
 #[test]
 fn refuses_blobs_for_their_reason(rt: HostRuntime) -> Result<(), Fail> {
     for (name, rows, why) in &REFUSED_BLOBS {
-        let key = key_with(rt.alloc(), *rows)?;
+        let key = ManuallyDrop::new(key_with(rt.alloc(), *rows)?);
         assert!(rt; wraps(key.to_openssh(rt.alloc()).err(), why), "{name}");
         assert!(rt; wraps(key.to_inner_key(rt.alloc()).err(), why), "{name}");
     }

@@ -6,6 +6,7 @@ use picky_sshkey::{SshBasePrivateKey, SshPrivateKey, SshPrivateKeyError};
 use picky_suite::{MemorySuite, PlainSuite, Suite};
 use picky_wire::{NoMemory, Text};
 use std::alloc::Global;
+use std::mem::ManuallyDrop;
 use std::test::Fail;
 
 const PASS: &str = "password";
@@ -124,7 +125,7 @@ fn opened<S: Suite>(
 /// The row's text is opened as its key.
 fn is_opened(alloc: Global, row: &SealedRow) -> Result<bool, Fail> {
     let mut suite = MemorySuite::new(alloc, &[])?;
-    let key = opened(alloc, &mut suite, row.text, PASS)?;
+    let key = ManuallyDrop::new(opened(alloc, &mut suite, row.text, PASS)?);
     Ok(
         key.cipher_name.as_str() == row.cipher
             && key.check == row.check
@@ -145,7 +146,7 @@ fn is_same_key(key: &SshPrivateKey, wanted: &SshPrivateKey) -> bool {
 
 fn sealed_text(alloc: Global) -> Result<Text, Fail> {
     let mut suite = MemorySuite::new(alloc, &[])?;
-    let key = sealed_key(alloc)?;
+    let key = ManuallyDrop::new(sealed_key(alloc)?);
     Ok(key.to_string(alloc, &mut suite)?)
 }
 
@@ -279,8 +280,13 @@ fn asks_a_suite_twice_and_no_more_once_it_failed(rt: HostRuntime) -> Result<(), 
 #[test]
 fn asks_no_suite_for_an_unsealed_key(rt: HostRuntime) -> Result<(), Fail> {
     let mut suite = PlainSuite::new();
-    let key = SshPrivateKey::from_pem_str(rt.alloc(), &mut suite, ZERO_KEY, None)?;
-    let text = key.to_string(rt.alloc(), &mut suite)?;
+    let key = ManuallyDrop::new(SshPrivateKey::from_pem_str(
+        rt.alloc(),
+        &mut suite,
+        ZERO_KEY,
+        None,
+    )?);
+    let text = ManuallyDrop::new(key.to_string(rt.alloc(), &mut suite)?);
     assert_eq!(rt; text.as_str(), ZERO_KEY);
     assert!(rt; suite == PlainSuite::new());
     Ok(())

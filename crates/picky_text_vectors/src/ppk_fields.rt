@@ -11,6 +11,7 @@ use picky_kv::{
 };
 use picky_wire::{Bytes, SizeError, Text};
 use std::alloc::{AllocError, AllocGlobal, Global};
+use std::mem::ManuallyDrop;
 use std::process::Abort;
 use std::test::Fail;
 
@@ -64,7 +65,7 @@ fn spells_literal<T: PpkField + PpkLiteral>(
     rt: &(impl Abort + AllocGlobal),
     literal: &str,
 ) -> Result<(), Fail> {
-    let value = T::read(rt.alloc(), literal)?;
+    let value = ManuallyDrop::new(T::read(rt.alloc(), literal)?);
     assert_eq!(rt; value.as_static_str(), literal);
     assert_eq!(rt; value.write(rt.alloc())?.as_str(), literal);
     Ok(())

@@ -12,6 +12,7 @@ use picky_target::ConvertError;
 use picky_wire::{Failed, IoKind, NoMemory, SizeError, Text, WireError};
 use std::alloc::{AllocError, AllocGlobal, Global};
 use std::fmt::Display;
+use std::mem::ManuallyDrop;
 use std::process::Abort;
 use std::test::Fail;
 
@@ -21,7 +22,7 @@ pub fn prints<E: Display>(
     rows: &[(E, &str)],
 ) -> Result<(), AllocError> {
     for (error, name) in rows {
-        let text = format!(in rt.alloc(); "{error}")?;
+        let text = ManuallyDrop::new(format!(in rt.alloc(); "{error}")?);
         assert_eq!(rt; text.as_str(), *name, "{name}");
     }
     Ok(())

@@ -3,6 +3,7 @@
 use crate::private_key_refusals::{Field, MAGIC, NONE, NOTHING, put, put_string, refusal};
 use picky_suite::MemorySuite;
 use std::alloc::Global;
+use std::mem::ManuallyDrop;
 use std::test::Fail;
 
 const SEVEN: Field = Field::Number(7);
@@ -138,7 +139,7 @@ fn block_refusal(alloc: Global, outer: &[Field], block: &[Field]) -> Result<Stri
 fn refuses_blocks_by_field(rt: HostRuntime) -> Result<(), Fail> {
     let outer = [ED, Field::Word(&[0; 32])];
     for (name, block, wanted) in &BLOCKS {
-        let why = block_refusal(rt.alloc(), &outer, *block)?;
+        let why = ManuallyDrop::new(block_refusal(rt.alloc(), &outer, *block)?);
         assert_eq!(rt; why.as_str(), *wanted, "{name}");
     }
     Ok(())
@@ -200,7 +201,7 @@ static PUBLIC_KEYS: [(&str, &[Field], &[Field], &str); 6] = [
 #[test]
 fn takes_a_public_key_in_another_spelling(rt: HostRuntime) -> Result<(), Fail> {
     for (name, outer, block, wanted) in &PUBLIC_KEYS {
-        let why = block_refusal(rt.alloc(), *outer, *block)?;
+        let why = ManuallyDrop::new(block_refusal(rt.alloc(), *outer, *block)?);
         assert_eq!(rt; why.as_str(), *wanted, "{name}");
     }
     Ok(())

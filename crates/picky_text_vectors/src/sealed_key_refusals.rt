@@ -3,6 +3,7 @@
 use crate::private_key_refusals::{Field, MAGIC, NOTHING, put, refusal};
 use picky_suite::MemorySuite;
 use std::alloc::Global;
+use std::mem::ManuallyDrop;
 use std::test::Fail;
 
 /// A sealed block, what its envelope says of it, a passphrase, and whether the suite fails.
@@ -178,7 +179,7 @@ fn sealed_refusal(alloc: Global, row: &SealedRow) -> Result<String, Fail> {
 #[test]
 fn refuses_to_open_in_order(rt: HostRuntime) -> Result<(), Fail> {
     for row in &SEALED_ROWS {
-        let why = sealed_refusal(rt.alloc(), row)?;
+        let why = ManuallyDrop::new(sealed_refusal(rt.alloc(), row)?);
         assert_eq!(rt; why.as_str(), row.wanted, "{}", row.name);
     }
     Ok(())

@@ -11,6 +11,7 @@ use picky_suite::{MemorySuite, PlainSuite};
 use picky_target::{ConvertError, KeyTarget, write_text};
 use picky_wire::Text;
 use std::alloc::Global;
+use std::mem::ManuallyDrop;
 use std::test::Fail;
 
 const PPK2: KeyTarget = KeyTarget::Ppk(PpkVersion::V2, CONFIG);
@@ -118,7 +119,12 @@ fn is_sealed_in_version_2(alloc: Global) -> Result<bool, Fail> {
 
 /// What is sealed opens under the passphrase as the same key and comment.
 fn comes_back(alloc: Global, target: KeyTarget, key: &str) -> Result<bool, Fail> {
-    let text = sealed(alloc, target, key, b"saltsaltsaltsalttwelve bytes or more")?;
+    let text = ManuallyDrop::new(sealed(
+        alloc,
+        target,
+        key,
+        b"saltsaltsaltsalttwelve bytes or more",
+    )?);
     let meaning = opened(alloc, text.as_str(), PASS)?;
     means(alloc, key, &meaning)
 }
