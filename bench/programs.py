@@ -20,14 +20,15 @@ def number(magnitude):
 
 
 def build(folder, source, uses, key):
-    """The program of this source, built over a copy of the crates that it uses and tried on a key."""
+    """The program of this source, built over a copy of the crates that it uses, with what ./install or another check left of
+    their proofs, and tried on a key."""
     lines = dict(line.split(":") for line in (ROOT / "crates.txt").read_text().splitlines()
                  if not line.startswith("#"))
     crates, copied, to_copy = folder / "crates", "", list(uses)
     while to_copy:
         name = to_copy.pop()
         if name in lines and not (crates / name).exists():
-            shutil.copytree(ROOT / "crates" / name, crates / name, ignore=shutil.ignore_patterns("out", "must-fail"))
+            shutil.copytree(ROOT / "crates" / name, crates / name, ignore=shutil.ignore_patterns("incremental", "must-fail"))
             copied += f"{name}:{lines[name]}\n"
             to_copy += lines[name].split()
     (folder / "crates.txt").write_text(f"{copied}bench_program: {' '.join(uses)}\n")

@@ -10,13 +10,15 @@ use std::process::ExitCode;
 use std::{env, io};
 
 const HELP: &str = "usage: keyconv COMMAND [OPTION VALUE]... < KEY
+       keyconv sample N
 
 Reads a key from standard input: an OpenSSH private key, a PuTTY private key file of version 2 or 3, a PuTTY public key, a
 public key line or a certificate; of RSA, ECDSA, Ed25519 and the two kinds whose secret a device keeps. Writes to standard
 output, by the command:
 
   openssh      the private key and the comment as an OpenSSH private key
-  ppk2, ppk3   the same as a PuTTY private key file of version 2 or 3; PuTTY has no keys whose secret a device keeps
+  ppk2, ppk3   the same as a PuTTY private key file of version 2 or 3; PuTTY has no keys whose secret a device keeps, and
+               takes some files of Ed25519 keys as other secrets: see the manual page first
   ssh-pub      the public key and the comment as a public key line, in its one spelling
   putty-pub    the same as a PuTTY public key
   fingerprint  the MD5, SHA-1 and SHA-256 fingerprints of the public key, a line each
@@ -37,21 +39,22 @@ any order, each followed by its value, of which the first four are needed:
   --serial NUMBER    the serial number; 0 where none is given
   --id TEXT          the name by which the issuer logs it
   --principal NAME   a user or host name that it is for, once for each; where none is given, it is for all
-  --critical NAME    or NAME=TEXT: a critical option, once for each
-  --extension NAME   or NAME=TEXT: an extension, once for each; a user's certificate without any gets the five permits
+  --critical NAME    or NAME=TEXT: a critical option, once for each; a host's certificate has none
+  --extension NAME   or NAME=TEXT: an extension, once for each; a user's certificate without any gets the five permits, and
+                     a host's has none
   --algorithm NAME   how the issuer signs, where its key isn't of the kind that the type is for: rsa-sha1, rsa-sha2-256,
                      rsa-sha2-512, ecdsa-sha2-256, ecdsa-sha2-384, ecdsa-sha2-512 or ed25519
 
 Environment: KEYCONV_PASS_IN, the passphrase of sealed keys that are read; KEYCONV_PASS_OUT, under which a private key is sealed;
 KEYCONV_FRESH, the fresh bytes that sealing takes, or the 32 of a certificate's nonce, in hex; KEYCONV_SIGNATURE, the
-signature of the bytes that tbs printed in hex for the same options, input and fresh bytes, in hex. One that is set counts
-where it is empty, too.
+signature of the bytes that tbs printed in hex for the same options, input and fresh bytes, in hex and without the name of
+its format. One that is set counts where it is empty, too.
 
 This program has no ciphers and signs nothing itself: a key that it would open or seal, and a certificate for which there is no
 signature, end with status 5. Take a passphrase off before with ssh-keygen -p or puttygen, and set it after with the same.
 
 Status: 0 done, 1 refused, 2 usage, 3 read fault, 4 write fault, 5 outside fault, 6 out of memory, 7 input over 16 MiB,
-8 input not UTF-8. A line on standard error says which.
+8 input not UTF-8. With each but 0 a line on standard error says which.
 ";
 
 const VERSION: &str = "keyconv 0.1.0\n";
