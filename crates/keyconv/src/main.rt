@@ -19,7 +19,7 @@ output, by the command:
   openssh      the private key and the comment as an OpenSSH private key
   ppk2, ppk3   the same as a PuTTY private key file of version 2 or 3; PuTTY has no keys whose secret a device keeps, and
                takes some files of Ed25519 keys as other secrets: see the manual page first
-  ssh-pub      the public key and the comment as a public key line, in its one spelling
+  ssh-pub      the public key and the comment as a public key line
   putty-pub    the same as a PuTTY public key
   fingerprint  the MD5, SHA-1 and SHA-256 fingerprints of the public key, a line each
   cert         a certificate of the public key and the comment, with a signature that another device made
@@ -51,7 +51,10 @@ signature of the bytes that tbs printed in hex for the same options, input and f
 its format. One that is set counts where it is empty, too.
 
 This program has no ciphers and signs nothing itself: a key that it would open or seal, and a certificate for which there is no
-signature, end with status 5. Take a passphrase off before with ssh-keygen -p or puttygen, and set it after with the same.
+signature, end with status 5. Take a passphrase off a copy before with ssh-keygen -p or puttygen, and set it after with the
+same.
+
+Lines of ppk2, ssh-pub, putty-pub and cert end in CR LF, all others in LF.
 
 Status: 0 done, 1 refused, 2 usage, 3 read fault, 4 write fault, 5 outside fault, 6 out of memory, 7 input over 16 MiB,
 8 input not UTF-8. With each but 0 a line on standard error says which.
