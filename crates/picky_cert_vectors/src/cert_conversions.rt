@@ -2,31 +2,27 @@
 
 use crate::certs::{CertRow, ROW_COUNT, cert_row};
 use crate::zero_cert::ZERO_LINE;
-use picky_conversion::{Target, convert};
+use picky_conversion::{Given, convert_key};
 use picky_ppk::{PpkEncryptionConfig, PpkVersion};
-use picky_suite::{HandedSigner, PlainSuite};
-use picky_target::ConvertError;
+use picky_suite::PlainSuite;
+use picky_target::{ConvertError, KeyTarget};
 use picky_wire::Text;
 use std::alloc::Global;
 use std::test::Fail;
 
-/// The conversion without passphrases and fresh bytes, for which no device signs.
-pub fn converted(alloc: Global, line: &str, target: &Target) -> Result<Text, ConvertError> {
-    convert(
-        alloc,
-        &mut PlainSuite::new(),
-        &mut HandedSigner::new(None),
-        line,
-        None,
-        target,
-        None,
-        &[],
-    )
+/// The conversion without passphrases and fresh bytes.
+pub fn converted(alloc: Global, line: &str, target: KeyTarget) -> Result<Text, ConvertError> {
+    let given = Given {
+        pass_in: None,
+        pass_out: None,
+        fresh: &[],
+    };
+    convert_key(alloc, &mut PlainSuite::new(), line, target, given)
 }
 
 /// The second line is the public key's for the first.
 fn is_public(alloc: Global, line: &str, public: &str) -> bool {
-    match converted(alloc, line, &Target::OpenSshPublic) {
+    match converted(alloc, line, KeyTarget::OpenSshPublic) {
         Ok(text) => text.as_str() == public,
         Err(_) => false,
     }
@@ -55,23 +51,23 @@ fn writes_the_subjects_public_key(rt: HostRuntime) {
 #[test]
 fn writes_the_same_as_for_the_public_key(rt: HostRuntime) -> Result<(), Fail> {
     assert!(rt; is_public(rt.alloc(), ZERO_LINE, PUBLIC_LINE));
-    let text = converted(rt.alloc(), ZERO_LINE, &Target::PuttyPublic)?;
-    assert!(rt; text == converted(rt.alloc(), PUBLIC_LINE, &Target::PuttyPublic)?);
+    let text = converted(rt.alloc(), ZERO_LINE, KeyTarget::PuttyPublic)?;
+    assert!(rt; text == converted(rt.alloc(), PUBLIC_LINE, KeyTarget::PuttyPublic)?);
     Ok(())
 }
 
 /// The target keeps a secret, which the zero certificate has none of.
-fn is_private(alloc: Global, target: &Target) -> bool {
+fn is_private(alloc: Global, target: KeyTarget) -> bool {
     match converted(alloc, ZERO_LINE, target) {
-        Err(e) => e == ConvertError::NoPrivateKey,
-        Ok(_) => false,
+        Err(ConvertError::NoPrivateKey) => true,
+        Err(_) | Ok(_) => false,
     }
 }
 
 #[test]
 fn makes_no_private_file_of_a_certificate(rt: HostRuntime) {
     let config = PpkEncryptionConfig::default();
-    assert!(rt; is_private(rt.alloc(), &Target::OpenSsh));
-    assert!(rt; is_private(rt.alloc(), &Target::Ppk(PpkVersion::V2, config)));
-    assert!(rt; is_private(rt.alloc(), &Target::Ppk(PpkVersion::V3, config)));
+    assert!(rt; is_private(rt.alloc(), KeyTarget::OpenSsh));
+    assert!(rt; is_private(rt.alloc(), KeyTarget::Ppk(PpkVersion::V2, config)));
+    assert!(rt; is_private(rt.alloc(), KeyTarget::Ppk(PpkVersion::V3, config)));
 }

@@ -4,10 +4,9 @@ use crate::cert_conversions::converted;
 use crate::cert_fault_rows::CertFault;
 use crate::cert_refusals::{is_fault, is_refused, is_unread};
 use picky_cert::CertPart;
-use picky_conversion::Target;
 use picky_key_text::ReadError;
 use picky_sshpub::SshPublicKeyError;
-use picky_target::ConvertError;
+use picky_target::{ConvertError, KeyTarget};
 use std::alloc::Global;
 use std::test::Fail;
 
@@ -224,11 +223,19 @@ static FIRST_WORDS: [(&str, &str); 4] = [
     ),
 ];
 
-/// The conversion refuses the line as that of a public key of no type.
+/// It is the refusal of a public key's line for its type.
+fn names_no_type(e: &ConvertError) -> bool {
+    match e {
+        ConvertError::Input(ReadError::Public(e)) => *e == SshPublicKeyError::UnknownKeyType,
+        _ => false,
+    }
+}
+
+/// So the conversion refuses the line.
 fn is_of_no_type(alloc: Global, line: &str) -> bool {
-    match converted(alloc, line, &Target::OpenSshPublic) {
-        Err(ConvertError::Input(ReadError::Public(e))) => e == SshPublicKeyError::UnknownKeyType,
-        Err(_) | Ok(_) => false,
+    match converted(alloc, line, KeyTarget::OpenSshPublic) {
+        Err(e) => names_no_type(&e),
+        Ok(_) => false,
     }
 }
 

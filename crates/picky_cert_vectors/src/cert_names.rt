@@ -6,6 +6,7 @@ use picky_cert::{CertView, SshCertificate};
 use picky_cert_parts::{SshCertType, SshExtension, SshExtensionType};
 use picky_wire::{Bytes, List, Text};
 use std::alloc::Global;
+use std::mem::ManuallyDrop;
 use std::test::Fail;
 
 // As ZERO_LINE, with s(b"picky") and s(s(b"first.example.com") + s(b"second.example.com")).
@@ -71,13 +72,13 @@ fn reads(alloc: Global, line: &str, cert: &SshCertificate) -> bool {
 
 /// The zero certificate under names and this comment is printed as the line.
 fn is_printed(alloc: Global, comment: &str, line: &str) -> Result<bool, Fail> {
-    let cert = named(alloc, comment)?;
+    let cert = ManuallyDrop::new(named(alloc, comment)?);
     Ok(prints(alloc, &cert, line))
 }
 
 /// It is read from the line.
 fn is_named(alloc: Global, comment: &str, line: &str) -> Result<bool, Fail> {
-    let cert = named(alloc, comment)?;
+    let cert = ManuallyDrop::new(named(alloc, comment)?);
     Ok(reads(alloc, line, &cert))
 }
 
@@ -141,7 +142,7 @@ fn permitted(alloc: Global) -> Result<SshCertificate, Fail> {
 }
 
 fn is_permitted(alloc: Global, line: &str) -> Result<bool, Fail> {
-    let cert = permitted(alloc)?;
+    let cert = ManuallyDrop::new(permitted(alloc)?);
     Ok(prints(alloc, &cert, line) && reads(alloc, line, &cert))
 }
 

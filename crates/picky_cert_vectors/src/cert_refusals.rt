@@ -5,9 +5,8 @@ use crate::cert_fault_rows::{CertFault, FAULTS};
 use crate::cert_fields::blob_of;
 use crate::zero_cert::ZERO_LINE;
 use picky_cert::{CertPart, CertView, SshCertificate};
-use picky_conversion::Target;
 use picky_key_text::ReadError;
-use picky_target::ConvertError;
+use picky_target::{ConvertError, KeyTarget};
 use picky_wire::Bytes;
 use std::alloc::Global;
 use std::mem::ManuallyDrop;
@@ -23,17 +22,25 @@ fn refusal(alloc: Global, line: &str) -> Result<String, Fail> {
 
 /// The call refuses the line so.
 pub fn is_refused(alloc: Global, line: &str, why: &str) -> Result<bool, Fail> {
-    let printed = refusal(alloc, line)?;
+    let printed = ManuallyDrop::new(refusal(alloc, line)?);
     Ok(printed.as_str() == why)
+}
+
+/// It is a certificate's refusal, which is printed so.
+fn is_said(alloc: Global, e: &ConvertError, why: &str) -> Result<bool, Fail> {
+    match e {
+        ConvertError::Input(ReadError::Certificate(e)) => {
+            Ok(format!(in alloc; "{e:?}")?.as_str() == why)
+        }
+        _ => Ok(false),
+    }
 }
 
 /// And so does the conversion.
 pub fn is_unread(alloc: Global, line: &str, why: &str) -> Result<bool, Fail> {
-    match converted(alloc, line, &Target::OpenSshPublic) {
-        Err(ConvertError::Input(ReadError::Certificate(e))) => {
-            Ok(format!(in alloc; "{e:?}")?.as_str() == why)
-        }
-        Err(_) | Ok(_) => Ok(false),
+    match converted(alloc, line, KeyTarget::OpenSshPublic) {
+        Err(e) => is_said(alloc, &e, why),
+        Ok(_) => Ok(false),
     }
 }
 
@@ -49,8 +56,8 @@ fn line_of(alloc: Global, row: &CertFault) -> Result<String, Fail> {
 
 /// Each call refuses the row's bytes so.
 pub fn is_fault(alloc: Global, row: &CertFault) -> Result<bool, Fail> {
-    let line = ManuallyDrop::new(line_of(alloc, row)?);
-    let blob = ManuallyDrop::new(blob_of(alloc, line.as_str())?);
+    let line = line_of(alloc, row)?;
+    let blob = blob_of(alloc, line.as_str())?;
     let is_so = is_refused(alloc, line.as_str(), row.why)?
         && is_unread(alloc, line.as_str(), row.why)?;
     Ok(is_so && is_stuck(&blob, row.part))

@@ -192,7 +192,7 @@ fn keeps_what_is_asked_for_until_it_is_signed(rt: HostRuntime) -> Result<(), Fai
 /// The first so many bytes of the zero certificate are those to be signed.
 fn is_unsigned(alloc: Global) -> Result<bool, Fail> {
     let blob = ManuallyDrop::new(blob_of(alloc, ZERO_LINE)?);
-    let builder = asks_for_zero(alloc)?;
+    let builder = ManuallyDrop::new(asks_for_zero(alloc)?);
     match builder.unsigned(alloc, &[0; 32]) {
         Ok(bytes) => Ok(Some(bytes.as_slice()) == blob.as_slice().get(..211)),
         Err(e) => Err(Fail::from(e)),
@@ -212,7 +212,7 @@ fn prints_names(
 ) -> Result<bool, AllocError> {
     let mut is_so = true;
     for (error, name) in rows {
-        let text = format!(in alloc; "{error}")?;
+        let text = ManuallyDrop::new(format!(in alloc; "{error}")?);
         is_so = is_so && text.as_str() == *name;
     }
     Ok(is_so)

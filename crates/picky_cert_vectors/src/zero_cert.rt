@@ -72,7 +72,7 @@ fn stands(view: &CertView<'_>, blob: &[u8]) -> bool {
 }
 
 fn is_seen(alloc: Global) -> Result<bool, Fail> {
-    let blob = blob_of(alloc, ZERO_LINE)?;
+    let blob = ManuallyDrop::new(blob_of(alloc, ZERO_LINE)?);
     match CertView::read(blob.as_slice()) {
         Ok((view, len)) => Ok(len == 298 && stands(&view, blob.as_slice())),
         Err(_) => Ok(false),

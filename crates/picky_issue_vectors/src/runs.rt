@@ -4,6 +4,7 @@ use picky_convert::{Status, run};
 use picky_suite::{HandedSigner, PlainSuite, Signer};
 use picky_wire::{Bytes, List, MemorySink, NoMemory, SliceSource, Text};
 use std::alloc::Global;
+use std::mem::ManuallyDrop;
 
 /// What a run is given beside its command and its device.
 #[derive(Clone, Copy)]
@@ -66,7 +67,7 @@ pub fn run_by<G: Signer>(
     asked: &Asked<'_>,
     signer: &mut G,
 ) -> Result<Ran, NoMemory> {
-    let texts = texts_of(alloc, command, asked)?;
+    let texts = ManuallyDrop::new(texts_of(alloc, command, asked)?);
     let mut out = MemorySink::new(alloc, 9999, 64, &[])?;
     let mut err = MemorySink::new(alloc, 999, 64, &[])?;
     let mut source = SliceSource::new(asked.source.as_bytes());

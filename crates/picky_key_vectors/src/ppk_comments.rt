@@ -17,18 +17,24 @@ const OTHER_MAC_V3: &str = "ec32bd0c93548590a2d4e01e5b718226f3b6d4bee2d8821b7e30
 
 /// The file with the comment `another` is written as the text.
 fn is_commented(alloc: Global, ppk: &Ppk, text: &str) -> Result<bool, Fail> {
-    let commented = ppk.with_comment(alloc, &PlainSuite::new(), "another")?;
+    let commented = ManuallyDrop::new(ppk.with_comment(alloc, &PlainSuite::new(), "another")?);
     is_written(alloc, &commented, text)
 }
 
 fn is_commented_in(alloc: Global, version: PpkVersion, text: &str) -> Result<bool, Fail> {
-    let ppk = p256_ppk(alloc, version)?;
+    let ppk = ManuallyDrop::new(p256_ppk(alloc, version)?);
     is_commented(alloc, &ppk, text)
 }
 
 fn is_commented_as_by_puttygen(alloc: Global, version: PpkVersion) -> Result<bool, Fail> {
     let body = ManuallyDrop::new(P256_BODY.replace(alloc, "a comment", "another")?);
-    let text = text_with_macs(alloc, body.as_str(), version, OTHER_MAC_V2, OTHER_MAC_V3)?;
+    let text = ManuallyDrop::new(text_with_macs(
+        alloc,
+        body.as_str(),
+        version,
+        OTHER_MAC_V2,
+        OTHER_MAC_V3,
+    )?);
     is_commented_in(alloc, version, text.as_str())
 }
 
@@ -44,7 +50,7 @@ fn changes_the_comment_as_puttygen_does(rt: HostRuntime) -> Result<(), Fail> {
 }
 
 fn is_public(alloc: Global, ppk: &Ppk) -> Result<bool, PuttyError> {
-    let public = ppk.extract_putty_public_key(alloc)?;
+    let public = ManuallyDrop::new(ppk.extract_putty_public_key(alloc)?);
     is_public_written(alloc, &public, PUBLIC)
 }
 
@@ -60,29 +66,29 @@ fn takes_the_public_key_out_as_puttygen_does(rt: HostRuntime) -> Result<(), Fail
 }
 
 fn has_cr(alloc: Global) -> Result<bool, Fail> {
-    let ppk = ppk_of(alloc, ENDS_IN_CR)?;
+    let ppk = ManuallyDrop::new(ppk_of(alloc, ENDS_IN_CR)?);
     Ok(ppk.comment() == "x\r")
 }
 
 fn is_kept(alloc: Global) -> Result<bool, Fail> {
-    let ppk = ppk_of(alloc, ENDS_IN_CR)?;
+    let ppk = ManuallyDrop::new(ppk_of(alloc, ENDS_IN_CR)?);
     is_written(alloc, &ppk, ENDS_IN_CR)
 }
 
 /// The text of its version 3.
 fn v3_text(alloc: Global, ppk: &Ppk) -> Result<Text, PuttyError> {
-    let changed = ppk.to_version(alloc, &PlainSuite::new(), PpkVersion::V3)?;
+    let changed = ManuallyDrop::new(ppk.to_version(alloc, &PlainSuite::new(), PpkVersion::V3)?);
     changed.to_string(alloc)
 }
 
 /// The comment of version 3 is read without its CR, and the MAC tells it.
 fn is_told_in_version_3(alloc: Global) -> Result<bool, Fail> {
-    let ppk = ppk_of(alloc, ENDS_IN_CR)?;
+    let ppk = ManuallyDrop::new(ppk_of(alloc, ENDS_IN_CR)?);
     is_refused_in_version_3(alloc, &ppk)
 }
 
 fn is_refused_in_version_3(alloc: Global, ppk: &Ppk) -> Result<bool, Fail> {
-    let text = v3_text(alloc, ppk)?;
+    let text = ManuallyDrop::new(v3_text(alloc, ppk)?);
     Ok(ppk_of(alloc, text.as_str()).err() == Some(PuttyError::MacValidation))
 }
 

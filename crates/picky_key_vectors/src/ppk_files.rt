@@ -28,7 +28,8 @@ pub fn is_written(alloc: Global, ppk: &Ppk, text: &str) -> Result<bool, Fail> {
 
 /// The text says the file.
 pub fn says(alloc: Global, text: &str, ppk: &Ppk) -> Result<bool, Fail> {
-    Ok(ppk_of(alloc, text)? == *ppk)
+    let made = ManuallyDrop::new(ppk_of(alloc, text)?);
+    Ok(*made == *ppk)
 }
 
 /// The file of the row.
@@ -44,7 +45,7 @@ pub fn p256_ppk(alloc: Global, version: PpkVersion) -> Result<Ppk, Fail> {
 
 /// The text is written for what it says, and says it with LF too.
 pub fn is_kept(alloc: Global, text: &str) -> Result<bool, Fail> {
-    let ppk = ppk_of(alloc, text)?;
+    let ppk = ManuallyDrop::new(ppk_of(alloc, text)?);
     is_spelled(alloc, text, &ppk)
 }
 
@@ -53,12 +54,12 @@ fn is_spelled(alloc: Global, text: &str, ppk: &Ppk) -> Result<bool, Fail> {
 }
 
 fn says_with_lf(alloc: Global, text: &str, ppk: &Ppk) -> Result<bool, Fail> {
-    let with_lf = text.replace(alloc, "\r\n", "\n")?;
+    let with_lf = ManuallyDrop::new(text.replace(alloc, "\r\n", "\n")?);
     says(alloc, with_lf.as_str(), ppk)
 }
 
 fn is_row_kept(alloc: Global, row: &PpkRow, version: PpkVersion) -> Result<bool, Fail> {
-    let text = text_of(alloc, row, version)?;
+    let text = ManuallyDrop::new(text_of(alloc, row, version)?);
     is_kept(alloc, text.as_str())
 }
 
@@ -83,7 +84,7 @@ pub fn is_written_in(
     version: PpkVersion,
     text: &str,
 ) -> Result<bool, Fail> {
-    let changed = ppk.to_version(alloc, &PlainSuite::new(), version)?;
+    let changed = ManuallyDrop::new(ppk.to_version(alloc, &PlainSuite::new(), version)?);
     is_written(alloc, &changed, text)
 }
 
@@ -101,12 +102,12 @@ pub fn is_made_in(
 }
 
 fn is_made(alloc: Global, key: &SshPrivateKey, text: &str) -> Result<bool, Fail> {
-    let ppk = made_of(alloc, key)?;
+    let ppk = ManuallyDrop::new(made_of(alloc, key)?);
     is_written(alloc, &ppk, text)
 }
 
 fn is_made_and_changed(alloc: Global, key: &SshPrivateKey, text: &str) -> Result<bool, Fail> {
-    let ppk = made_of(alloc, key)?;
+    let ppk = ManuallyDrop::new(made_of(alloc, key)?);
     is_written_in(alloc, &ppk, PpkVersion::V2, text)
 }
 
@@ -116,7 +117,7 @@ fn is_row_made(
     version: PpkVersion,
     key_row: &PrivateRow,
 ) -> Result<bool, Fail> {
-    let text = text_of(alloc, row, version)?;
+    let text = ManuallyDrop::new(text_of(alloc, row, version)?);
     is_text_made(alloc, key_row, version, text.as_str())
 }
 
@@ -126,7 +127,7 @@ fn is_text_made(
     version: PpkVersion,
     text: &str,
 ) -> Result<bool, Fail> {
-    let key = unsealed(alloc, key_row.text)?;
+    let key = ManuallyDrop::new(unsealed(alloc, key_row.text)?);
     is_made_either_way(alloc, &key, version, text)
 }
 
@@ -169,7 +170,7 @@ fn makes_the_files_that_puttygen_makes(rt: HostRuntime) -> Result<(), Fail> {
 
 /// The text's file gives OpenSSH's key and its comment.
 pub fn gives_back(alloc: Global, text: &str, key: &SshPrivateKey) -> Result<bool, Fail> {
-    let ppk = ppk_of(alloc, text)?;
+    let ppk = ManuallyDrop::new(ppk_of(alloc, text)?);
     has_key(alloc, &ppk, key)
 }
 
@@ -182,7 +183,7 @@ fn is_base(alloc: Global, ppk: &Ppk, key: &SshPrivateKey) -> Result<bool, PuttyE
 }
 
 fn is_given(alloc: Global, ppk: &Ppk, key: &SshPrivateKey) -> Result<bool, Fail> {
-    let given = ppk.to_openssh_private_key(alloc, None, &[0; 16])?;
+    let given = ManuallyDrop::new(ppk.to_openssh_private_key(alloc, None, &[0; 16])?);
     Ok(is_same_key(&given, key))
 }
 
@@ -199,6 +200,7 @@ fn is_inner(alloc: Global, ppk: &Ppk, key: &SshPrivateKey) -> Result<bool, Fail>
     is_of_key(alloc, inner, key)
 }
 
+/// The inner key is that of OpenSSH's key.
 pub fn is_of_key(alloc: Global, inner: PrivateKey, key: &SshPrivateKey) -> Result<bool, Fail> {
     Ok(SshPrivateKey::from_private_key(alloc, inner)?.base_key == key.base_key)
 }
@@ -209,12 +211,12 @@ fn is_row_given(
     version: PpkVersion,
     key_row: &PrivateRow,
 ) -> Result<bool, Fail> {
-    let text = text_of(alloc, row, version)?;
+    let text = ManuallyDrop::new(text_of(alloc, row, version)?);
     is_key_given(alloc, text.as_str(), key_row)
 }
 
 fn is_key_given(alloc: Global, text: &str, key_row: &PrivateRow) -> Result<bool, Fail> {
-    let key = unsealed(alloc, key_row.text)?;
+    let key = ManuallyDrop::new(unsealed(alloc, key_row.text)?);
     gives_back(alloc, text, &key)
 }
 
@@ -245,7 +247,7 @@ fn is_sealed_by_file(alloc: Global, key: &SshPrivateKey) -> Result<bool, Fail> {
 }
 
 fn is_zero_key_sealed(alloc: Global) -> Result<bool, Fail> {
-    let key = zero_key(alloc, None)?;
+    let key = ManuallyDrop::new(zero_key(alloc, None)?);
     is_sealed_by_file(alloc, &key)
 }
 

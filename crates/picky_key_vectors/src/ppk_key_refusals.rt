@@ -172,7 +172,7 @@ fn openssh_refusal(alloc: Global, ppk: &Ppk) -> Result<String, Fail> {
 
 /// Both are as the row says.
 fn is_refused(alloc: Global, row: &KeyRow) -> Result<bool, Fail> {
-    let ppk = row_ppk(alloc, row)?;
+    let ppk = ManuallyDrop::new(row_ppk(alloc, row)?);
     is_refused_for(alloc, &ppk, row.wanted)
 }
 
@@ -193,13 +193,13 @@ fn refuses_keys_in_order(rt: HostRuntime) -> Result<(), Fail> {
 
 /// Why no file is made of the OpenSSH key.
 fn made_refusal(alloc: Global, text: &str) -> Result<String, Fail> {
-    let key = unsealed(alloc, text)?;
+    let key = ManuallyDrop::new(unsealed(alloc, text)?);
     named(alloc, made_of(alloc, &key))
 }
 
 /// Why no public key is given, of the row whose blob is that of a device's key.
 fn public_refusal(alloc: Global) -> Result<String, Fail> {
-    let ppk = row_ppk(alloc, &KEY_ROWS[6])?;
+    let ppk = ManuallyDrop::new(row_ppk(alloc, &KEY_ROWS[6])?);
     public_refusal_of(alloc, &ppk)
 }
 

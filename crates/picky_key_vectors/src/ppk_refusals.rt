@@ -158,7 +158,7 @@ fn spelled(alloc: Global, short: &str) -> Result<String, Fail> {
 
 /// Why the text isn't read.
 fn text_refusal(alloc: Global, short: &str) -> Result<String, Fail> {
-    let text = spelled(alloc, short)?;
+    let text = ManuallyDrop::new(spelled(alloc, short)?);
     named(alloc, ppk_of(alloc, text.as_str()))
 }
 
@@ -186,7 +186,7 @@ static SPELLINGS: [(&str, &str, &str); 5] = [
 
 /// The text is read as the file of `ZERO_TEXT`.
 fn is_zero(alloc: Global, text: &str) -> Result<bool, Fail> {
-    let ppk = ppk_of(alloc, ZERO_TEXT)?;
+    let ppk = ManuallyDrop::new(ppk_of(alloc, ZERO_TEXT)?);
     says(alloc, text, &ppk)
 }
 

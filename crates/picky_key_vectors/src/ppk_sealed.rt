@@ -23,7 +23,7 @@ pub const PADDING: &[u8] = b"twelve bytes or more";
 
 /// The text with CR LF, as version 2 has it.
 fn is_kept_with_crlf(alloc: Global, text: &str) -> Result<bool, Fail> {
-    let with_crlf = text.replace(alloc, "\n", "\r\n")?;
+    let with_crlf = ManuallyDrop::new(text.replace(alloc, "\n", "\r\n")?);
     is_kept(alloc, with_crlf.as_str())
 }
 
@@ -46,7 +46,7 @@ fn is_sealed_row(ppk: &Ppk, version: PpkVersion) -> bool {
 
 /// Its public key is shown.
 fn shows_public(alloc: Global, ppk: &Ppk) -> Result<bool, Fail> {
-    let open = p256_ppk(alloc, PpkVersion::V3)?;
+    let open = ManuallyDrop::new(p256_ppk(alloc, PpkVersion::V3)?);
     is_same_public(alloc, ppk, &open)
 }
 
@@ -81,7 +81,7 @@ fn is_shown(alloc: Global, text: &str, version: PpkVersion) -> Result<bool, Fail
 }
 
 fn shows_params(alloc: Global) -> Result<bool, Fail> {
-    let ppk = ppk_of(alloc, SEALED_V3)?;
+    let ppk = ManuallyDrop::new(ppk_of(alloc, SEALED_V3)?);
     has_params(alloc, &ppk)
 }
 
@@ -108,7 +108,7 @@ fn opens_to(alloc: Global, sealed: &Ppk, ppk: &Ppk) -> Result<bool, Fail> {
 
 /// The file is sealed as the text, and opened again.
 fn is_sealed_as(alloc: Global, ppk: &Ppk, text: &str) -> Result<bool, Fail> {
-    let sealed = sealed_of(alloc, ppk)?;
+    let sealed = ManuallyDrop::new(sealed_of(alloc, ppk)?);
     is_written_and_opens(alloc, &sealed, ppk, text)
 }
 
@@ -126,7 +126,7 @@ fn is_drafted(alloc: Global, sealed: &Ppk, ppk: &Ppk) -> Result<bool, Fail> {
     if ppk.file().private_bytes.as_slice().len() > 1000 {
         return Ok(false);
     }
-    let draft = file_draft(alloc, ppk.file(), CONFIG, SALT, padding)?;
+    let draft = ManuallyDrop::new(file_draft(alloc, ppk.file(), CONFIG, SALT, padding)?);
     Ok(is_draft(&draft, sealed.file(), ppk.file()))
 }
 
@@ -142,17 +142,17 @@ fn is_draft(draft: &PpkFile, sealed: &PpkFile, open: &PpkFile) -> bool {
 }
 
 fn seals_version_3(alloc: Global) -> Result<bool, Fail> {
-    let ppk = p256_ppk(alloc, PpkVersion::V3)?;
+    let ppk = ManuallyDrop::new(p256_ppk(alloc, PpkVersion::V3)?);
     is_sealed_as(alloc, &ppk, TOY_V3)
 }
 
 fn seals_version_2(alloc: Global) -> Result<bool, Fail> {
-    let text = TOY_V2.replace(alloc, "\n", "\r\n")?;
+    let text = ManuallyDrop::new(TOY_V2.replace(alloc, "\n", "\r\n")?);
     seals_as(alloc, text.as_str())
 }
 
 fn seals_as(alloc: Global, text: &str) -> Result<bool, Fail> {
-    let ppk = p256_ppk(alloc, PpkVersion::V2)?;
+    let ppk = ManuallyDrop::new(p256_ppk(alloc, PpkVersion::V2)?);
     is_sealed_as(alloc, &ppk, text)
 }
 
@@ -164,12 +164,12 @@ fn seals_and_opens_as_python_does(rt: HostRuntime) -> Result<(), Fail> {
 }
 
 fn comes_back(alloc: Global, row: &PpkRow, version: PpkVersion) -> Result<bool, Fail> {
-    let ppk = row_ppk(alloc, row, version)?;
+    let ppk = ManuallyDrop::new(row_ppk(alloc, row, version)?);
     is_opened_again(alloc, &ppk)
 }
 
 fn is_opened_again(alloc: Global, ppk: &Ppk) -> Result<bool, Fail> {
-    let sealed = sealed_of(alloc, ppk)?;
+    let sealed = ManuallyDrop::new(sealed_of(alloc, ppk)?);
     opens_to(alloc, &sealed, ppk)
 }
 
@@ -225,7 +225,7 @@ fn draws_in(
     salt: &[u8; 16],
     bytes: &[u8; 16],
 ) -> Result<bool, Fail> {
-    let ppk = p256_ppk(alloc, version)?;
+    let ppk = ManuallyDrop::new(p256_ppk(alloc, version)?);
     draws(alloc, &ppk, salt, bytes)
 }
 
@@ -244,7 +244,7 @@ fn fills_blocks(alloc: Global) -> Result<bool, SizeError> {
     let mut rng = Pcg32::new(42, 54);
     let first = ManuallyDrop::new(filled(alloc, b"four", &mut rng)?);
     let whole = ManuallyDrop::new(filled(alloc, SALT, &mut rng)?);
-    let next = filled(alloc, b"twelve bytes", &mut rng)?;
+    let next = ManuallyDrop::new(filled(alloc, b"twelve bytes", &mut rng)?);
     Ok(
         first.as_slice() == FILLED.as_slice()
             && whole.as_slice() == SALT

@@ -53,7 +53,7 @@ fn resealed_by_rng(alloc: Global, suite: &mut PlainSuite, ppk: &Ppk) -> Result<P
 
 /// So it is with the text's file.
 fn keeps(alloc: Global, text: &str) -> Result<bool, Fail> {
-    let ppk = ppk_of(alloc, text)?;
+    let ppk = ManuallyDrop::new(ppk_of(alloc, text)?);
     Ok(is_closed(alloc, &ppk) && is_unchanged(alloc, &ppk) && is_unsealable(alloc, &ppk))
 }
 
@@ -170,7 +170,7 @@ fn plain_refusal(alloc: Global, ppk: &Ppk) -> Result<String, Fail> {
 }
 
 fn sealed_refusal(alloc: Global, row: &SealedRow) -> Result<String, Fail> {
-    let ppk = row_sealed(alloc, row)?;
+    let ppk = ManuallyDrop::new(row_sealed(alloc, row)?);
     if row.is_plain {
         plain_refusal(alloc, &ppk)
     } else {
@@ -189,7 +189,7 @@ fn refuses_to_open_in_order(rt: HostRuntime) -> Result<(), Fail> {
 
 /// The text's file isn't opened under another passphrase, nor by a suite that fails.
 fn is_held(alloc: Global, text: &str) -> Result<bool, Fail> {
-    let ppk = ppk_of(alloc, text)?;
+    let ppk = ManuallyDrop::new(ppk_of(alloc, text)?);
     stays_sealed(alloc, &ppk)
 }
 
@@ -234,7 +234,7 @@ fn is_faulty(alloc: Global, ppk: &Ppk) -> bool {
 }
 
 fn stays_open(alloc: Global) -> Result<bool, Fail> {
-    let ppk = p256_ppk(alloc, PpkVersion::V3)?;
+    let ppk = ManuallyDrop::new(p256_ppk(alloc, PpkVersion::V3)?);
     Ok(is_open(alloc, &ppk) && is_unsealed(alloc, &ppk) && is_faulty(alloc, &ppk))
 }
 

@@ -6,6 +6,7 @@ use picky_key_rows::{HIGH, LOW, SECRET_ROWS, SecretRow, ZERO_TEXT, ZEROS, secret
 use picky_ppk::{PpkVersion, PuttyError};
 use picky_sshkey::{SshBasePrivateKey, SshPrivateKey};
 use std::alloc::Global;
+use std::mem::ManuallyDrop;
 use std::test::Fail;
 
 // row(s(bytes(32))), row(s(b"\x80" + bytes(31))), row(s(b"\0" + b"\1" * 31)), row(s(b"\0\0\x80" + bytes(31)))
@@ -51,18 +52,18 @@ pub fn key_of(alloc: Global, secret: [u8; 32]) -> Result<SshPrivateKey, Fail> {
 
 /// The row's key makes its file in the version.
 fn is_row_made(alloc: Global, row: &SecretRow, version: PpkVersion) -> Result<bool, Fail> {
-    let text = secret_text_of(alloc, row, version)?;
+    let text = ManuallyDrop::new(secret_text_of(alloc, row, version)?);
     makes(alloc, row.secret, version, text.as_str())
 }
 
 fn makes(alloc: Global, secret: [u8; 32], version: PpkVersion, text: &str) -> Result<bool, Fail> {
-    let key = key_of(alloc, secret)?;
+    let key = ManuallyDrop::new(key_of(alloc, secret)?);
     is_made_in(alloc, &key, version, text)
 }
 
 /// The row's file in the version says its key.
 fn says_key(alloc: Global, row: &SecretRow, version: PpkVersion) -> Result<bool, Fail> {
-    let text = secret_text_of(alloc, row, version)?;
+    let text = ManuallyDrop::new(secret_text_of(alloc, row, version)?);
     is_said(alloc, row.secret, text.as_str())
 }
 
@@ -71,7 +72,7 @@ fn is_said(alloc: Global, secret: [u8; 32], text: &str) -> Result<bool, Fail> {
 }
 
 fn is_given(alloc: Global, secret: [u8; 32], text: &str) -> Result<bool, Fail> {
-    let key = key_of(alloc, secret)?;
+    let key = ManuallyDrop::new(key_of(alloc, secret)?);
     gives_back(alloc, text, &key)
 }
 
@@ -103,13 +104,13 @@ fn reads_a_secret_as_a_number(rt: HostRuntime) -> Result<(), Fail> {
 
 /// The secret of one zero byte is under another MAC.
 fn is_told(alloc: Global) -> Result<bool, Fail> {
-    let text = ZERO_TEXT.replace(alloc, "AAAAAA==", "AAAAAQA=")?;
+    let text = ManuallyDrop::new(ZERO_TEXT.replace(alloc, "AAAAAA==", "AAAAAQA=")?);
     Ok(ppk_of(alloc, text.as_str()).err() == Some(PuttyError::MacValidation))
 }
 
 /// The file of the text in version 2 is written as the text of the first row, which is read again.
 fn is_changed(alloc: Global) -> Result<bool, Fail> {
-    let text = secret_text_of(alloc, &SECRET_ROWS[0], PpkVersion::V2)?;
+    let text = ManuallyDrop::new(secret_text_of(alloc, &SECRET_ROWS[0], PpkVersion::V2)?);
     is_zero_in_version_2(alloc, text.as_str())
 }
 
@@ -118,7 +119,7 @@ fn is_zero_in_version_2(alloc: Global, text: &str) -> Result<bool, Fail> {
 }
 
 fn is_changed_to(alloc: Global, text: &str) -> Result<bool, Fail> {
-    let ppk = ppk_of(alloc, ZERO_TEXT)?;
+    let ppk = ManuallyDrop::new(ppk_of(alloc, ZERO_TEXT)?);
     is_written_in(alloc, &ppk, PpkVersion::V2, text)
 }
 

@@ -35,6 +35,7 @@ fn is_extracted(alloc: Global, ppk: &Ppk, key: &SshPublicKey) -> Result<bool, Pu
     Ok(public.to_openssh(alloc)? == *key)
 }
 
+/// The file is equal to its copy.
 pub fn is_copied(alloc: Global, ppk: &Ppk) -> Result<bool, Fail> {
     Ok(ppk.try_clone(alloc)? == *ppk)
 }
@@ -69,7 +70,7 @@ fn is_apart(alloc: Global, ppk: &Ppk) -> Result<bool, Fail> {
 }
 
 fn are_apart(alloc: Global) -> Result<bool, Fail> {
-    let ppk = p256_ppk(alloc, PpkVersion::V3)?;
+    let ppk = ManuallyDrop::new(p256_ppk(alloc, PpkVersion::V3)?);
     is_apart(alloc, &ppk)
 }
 

@@ -32,7 +32,7 @@ fn is_given(
     putty: &PuttyPrivateKey,
     key: &SshPrivateKey,
 ) -> Result<bool, PuttyError> {
-    let given = putty.to_openssh(alloc, None, &[0; 16])?;
+    let given = ManuallyDrop::new(putty.to_openssh(alloc, None, &[0; 16])?);
     Ok(is_same_key(&given, key))
 }
 
@@ -42,7 +42,8 @@ fn is_base_made(
     base: &PuttyBasePrivateKey,
     key: &SshPrivateKey,
 ) -> Result<bool, PuttyError> {
-    Ok(PuttyBasePrivateKey::from_openssh(alloc, &key.base_key)? == *base)
+    let made = ManuallyDrop::new(PuttyBasePrivateKey::from_openssh(alloc, &key.base_key)?);
+    Ok(*made == *base)
 }
 
 fn is_base_given(
@@ -68,7 +69,8 @@ fn is_public_made(
     public: &PuttyBasePublicKey,
     key: &SshPublicKey,
 ) -> Result<bool, PuttyError> {
-    Ok(PuttyBasePublicKey::from_openssh(alloc, &key.inner_key)? == *public)
+    let made = ManuallyDrop::new(PuttyBasePublicKey::from_openssh(alloc, &key.inner_key)?);
+    Ok(*made == *public)
 }
 
 fn is_public_given(
@@ -113,12 +115,12 @@ fn is_wrapped(alloc: Global, key: &SshPrivateKey, file: &PpkFile) -> Result<bool
 }
 
 fn is_text_wrapped(alloc: Global, text: &str, file: &PpkFile) -> Result<bool, Fail> {
-    let key = unsealed(alloc, text)?;
+    let key = ManuallyDrop::new(unsealed(alloc, text)?);
     is_wrapped(alloc, &key, file)
 }
 
 fn is_row_wrapped(alloc: Global, row: &PpkRow, key_row: &PrivateRow) -> Result<bool, Fail> {
-    let ppk = row_ppk(alloc, row, PpkVersion::V3)?;
+    let ppk = ManuallyDrop::new(row_ppk(alloc, row, PpkVersion::V3)?);
     is_text_wrapped(alloc, key_row.text, ppk.file())
 }
 

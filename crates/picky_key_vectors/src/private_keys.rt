@@ -36,13 +36,13 @@ pub fn zero_key(alloc: Global, pass: Option<&str>) -> Result<SshPrivateKey, Fail
 
 /// The text's key has this comment and names this cipher.
 fn says(alloc: Global, text: &str, cipher: &str, comment: &str) -> Result<bool, Fail> {
-    let key = unsealed(alloc, text)?;
+    let key = ManuallyDrop::new(unsealed(alloc, text)?);
     Ok(key.cipher_name.as_str() == cipher && key.comment.as_str() == comment)
 }
 
 /// What is written of the text's key.
 fn rewritten(alloc: Global, text: &str) -> Result<Text, Fail> {
-    let key = unsealed(alloc, text)?;
+    let key = ManuallyDrop::new(unsealed(alloc, text)?);
     written(alloc, &key)
 }
 
@@ -54,12 +54,13 @@ fn by_pem(alloc: Global, key: &SshPrivateKey) -> Result<SshPrivateKey, Fail> {
 }
 
 fn is_kept_by_pem(alloc: Global, text: &str) -> Result<bool, Fail> {
-    let key = unsealed(alloc, text)?;
+    let key = ManuallyDrop::new(unsealed(alloc, text)?);
     is_said_by_pem(alloc, &key)
 }
 
 fn is_said_by_pem(alloc: Global, key: &SshPrivateKey) -> Result<bool, Fail> {
-    Ok(by_pem(alloc, key)? == *key)
+    let made = ManuallyDrop::new(by_pem(alloc, key)?);
+    Ok(*made == *key)
 }
 
 #[test]
@@ -71,18 +72,19 @@ fn writes_the_text_of_picky_again(rt: HostRuntime) -> Result<(), Fail> {
 }
 
 fn zero_text(alloc: Global) -> Result<Text, Fail> {
-    let key = zero_key(alloc, None)?;
+    let key = ManuallyDrop::new(zero_key(alloc, None)?);
     written(alloc, &key)
 }
 
 /// The text is that of the key of `ZERO_KEY`.
 fn is_zero_key(alloc: Global, text: &str) -> Result<bool, Fail> {
-    let key = zero_key(alloc, None)?;
+    let key = ManuallyDrop::new(zero_key(alloc, None)?);
     says_key(alloc, text, &key)
 }
 
 fn says_key(alloc: Global, text: &str, key: &SshPrivateKey) -> Result<bool, Fail> {
-    Ok(unsealed(alloc, text)? == *key)
+    let made = ManuallyDrop::new(unsealed(alloc, text)?);
+    Ok(*made == *key)
 }
 
 #[test]
@@ -216,12 +218,12 @@ fn is_uncommented(key: &SshPrivateKey, commented: &SshPrivateKey) -> bool {
 }
 
 fn is_zero_key_uncommented(alloc: Global, key: &SshPrivateKey) -> Result<bool, Fail> {
-    let commented = zero_key(alloc, None)?;
+    let commented = ManuallyDrop::new(zero_key(alloc, None)?);
     Ok(is_uncommented(key, &commented))
 }
 
 fn is_made_uncommented(alloc: Global) -> Result<bool, Fail> {
-    let key = bare_key(alloc)?;
+    let key = ManuallyDrop::new(bare_key(alloc)?);
     is_zero_key_uncommented(alloc, &key)
 }
 
@@ -235,7 +237,7 @@ fn is_plain(alloc: Global, key: &SshPrivateKey) -> Result<bool, Fail> {
 }
 
 fn is_made_plain(alloc: Global) -> Result<bool, Fail> {
-    let key = bare_key(alloc)?;
+    let key = ManuallyDrop::new(bare_key(alloc)?);
     is_plain(alloc, &key)
 }
 
@@ -251,7 +253,7 @@ fn is_encoded(alloc: Global, key: &SshPrivateKey) -> Result<bool, Fail> {
     let mut suite = PlainSuite::new();
     let mut sink = MemorySink::new(alloc, 999, 7, &[])?;
     key.encode(alloc, &mut suite, &mut sink)?;
-    let pem = key.to_pem(alloc, &mut suite)?;
+    let pem = ManuallyDrop::new(key.to_pem(alloc, &mut suite)?);
     Ok(pem.content() == sink.written())
 }
 
@@ -260,7 +262,7 @@ fn is_armoured(alloc: Global, key: &SshPrivateKey) -> Result<bool, Fail> {
     let mut suite = PlainSuite::new();
     let pem = ManuallyDrop::new(key.to_pem(alloc, &mut suite)?);
     let lines = ManuallyDrop::new(pem.to_string(alloc)?);
-    let text = written(alloc, key)?;
+    let text = ManuallyDrop::new(written(alloc, key)?);
     Ok(text.as_str().strip_suffix("\n") == Some(lines.as_str()))
 }
 

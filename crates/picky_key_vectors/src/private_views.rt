@@ -130,7 +130,7 @@ static STUCK_ROWS: [StuckRow; 4] = [
 
 /// The bytes are stuck there, for this reason.
 fn is_stuck(alloc: Global, bytes: &[u8], field: usize, why: Stuck<'_>) -> Result<bool, Fail> {
-    let blob = Bytes::new(alloc, bytes)?;
+    let blob = ManuallyDrop::new(Bytes::new(alloc, bytes)?);
     let is_so = PrivateView::stuck_at(blob.as_slice()) == Some(field);
     Ok(is_so && PrivateView::read(blob.as_slice()) == Err(why))
 }

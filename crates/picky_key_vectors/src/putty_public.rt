@@ -49,7 +49,8 @@ fn is_spelled(alloc: Global, putty: &PuttyPublicKey, text: &str) -> Result<bool,
 
 /// The text says the key.
 fn says(alloc: Global, text: &str, putty: &PuttyPublicKey) -> Result<bool, PuttyError> {
-    Ok(PuttyPublicKey::from_str(alloc, text)? == *putty)
+    let made = ManuallyDrop::new(PuttyPublicKey::from_str(alloc, text)?);
+    Ok(*made == *putty)
 }
 
 /// The text is written for the key.
@@ -72,6 +73,7 @@ fn means(alloc: Global, putty: &PuttyPublicKey, key: &SshPublicKey) -> Result<bo
     )
 }
 
+/// The key's parts, borrowed.
 pub fn shown(key: &PublicKey) -> PublicKeyRef<'_> {
     match key {
         PublicKey::Rsa { e, n } => PublicKeyRef::Rsa { e, n },

@@ -135,7 +135,7 @@ fn is_opened(alloc: Global, row: &SealedRow) -> Result<bool, Fail> {
 
 /// The key is the one whose parts Python was given, but for its cipher's name and its check number.
 fn is_sealed_key(alloc: Global, key: &SshPrivateKey) -> Result<bool, Fail> {
-    let wanted = sealed_key(alloc)?;
+    let wanted = ManuallyDrop::new(sealed_key(alloc)?);
     Ok(is_same_key(key, &wanted))
 }
 
@@ -204,7 +204,7 @@ fn keeps_the_passphrase(alloc: Global, key: &SshPrivateKey) -> Result<bool, Fail
 
 /// No suite is asked to write a key under an empty passphrase.
 fn is_empty_pass_unwritten(alloc: Global) -> Result<bool, Fail> {
-    let key = zero_key(alloc, Some(""))?;
+    let key = ManuallyDrop::new(zero_key(alloc, Some(""))?);
     Ok(is_unwritten(alloc, &key))
 }
 
@@ -217,12 +217,12 @@ fn derives_nothing_of_no_passphrase(rt: HostRuntime) -> Result<(), Fail> {
 
 /// No suite is asked to write a key that has no salt.
 fn is_saltless_unwritten(alloc: Global) -> Result<bool, Fail> {
-    let key = saltless_key(alloc)?;
+    let key = ManuallyDrop::new(saltless_key(alloc)?);
     Ok(is_unwritten(alloc, &key))
 }
 
 fn is_saltless_kept(alloc: Global) -> Result<bool, Fail> {
-    let key = saltless_key(alloc)?;
+    let key = ManuallyDrop::new(saltless_key(alloc)?);
     keeps_the_passphrase(alloc, &key)
 }
 
@@ -263,7 +263,7 @@ fn reads_by_two_calls(alloc: Global, call: u64) -> Result<bool, Fail> {
 /// So does writing.
 fn writes_by_two_calls(alloc: Global, call: u64) -> Result<bool, Fail> {
     let mut suite = failing(alloc, call)?;
-    let key = sealed_key(alloc)?;
+    let key = ManuallyDrop::new(sealed_key(alloc)?);
     let why = unwritten(alloc, &mut suite, &key);
     Ok(why == fault(call) && next_fails(&mut suite))
 }

@@ -1,10 +1,10 @@
 //! Why a public key line is refused.
 
-use picky_conversion::{Target, convert};
+use picky_conversion::{Given, convert_key};
 use picky_key_text::{ReadError, read_text};
 use picky_sshpub::{SshPublicKey, SshPublicKeyError};
-use picky_suite::{HandedSigner, PlainSuite};
-use picky_target::ConvertError;
+use picky_suite::PlainSuite;
+use picky_target::{ConvertError, KeyTarget};
 use picky_wire::{IoKind, MemorySource, SshComplexTypeDecode};
 use std::alloc::Global;
 use std::test::Fail;
@@ -114,8 +114,8 @@ fn is_refused(alloc: Global, row: &RefusedRow) -> Result<bool, Fail> {
         is_why(SshPublicKey::from_str(alloc, line).err(), &row.why)
             && is_why(SshPublicKey::decode(alloc, &mut source).err(), &row.why)
             && is_unread(alloc, line, &row.why)
-            && is_unwritten(alloc, line, &Target::OpenSshPublic, &row.why)
-            && is_unwritten(alloc, line, &Target::PuttyPublic, &row.why),
+            && is_unwritten(alloc, line, KeyTarget::OpenSshPublic, &row.why)
+            && is_unwritten(alloc, line, KeyTarget::PuttyPublic, &row.why),
     )
 }
 
@@ -126,26 +126,38 @@ fn is_why(error: Option<SshPublicKeyError>, wanted: &SshPublicKeyError) -> bool 
     }
 }
 
-fn is_unread(alloc: Global, line: &str, wanted: &SshPublicKeyError) -> bool {
-    match read_text(alloc, &mut PlainSuite::new(), line, None) {
-        Err(ReadError::Public(why)) => why == *wanted,
-        Err(_) | Ok(_) => false,
+/// It is that refusal, of a public key line.
+fn is_of_line(why: &ReadError, wanted: &SshPublicKeyError) -> bool {
+    match why {
+        ReadError::Public(why) => *why == *wanted,
+        _ => false,
     }
 }
 
-fn is_unwritten(alloc: Global, line: &str, target: &Target, wanted: &SshPublicKeyError) -> bool {
-    match convert(
-        alloc,
-        &mut PlainSuite::new(),
-        &mut HandedSigner::new(None),
-        line,
-        None,
-        target,
-        None,
-        &[],
-    ) {
-        Err(ConvertError::Input(ReadError::Public(why))) => why == *wanted,
-        Err(_) | Ok(_) => false,
+fn is_unread(alloc: Global, line: &str, wanted: &SshPublicKeyError) -> bool {
+    match read_text(alloc, &mut PlainSuite::new(), line, None) {
+        Err(why) => is_of_line(&why, wanted),
+        Ok(_) => false,
+    }
+}
+
+/// It is that refusal, of the input.
+fn is_of_input(why: &ConvertError, wanted: &SshPublicKeyError) -> bool {
+    match why {
+        ConvertError::Input(why) => is_of_line(why, wanted),
+        _ => false,
+    }
+}
+
+fn is_unwritten(alloc: Global, line: &str, target: KeyTarget, wanted: &SshPublicKeyError) -> bool {
+    let given = Given {
+        pass_in: None,
+        pass_out: None,
+        fresh: &[],
+    };
+    match convert_key(alloc, &mut PlainSuite::new(), line, target, given) {
+        Err(why) => is_of_input(&why, wanted),
+        Ok(_) => false,
     }
 }
 

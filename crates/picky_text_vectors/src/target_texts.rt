@@ -38,7 +38,7 @@ fn is_written_for_zeros(alloc: Global, target: KeyTarget, text: &str) -> Result<
 }
 
 fn is_zero_text_in_version_2(alloc: Global) -> Result<bool, Fail> {
-    let text = zero_text_of(alloc, &SECRET_ROWS[0], PpkVersion::V2)?;
+    let text = ManuallyDrop::new(zero_text_of(alloc, &SECRET_ROWS[0], PpkVersion::V2)?);
     is_written_for_zeros(alloc, PPK2, text.as_str())
 }
 
@@ -70,7 +70,7 @@ fn is_file(
     key: &PrivateRow,
     version: PpkVersion,
 ) -> Result<bool, Fail> {
-    let text = text_of(alloc, row, version)?;
+    let text = ManuallyDrop::new(text_of(alloc, row, version)?);
     is_written(
         alloc,
         KeyTarget::Ppk(version, CONFIG),
@@ -81,7 +81,7 @@ fn is_file(
 
 /// For ssh-keygen's key its line is written.
 fn is_line(alloc: Global, key: &PrivateRow) -> Result<bool, Fail> {
-    let line = line_of(alloc, key)?;
+    let line = ManuallyDrop::new(line_of(alloc, key)?);
     is_written(alloc, KeyTarget::OpenSshPublic, key.text, line.as_str())
 }
 
@@ -108,12 +108,12 @@ fn sealed(alloc: Global, target: KeyTarget, key: &str, fresh: &[u8]) -> Result<T
 }
 
 fn is_sealed_as(alloc: Global, target: KeyTarget, fresh: &[u8], text: &str) -> Result<bool, Fail> {
-    let written = sealed(alloc, target, PRIVATE_ROWS[1].text, fresh)?;
+    let written = ManuallyDrop::new(sealed(alloc, target, PRIVATE_ROWS[1].text, fresh)?);
     Ok(written.as_str() == text)
 }
 
 fn is_sealed_in_version_2(alloc: Global) -> Result<bool, Fail> {
-    let text = TOY_V2.replace(alloc, "\n", "\r\n")?;
+    let text = ManuallyDrop::new(TOY_V2.replace(alloc, "\n", "\r\n")?);
     is_sealed_as(alloc, PPK2, b"twelve bytes", text.as_str())
 }
 
@@ -125,7 +125,7 @@ fn comes_back(alloc: Global, target: KeyTarget, key: &str) -> Result<bool, Fail>
         key,
         b"saltsaltsaltsalttwelve bytes or more",
     )?);
-    let meaning = opened(alloc, text.as_str(), PASS)?;
+    let meaning = ManuallyDrop::new(opened(alloc, text.as_str(), PASS)?);
     means(alloc, key, &meaning)
 }
 
@@ -180,7 +180,7 @@ fn refuses(
 
 #[test]
 fn refuses_what_it_cannot_carry(rt: HostRuntime) -> Result<(), Fail> {
-    let wanted = ConvertError::CommentNotCarried;
+    let wanted = ManuallyDrop::new(ConvertError::CommentNotCarried);
     for (target, comment) in &UNCARRIED {
         assert!(rt;
             refuses(rt.alloc(), *target, comment, None, &[], &wanted)?,
@@ -192,7 +192,7 @@ fn refuses_what_it_cannot_carry(rt: HostRuntime) -> Result<(), Fail> {
 
 #[test]
 fn refuses_too_few_fresh_bytes(rt: HostRuntime) -> Result<(), Fail> {
-    let wanted = ConvertError::FreshTooShort;
+    let wanted = ManuallyDrop::new(ConvertError::FreshTooShort);
     for (target, len) in &SHORT {
         let fresh = &[7; 28][..*len];
         assert!(rt;

@@ -7,6 +7,7 @@ use picky_putty_public::PuttyError;
 use picky_suite::{HandedSigner, PlainSuite};
 use picky_wire::Text;
 use std::alloc::Global;
+use std::mem::ManuallyDrop;
 use std::process::Abort;
 use std::test::Fail;
 
@@ -77,17 +78,17 @@ fn converts_to_putty(
     quoted: &str,
     rows: &str,
 ) -> Result<(), Fail> {
-    let text = format!(in alloc;
+    let text = ManuallyDrop::new(format!(in alloc;
         "---- BEGIN SSH2 PUBLIC KEY ----\r\nComment: \"{quoted}\"\r\n{rows}\r\n\
          ---- END SSH2 PUBLIC KEY ----\r\n"
-    )?;
+    )?);
     converts(rt, alloc, name, line, &Target::PuttyPublic, text.as_str())
 }
 
 #[test]
 fn quotes_a_comment_as_puttygen_does(rt: HostRuntime) -> Result<(), Fail> {
     for (name, comment, quoted) in &COMMENTS {
-        let line = format!(in rt.alloc(); "ssh-ed25519 {KEY_WORD}{comment}")?;
+        let line = ManuallyDrop::new(format!(in rt.alloc(); "ssh-ed25519 {KEY_WORD}{comment}")?);
         let rows = "AAAAC3NzaC1lZDI1NTE5AAAAIPaSiDKIdwa2ceSmAajZPTAKx5U9jncB9LlE67ab\r\nXQ2F";
         converts_to_putty(&rt, rt.alloc(), name, line.as_str(), quoted, rows)?;
     }
@@ -101,8 +102,8 @@ fn quotes_a_comment_as_puttygen_does(rt: HostRuntime) -> Result<(), Fail> {
 #[test]
 fn keeps_the_line_of_ssh_keygen(rt: HostRuntime) -> Result<(), Fail> {
     for row in &KEY_ROWS {
-        let line = format!(in rt.alloc(); "{}\n", row.line)?;
-        let text = format!(in rt.alloc(); "{}\r\n", row.line)?;
+        let line = ManuallyDrop::new(format!(in rt.alloc(); "{}\n", row.line)?);
+        let text = ManuallyDrop::new(format!(in rt.alloc(); "{}\r\n", row.line)?);
         writes(
             &rt,
             rt.alloc(),
@@ -119,7 +120,7 @@ fn keeps_the_line_of_ssh_keygen(rt: HostRuntime) -> Result<(), Fail> {
 fn writes_the_text_of_puttygen(rt: HostRuntime) -> Result<(), Fail> {
     let refusal = (1, "keyconv: refused: output.putty.NotSupported\n");
     for row in &KEY_ROWS {
-        let line = format!(in rt.alloc(); "{}\n", row.line)?;
+        let line = ManuallyDrop::new(format!(in rt.alloc(); "{}\n", row.line)?);
         match row.putty {
             Some(text) => writes(&rt, rt.alloc(), row.name, "putty-pub", line.as_str(), text)?,
             None => refuses(
@@ -153,9 +154,9 @@ fn is_unwritten(alloc: Global, text: &str, target: &Target, wanted: &ConvertErro
 
 #[test]
 fn has_no_putty_text_for_a_device(rt: HostRuntime) -> Result<(), Fail> {
-    let wanted = ConvertError::Putty(PuttyError::NotSupported {
+    let wanted = ManuallyDrop::new(ConvertError::Putty(PuttyError::NotSupported {
         feature: Text::new(rt.alloc(), "SK keys")?,
-    });
+    }));
     for row in &KEY_ROWS {
         let is_lacked = is_unwritten(rt.alloc(), row.line, &Target::PuttyPublic, &wanted);
         assert_eq!(rt; is_lacked, row.putty.is_none(), "{}", row.name);

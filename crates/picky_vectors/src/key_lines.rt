@@ -6,6 +6,7 @@ use picky_key_rows::KEY_ROWS;
 use picky_sshpub::{SshPublicKey, SshPublicKeyError};
 use picky_wire::{MemorySink, MemorySource, SliceSource, SshComplexTypeDecode, TryClone};
 use std::alloc::Global;
+use std::mem::ManuallyDrop;
 use std::test::Fail;
 
 // The name, a line, and the line that is written for it.
@@ -120,7 +121,8 @@ fn is_kept(alloc: Global, line: &str) -> Result<bool, Fail> {
 /// The line is taken from a source as the key.
 fn is_taken(alloc: Global, line: &str, key: &SshPublicKey) -> Result<bool, Fail> {
     let mut source = MemorySource::new(alloc, line.as_bytes(), 7, &[])?;
-    Ok(SshPublicKey::decode(alloc, &mut source)? == *key)
+    let made = ManuallyDrop::new(SshPublicKey::decode(alloc, &mut source)?);
+    Ok(*made == *key)
 }
 
 /// The line is written for the key, and CR LF after it.
@@ -138,7 +140,7 @@ fn reads_the_lines_of_ssh_keygen(rt: HostRuntime) -> Result<(), Fail> {
 
 /// The line is read, and written so, also to a sink.
 fn is_written(alloc: Global, line: &str, text: &str) -> Result<bool, Fail> {
-    let key = SshPublicKey::from_str(alloc, line)?;
+    let key = ManuallyDrop::new(SshPublicKey::from_str(alloc, line)?);
     Ok(key.to_string(alloc)?.as_str() == text && is_encoded(alloc, &key, text)?)
 }
 

@@ -7,6 +7,7 @@ use picky_ppk::{PpkFile, PpkKeyAlgorithm, PpkSealing, PpkVersion, PuttyError};
 use picky_sshkey::{SshBasePrivateKey, SshPrivateKey};
 use picky_wire::{Bytes, Mpint, SliceSource, Text};
 use std::alloc::{AllocError, Global};
+use std::mem::ManuallyDrop;
 use std::test::Fail;
 
 // 65,535 lines of 64 characters, 4 for 3 bytes: 65535 * 64 // 4 * 3
@@ -39,17 +40,17 @@ fn file_with(alloc: Global, len: u32) -> Result<PpkFile, AllocError> {
 
 /// The text begins with the lines up to the blob, and a count of 65,535.
 fn has_most_lines(alloc: Global, file: &PpkFile) -> Result<bool, Fail> {
-    let text = file.to_string(alloc)?;
+    let text = ManuallyDrop::new(file.to_string(alloc)?);
     Ok(text.as_str().starts_with(HEAD))
 }
 
 fn is_written(alloc: Global) -> Result<bool, Fail> {
-    let file = file_with(alloc, MOST)?;
+    let file = ManuallyDrop::new(file_with(alloc, MOST)?);
     has_most_lines(alloc, &file)
 }
 
 fn is_refused(alloc: Global) -> Result<bool, Fail> {
-    let file = file_with(alloc, MOST + 1)?;
+    let file = ManuallyDrop::new(file_with(alloc, MOST + 1)?);
     Ok(file.to_string(alloc).err() == Some(PuttyError::TooManyLines))
 }
 
@@ -81,18 +82,18 @@ fn envelope_with(alloc: Global, len: u32) -> Result<Text, Fail> {
 
 /// What a run of `ppk3` on that text answers, and what it writes.
 fn run_with(alloc: Global, len: u32) -> Result<Ran, Fail> {
-    let text = envelope_with(alloc, len)?;
+    let text = ManuallyDrop::new(envelope_with(alloc, len)?);
     let mut source = SliceSource::new(text.as_str().as_bytes());
     run_on(alloc, &["ppk3"], &mut source, ROOM, 999)
 }
 
 fn is_converted(alloc: Global) -> Result<bool, Fail> {
-    let ran = run_with(alloc, MOST - 22)?;
+    let ran = ManuallyDrop::new(run_with(alloc, MOST - 22)?);
     Ok(ran.status == Status::Done && ran.out.written().starts_with(HEAD.as_bytes()))
 }
 
 fn is_not_converted(alloc: Global) -> Result<bool, Fail> {
-    let ran = run_with(alloc, MOST - 21)?;
+    let ran = ManuallyDrop::new(run_with(alloc, MOST - 21)?);
     Ok(ended(&ran, 1, b"", "keyconv: refused: TooManyLines\n"))
 }
 

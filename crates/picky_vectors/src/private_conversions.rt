@@ -10,6 +10,7 @@ use picky_sshkey::{SshBasePrivateKey, SshPrivateKey};
 use picky_suite::PlainSuite;
 use picky_wire::{SliceSource, Text};
 use std::alloc::Global;
+use std::mem::ManuallyDrop;
 use std::test::Fail;
 
 /// How many bytes a text here has at most.
@@ -25,21 +26,21 @@ fn word_of(version: PpkVersion) -> &'static str {
 /// The command writes the text for the input.
 pub fn writes(alloc: Global, command: &str, input: &str, text: &str) -> Result<bool, Fail> {
     let mut source = SliceSource::new(input.as_bytes());
-    let ran = run_on(alloc, &[command], &mut source, ROOM, 999)?;
+    let ran = ManuallyDrop::new(run_on(alloc, &[command], &mut source, ROOM, 999)?);
     Ok(ended(&ran, 0, text.as_bytes(), ""))
 }
 
 /// The command refuses the input so.
 pub fn refuses(alloc: Global, command: &str, input: &str, line: &str) -> Result<bool, Fail> {
     let mut source = SliceSource::new(input.as_bytes());
-    let ran = run_on(alloc, &[command], &mut source, ROOM, 999)?;
+    let ran = ManuallyDrop::new(run_on(alloc, &[command], &mut source, ROOM, 999)?);
     Ok(ended(&ran, 1, b"", line))
 }
 
 /// What the command writes for the input.
 fn written(alloc: Global, command: &str, input: &str) -> Result<String, Fail> {
     let mut source = SliceSource::new(input.as_bytes());
-    let ran = run_on(alloc, &[command], &mut source, ROOM, 999)?;
+    let ran = ManuallyDrop::new(run_on(alloc, &[command], &mut source, ROOM, 999)?);
     written_text(alloc, &ran)
 }
 
@@ -50,12 +51,12 @@ fn is_converted(
     key: &PrivateRow,
     version: PpkVersion,
 ) -> Result<bool, Fail> {
-    let text = text_of(alloc, row, version)?;
+    let text = ManuallyDrop::new(text_of(alloc, row, version)?);
     are_converted(alloc, key.text, text.as_str(), word_of(version))
 }
 
 fn are_converted(alloc: Global, key: &str, text: &str, word: &str) -> Result<bool, Fail> {
-    let own = written(alloc, "openssh", key)?;
+    let own = ManuallyDrop::new(written(alloc, "openssh", key)?);
     Ok(writes(alloc, word, key, text)? && writes(alloc, "openssh", text, own.as_str())?)
 }
 
@@ -75,15 +76,15 @@ fn converts_as_puttygen_does_and_back(rt: HostRuntime) -> Result<(), Fail> {
 
 /// Through PuTTY's versions 3 and 2 a text becomes what it is written as directly.
 fn loses_nothing(alloc: Global, text: &str) -> Result<bool, Fail> {
-    let own = written(alloc, "openssh", text)?;
-    let third = written(alloc, "ppk3", text)?;
-    let second = written(alloc, "ppk2", third.as_str())?;
+    let own = ManuallyDrop::new(written(alloc, "openssh", text)?);
+    let third = ManuallyDrop::new(written(alloc, "ppk3", text)?);
+    let second = ManuallyDrop::new(written(alloc, "ppk2", third.as_str())?);
     writes(alloc, "openssh", second.as_str(), own.as_str())
 }
 
 // base64.b64decode("A8iqDGUDqgxlAwAA").hex() is 03c8 aa0c6503 aa0c6503 0000: the check number twice, which is written as 0.
 fn writes_no_check_number(alloc: Global) -> Result<bool, Fail> {
-    let text = V2.replace(alloc, "A8iqDGUDqgxlAwAA", "A8gAAAAAAAAAAAAA")?;
+    let text = ManuallyDrop::new(V2.replace(alloc, "A8iqDGUDqgxlAwAA", "A8gAAAAAAAAAAAAA")?);
     writes(alloc, "openssh", V2, text.as_str())
 }
 
@@ -107,7 +108,7 @@ fn envelope_with(alloc: Global, secret: [u8; 32], comment: &str) -> Result<Text,
         secret,
         public: [0; 32],
     };
-    let key = SshPrivateKey::from_base(alloc, base, None, comment, &[0; 16])?;
+    let key = ManuallyDrop::new(SshPrivateKey::from_base(alloc, base, None, comment, &[0; 16])?);
     envelope_of(alloc, &key)
 }
 
@@ -118,12 +119,12 @@ pub fn secret_envelope(alloc: Global, secret: [u8; 32]) -> Result<Text, Fail> {
 
 /// The text of the row's key becomes PuTTY's, and that becomes it again.
 fn is_secret_converted(alloc: Global, row: &SecretRow, version: PpkVersion) -> Result<bool, Fail> {
-    let text = secret_text_of(alloc, row, version)?;
+    let text = ManuallyDrop::new(secret_text_of(alloc, row, version)?);
     becomes(alloc, row.secret, version, text.as_str())
 }
 
 fn becomes(alloc: Global, secret: [u8; 32], version: PpkVersion, text: &str) -> Result<bool, Fail> {
-    let envelope = secret_envelope(alloc, secret)?;
+    let envelope = ManuallyDrop::new(secret_envelope(alloc, secret)?);
     let envelope = envelope.as_str();
     Ok(
         writes(alloc, word_of(version), envelope, text)?
@@ -146,12 +147,12 @@ fn converts_a_secret_as_a_number(rt: HostRuntime) -> Result<(), Fail> {
 }
 
 fn writes_without_line_ends(alloc: Global) -> Result<bool, Fail> {
-    let text = ZERO_KEY.replace(alloc, "\n", "")?;
+    let text = ManuallyDrop::new(ZERO_KEY.replace(alloc, "\n", "")?);
     writes(alloc, "openssh", text.as_str(), ZERO_KEY)
 }
 
 fn writes_with_plus(alloc: Global) -> Result<bool, Fail> {
-    let text = ZERO_TEXT.replace(alloc, "Public-Lines: 2", "Public-Lines: +02")?;
+    let text = ManuallyDrop::new(ZERO_TEXT.replace(alloc, "Public-Lines: 2", "Public-Lines: +02")?);
     writes(alloc, "openssh", text.as_str(), ZERO_KEY)
 }
 
@@ -251,7 +252,7 @@ fn refuses_changed(alloc: Global, row: &(&str, &str, [&str; 2], &str)) -> Result
     if old.is_empty() {
         return refuses(alloc, command, text, line);
     }
-    let changed = text.replace(alloc, old, new)?;
+    let changed = ManuallyDrop::new(text.replace(alloc, old, new)?);
     refuses(alloc, command, changed.as_str(), line)
 }
 
@@ -281,12 +282,12 @@ static COMMENTS: [(&str, &[&str]); 2] = [
 
 /// Only an envelope can hold the comment.
 fn is_held_by_envelope(alloc: Global, comment: &str) -> Result<bool, Fail> {
-    let text = envelope_with(alloc, [0; 32], comment)?;
+    let text = ManuallyDrop::new(envelope_with(alloc, [0; 32], comment)?);
     writes(alloc, "openssh", text.as_str(), text.as_str())
 }
 
 fn is_not_carried(alloc: Global, command: &str, comment: &str) -> Result<bool, Fail> {
-    let text = envelope_with(alloc, [0; 32], comment)?;
+    let text = ManuallyDrop::new(envelope_with(alloc, [0; 32], comment)?);
     let line = "keyconv: refused: CommentNotCarried\n";
     refuses(alloc, command, text.as_str(), line)
 }
@@ -307,7 +308,7 @@ fn makes_no_lines_of_a_comment(rt: HostRuntime) -> Result<(), Fail> {
 
 /// Of a key whose secret a device keeps.
 fn has_no_file(alloc: Global, key: &PrivateRow) -> Result<bool, Fail> {
-    let own = written(alloc, "openssh", key.text)?;
+    let own = ManuallyDrop::new(written(alloc, "openssh", key.text)?);
     Ok(
         refuses(
             alloc,

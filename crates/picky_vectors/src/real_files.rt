@@ -6,6 +6,7 @@ use picky_key_rows::{
 };
 use picky_ppk::PpkVersion;
 use std::alloc::Global;
+use std::mem::ManuallyDrop;
 use std::test::Fail;
 
 /// The digests of a key, MD5's without its colons.
@@ -72,7 +73,7 @@ fn writes_for_file(
     version: PpkVersion,
     text: &str,
 ) -> Result<bool, Fail> {
-    let file = text_of(alloc, row, version)?;
+    let file = ManuallyDrop::new(text_of(alloc, row, version)?);
     writes(alloc, command, file.as_str(), text)
 }
 
@@ -83,7 +84,7 @@ fn line_of(alloc: Global, key: &PrivateRow) -> Result<String, Fail> {
 }
 
 fn writes_line(alloc: Global, row: &PpkRow, key: &PrivateRow) -> Result<bool, Fail> {
-    let text = line_of(alloc, key)?;
+    let text = ManuallyDrop::new(line_of(alloc, key)?);
     writes_for_each(alloc, "ssh-pub", row, key, text.as_str())
 }
 
@@ -107,12 +108,12 @@ fn prints_digests(
     key: &PrivateRow,
     digests: Digests,
 ) -> Result<bool, Fail> {
-    let text = lines_of(alloc, digests)?;
+    let text = ManuallyDrop::new(lines_of(alloc, digests)?);
     writes_for_each(alloc, "fingerprint", row, key, text.as_str())
 }
 
 fn prints_digests_of_putty_public(alloc: Global) -> Result<bool, Fail> {
-    let text = lines_of(alloc, DIGESTS[1])?;
+    let text = ManuallyDrop::new(lines_of(alloc, DIGESTS[1])?);
     writes(alloc, "fingerprint", PUBLIC, text.as_str())
 }
 
@@ -132,7 +133,7 @@ fn prints_the_same_digests_for_each_form(rt: HostRuntime) -> Result<(), Fail> {
 
 /// The row of the key of V2.
 fn writes_line_of_picky(alloc: Global, row: &KeyRow) -> Result<bool, Fail> {
-    let text = format!(in alloc; "{}\r\n", row.line)?;
+    let text = ManuallyDrop::new(format!(in alloc; "{}\r\n", row.line)?);
     writes(alloc, "ssh-pub", V2, text.as_str())
 }
 
@@ -143,8 +144,8 @@ fn prints_digests_of_picky(alloc: Global, row: &KeyRow) -> Result<bool, Fail> {
         sha1: row.sha1,
         sha256: row.sha256,
     };
-    let text = lines_of(alloc, digests)?;
-    let line = format!(in alloc; "{}\r\n", row.line)?;
+    let text = ManuallyDrop::new(lines_of(alloc, digests)?);
+    let line = ManuallyDrop::new(format!(in alloc; "{}\r\n", row.line)?);
     Ok(
         writes(alloc, "fingerprint", V2, text.as_str())?
             && writes(alloc, "fingerprint", line.as_str(), text.as_str())?,

@@ -1,6 +1,7 @@
 //! What is printed for an input that is refused.
 
 use crate::runs::{COMMANDS, Refusal, refuses};
+use std::mem::ManuallyDrop;
 use std::test::Fail;
 
 const IO_ERROR: Refusal = (1, "keyconv: refused: input.public.IoError\n");
@@ -227,7 +228,7 @@ fn refuses_with_the_cause_printed(rt: HostRuntime) -> Result<(), Fail> {
             refuses(&rt, rt.alloc(), name, command, input, *refusal)?;
         }
         for (name, body, refusal) in &BODIES {
-            let line = format!(in rt.alloc(); "ssh-ed25519 {body} k\n")?;
+            let line = ManuallyDrop::new(format!(in rt.alloc(); "ssh-ed25519 {body} k\n")?);
             refuses(&rt, rt.alloc(), name, command, line.as_bytes(), *refusal)?;
         }
     }

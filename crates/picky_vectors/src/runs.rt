@@ -5,6 +5,7 @@ use picky_ppk::PpkVersion;
 use picky_suite::{HandedSigner, PlainSuite, Suite};
 use picky_wire::{MemorySink, SliceSource, Source, Text};
 use std::alloc::Global;
+use std::mem::ManuallyDrop;
 use std::process::Abort;
 use std::test::Fail;
 
@@ -107,7 +108,7 @@ pub fn writes(
     text: &str,
 ) -> Result<(), Fail> {
     let mut source = SliceSource::new(input.as_bytes());
-    let end = run_on(alloc, &[command], &mut source, 999, 999)?;
+    let end = ManuallyDrop::new(run_on(alloc, &[command], &mut source, 999, 999)?);
     assert!(rt; ended(&end, 0, text.as_bytes(), ""), "{command}: {name}");
     Ok(())
 }
@@ -127,7 +128,7 @@ pub fn refuses(
     let (code, line) = refusal;
     for (err_room, printed) in [(999, line), (0, "")] {
         let mut source = SliceSource::new(input);
-        let end = run_on(alloc, &[command], &mut source, 999, err_room)?;
+        let end = ManuallyDrop::new(run_on(alloc, &[command], &mut source, 999, err_room)?);
         assert!(rt; ended(&end, code, b"", printed), "{command}: {name}");
     }
     Ok(())
@@ -142,7 +143,7 @@ pub fn converts(
     target: &Target,
     text: &str,
 ) -> Result<(), Fail> {
-    let answer = convert(
+    let answer = ManuallyDrop::new(convert(
         alloc,
         &mut PlainSuite::new(),
         &mut HandedSigner::new(None),
@@ -151,7 +152,7 @@ pub fn converts(
         target,
         None,
         &[],
-    )?;
+    )?);
     assert_eq!(rt; answer.as_str(), text, "{name}");
     let command = match target {
         Target::OpenSsh => "openssh",

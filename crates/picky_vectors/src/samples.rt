@@ -2,6 +2,7 @@
 
 use crate::runs::{ended, run_on};
 use picky_wire::{MemorySource, Source};
+use std::mem::ManuallyDrop;
 use std::test::Fail;
 
 // How many keys, and the summary.
@@ -21,7 +22,7 @@ static SUMMARIES: [(&str, &str); 2] = [
 fn sums_up_sample_keys(rt: HostRuntime) -> Result<(), Fail> {
     for (keys, summary) in &SUMMARIES {
         let mut source = MemorySource::new(rt.alloc(), b"", 7, &[0])?;
-        let end = run_on(rt.alloc(), &["sample", keys], &mut source, 999, 999)?;
+        let end = ManuallyDrop::new(run_on(rt.alloc(), &["sample", keys], &mut source, 999, 999)?);
         assert!(rt; ended(&end, 0, summary.as_bytes(), ""), "{keys} keys");
     }
     Ok(())

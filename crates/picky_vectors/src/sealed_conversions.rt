@@ -6,6 +6,7 @@ use picky_key_rows::{HIGH, PASS, TOY_V3, ZERO_KEY, ZERO_TEXT};
 use picky_suite::{MemorySuite, PlainSuite};
 use picky_wire::SliceSource;
 use std::alloc::Global;
+use std::mem::ManuallyDrop;
 use std::test::Fail;
 
 // 16 bytes of salt and 12 of padding: the key's private bytes are 4.
@@ -40,7 +41,7 @@ fn ends_over(
     failing: &[u64],
     end: (u8, &str),
 ) -> Result<bool, Fail> {
-    let ran = run_over(alloc, command, input, given, failing)?;
+    let ran = ManuallyDrop::new(run_over(alloc, command, input, given, failing)?);
     Ok(says(&ran, end))
 }
 
@@ -56,7 +57,7 @@ fn sealed(alloc: Global, command: &str, input: &str, fresh: &[u8]) -> Result<Str
         pass_out: Some("p"),
         fresh,
     };
-    let ran = run_over(alloc, command, input, given, &[])?;
+    let ran = ManuallyDrop::new(run_over(alloc, command, input, given, &[])?);
     written_text(alloc, &ran)
 }
 
@@ -89,7 +90,7 @@ fn opens(alloc: Global, text: &str, locked: &str) -> Result<bool, Fail> {
 }
 
 fn opens_file(alloc: Global) -> Result<bool, Fail> {
-    let text = sealed(alloc, "ppk3", ZERO_KEY, FRESH)?;
+    let text = ManuallyDrop::new(sealed(alloc, "ppk3", ZERO_KEY, FRESH)?);
     opens(
         alloc,
         text.as_str(),
@@ -98,7 +99,7 @@ fn opens_file(alloc: Global) -> Result<bool, Fail> {
 }
 
 fn opens_envelope(alloc: Global) -> Result<bool, Fail> {
-    let text = sealed(alloc, "openssh", ZERO_KEY, FRESH)?;
+    let text = ManuallyDrop::new(sealed(alloc, "openssh", ZERO_KEY, FRESH)?);
     opens(
         alloc,
         text.as_str(),
@@ -215,12 +216,12 @@ fn opens_as(alloc: Global, sealed: &str, envelope: &str) -> Result<bool, Fail> {
 }
 
 fn comes_back(alloc: Global, envelope: &str) -> Result<bool, Fail> {
-    let text = sealed(alloc, "ppk3", envelope, &FRESH[..27])?;
+    let text = ManuallyDrop::new(sealed(alloc, "ppk3", envelope, &FRESH[..27])?);
     opens_as(alloc, text.as_str(), envelope)
 }
 
 fn is_secret_sealed(alloc: Global, secret: [u8; 32]) -> Result<bool, Fail> {
-    let envelope = secret_envelope(alloc, secret)?;
+    let envelope = ManuallyDrop::new(secret_envelope(alloc, secret)?);
     let envelope = envelope.as_str();
     Ok(
         takes_27_fresh_bytes(alloc, envelope)?
@@ -244,17 +245,17 @@ fn writes_over(
     failing: &[u64],
     text: &str,
 ) -> Result<bool, Fail> {
-    let ran = run_over(alloc, command, input, given, failing)?;
+    let ran = ManuallyDrop::new(run_over(alloc, command, input, given, failing)?);
     Ok(ended(&ran, 0, text.as_bytes(), ""))
 }
 
 // base64.b64encode(bytes(17)) in place of the file's 48 private bytes; the MAC isn't looked at.
 fn is_no_block(alloc: Global) -> Result<bool, Fail> {
-    let text = TOY_V3.replace(
+    let text = ManuallyDrop::new(TOY_V3.replace(
         alloc,
         "6oyHO9HyHO8Ldw4UYJtkSG5IE709yF+OR9h799vSztcUR+aLOm79o/FzFwbR6cGG",
         "AAAAAAAAAAAAAAAAAAAAAAA=",
-    )?;
+    )?);
     let given = Given {
         pass_in: Some(PASS),
         ..NOTHING
@@ -278,14 +279,14 @@ fn fails_over_none(
 ) -> Result<bool, Fail> {
     for (err_room, line) in [(999, "keyconv: outside fault\n"), (0, "")] {
         let mut source = SliceSource::new(input.as_bytes());
-        let ran = run_given(
+        let ran = ManuallyDrop::new(run_given(
             alloc,
             &[command],
             given,
             &mut PlainSuite::new(),
             &mut source,
             (ROOM, err_room),
-        )?;
+        )?);
         if !ended(&ran, 5, b"", line) {
             return Ok(false);
         }
@@ -294,7 +295,7 @@ fn fails_over_none(
 }
 
 fn has_no_cipher(alloc: Global, command: &str) -> Result<bool, Fail> {
-    let text = sealed(alloc, command, ZERO_KEY, FRESH)?;
+    let text = ManuallyDrop::new(sealed(alloc, command, ZERO_KEY, FRESH)?);
     Ok(
         fails_over_none(alloc, command, ZERO_KEY, SEAL)?
             && fails_over_none(alloc, "openssh", text.as_str(), OPEN)?,

@@ -8,6 +8,7 @@ use picky_putty_public::PuttyError;
 use picky_sshpub::SshPublicKeyError;
 use picky_wire::{MemorySource, SliceSource, Source};
 use std::alloc::Global;
+use std::mem::ManuallyDrop;
 use std::test::Fail;
 
 // A line whose key is 32 zero bytes.
@@ -159,7 +160,7 @@ fn prints_a_line_for_each_status(rt: HostRuntime) {
 fn is_usage(alloc: Global, words: &[&str]) -> Result<bool, Fail> {
     for (err_room, line) in [(400, USAGE), (0, "")] {
         let mut source = SliceSource::new(FIRST_LINE.as_bytes());
-        let end = run_on(alloc, words, &mut source, 400, err_room)?;
+        let end = ManuallyDrop::new(run_on(alloc, words, &mut source, 400, err_room)?);
         if !ended(&end, 2, b"", line) || source.rest() != FIRST_LINE.as_bytes() {
             return Ok(false);
         }
@@ -191,7 +192,7 @@ fn ends<S: Source>(
     room: usize,
     end: End<'_>,
 ) -> Result<bool, Fail> {
-    let ran = run_on(alloc, &[command], source, room, 400)?;
+    let ran = ManuallyDrop::new(run_on(alloc, &[command], source, room, 400)?);
     Ok(ended(&ran, end.code, end.out, end.err))
 }
 
@@ -203,7 +204,7 @@ fn ends_unsaid<S: Source>(
     room: usize,
     end: End<'_>,
 ) -> Result<bool, Fail> {
-    let ran = run_on(alloc, &[command], source, room, 0)?;
+    let ran = ManuallyDrop::new(run_on(alloc, &[command], source, room, 0)?);
     Ok(ended(&ran, end.code, end.out, ""))
 }
 
@@ -215,7 +216,7 @@ fn first_line_within(alloc: Global, len: usize) -> Result<Vec<u8>, Fail> {
 }
 
 fn ends_over(alloc: Global, command: &str, len: usize, end: End<'_>) -> Result<bool, Fail> {
-    let input = first_line_within(alloc, len)?;
+    let input = ManuallyDrop::new(first_line_within(alloc, len)?);
     let mut source = SliceSource::new(input.as_slice());
     let mut again = SliceSource::new(input.as_slice());
     Ok(
