@@ -61,8 +61,8 @@ abbrev pub plain_file : Meanings → PpkVersionKey → SshBasePrivateKey → (co
 plain_file m version key comment = file_of_parts m version comment (parts_of key)
 
 -- the file, sealed where there is a passphrase
-abbrev pub sealed_file : Meanings → Output → PpkVersionKey → PpkEncryptionConfig → (pass : List ℕ) → PpkFile → SshBasePrivateKey
-    → PpkFile
+abbrev pub sealed_file : Meanings → Output → PpkVersionKey → PpkEncryptionConfig → (pass : List ℕ) → PpkFile
+    → SshBasePrivateKey → PpkFile
 sealed_file m out version config pass plain key =
     let draft = draft_of config (salt_of out version config) (padding_of out version config key) plain in
     seal_draft m (keys_under m draft.sealing pass) draft
@@ -73,5 +73,6 @@ file_under m out version config None key comment = plain_file m version key comm
 file_under m out version config (Some pass) key comment =
     sealed_file m out version config pass (plain_file m version key comment) key
 
-abbrev pub ppk_file : Meanings → Output → PpkVersionKey → PpkEncryptionConfig → SshBasePrivateKey → (comment : List ℕ) → PpkFile
+abbrev pub ppk_file : Meanings → Output → PpkVersionKey → PpkEncryptionConfig → SshBasePrivateKey → (comment : List ℕ)
+    → PpkFile
 ppk_file m out version config key comment = file_under m out version config out.pass key comment

@@ -95,13 +95,13 @@ sealed_asks m pass fresh version config key comment = is_sealable (sealable m pa
 
 -- ---- sealed or not
 
-abbrev pub text_under : Meanings → Option (List ℕ) → (fresh : List ℕ) → PpkVersionKey → PpkEncryptionConfig → SshBasePrivateKey
-    → (comment : List ℕ) → Result (List ℕ) ConvertError
+abbrev pub text_under : Meanings → Option (List ℕ) → (fresh : List ℕ) → PpkVersionKey → PpkEncryptionConfig
+    → SshBasePrivateKey → (comment : List ℕ) → Result (List ℕ) ConvertError
 text_under m None fresh version config key comment = plain_written m version key comment
 text_under m (Some pass) fresh version config key comment = sealed_written m pass fresh version config key comment
 
-abbrev pub asks_under : Meanings → Option (List ℕ) → (fresh : List ℕ) → PpkVersionKey → PpkEncryptionConfig → SshBasePrivateKey
-    → (comment : List ℕ) → Bool
+abbrev pub asks_under : Meanings → Option (List ℕ) → (fresh : List ℕ) → PpkVersionKey → PpkEncryptionConfig
+    → SshBasePrivateKey → (comment : List ℕ) → Bool
 asks_under m None fresh version config key comment = false
 asks_under m (Some pass) fresh version config key comment = sealed_asks m pass fresh version config key comment
 
