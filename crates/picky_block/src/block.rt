@@ -76,7 +76,7 @@ impl BlockDecoder {
         self.tail.as_slice().len()
     }
 
-    /// The lines, joined: they are written again from what is kept.
+    /// The lines, joined: they are written again from what is kept. Refuses: `NoMemory`.
     pub fn to_text(&self) -> Result<String, NoMemory>
         ensures { IfOk result (λ text. string_bytes text ≡ self.now) }
     {

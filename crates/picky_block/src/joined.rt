@@ -27,6 +27,7 @@ impl JoinedLines {
     }
 
     /// Appends a line of any length. The first one that the decoder refuses turns what was decoded back into its text.
+    /// Refuses: `NoMemory`.
     pub fn push(&mut self, line: &str) -> Result<(), NoMemory>
         ensures behind { OnOk result (joined_text self.new ≡ joined_text self.old ++ line.now) }
         ensures kept { OnErr result (joined_text self.new ≡ joined_text self.old) }
@@ -49,7 +50,7 @@ impl JoinedLines {
     }
 
     /// The bytes whose base64 the lines are, joined; or, where a line was refused or characters are pending, the lines,
-    /// joined.
+    /// joined. Refuses: `NoMemory`.
     pub fn finish(self) -> Result<Result<Bytes, String>, NoMemory>
         ensures bytes { IfOk result (λ done. IfOk done (λ bytes. joined_text self ≡ base64_of bytes)) }
         ensures small { IfOk result (λ done. IfOk done (λ bytes. IsBytes bytes)) }

@@ -21,7 +21,7 @@ use picky_wire::{List, NoMemory, Part, Text, decode_items};
 use std::alloc::Global;
 
 impl<'a> CertView<'a> {
-    /// A copy of the certificate, which has no comment.
+    /// A copy of the certificate, which has no comment. Refuses: `NoMemory`.
     pub fn to_certificate(&self, alloc: Global) -> Result<SshCertificate, NoMemory>
         requires is { IsCertificate (cert_seen self.now) }
         requires items { HasItems (body_in self.now) }

@@ -36,6 +36,9 @@ impl SshCertificate {
 }
 
 /// What a line means. Its bytes need not be UTF-8.
+///
+/// Refuses, in order: `InvalidUtf8` and `InvalidCertificateKeyType` for the name, `TooLong`, `Base64DecodeError`, the
+/// bytes' by field, `InvalidUtf8` for the comment.
 #[tactic(auto, unfolding(crate::specs::LineRefusal::line_meaning))]
 pub fn certificate_of_line(
     alloc: Global,

@@ -18,7 +18,7 @@ pub trait Listed {
     // its one spelling
     ghost spelled: { Self → List ℕ };
 
-    /// Appends the spelling; on an error, a front of it.
+    /// Appends the spelling. Refuses: want of memory; what was appended then is left open.
     fn push_to(&self, out: &mut Vec<u8>) -> Result<(), AllocError>
         ensures { OnOk result (out.new.items ≡ out.old.items ++ spelled self.now) };
 }

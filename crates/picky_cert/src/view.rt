@@ -69,6 +69,7 @@ impl<'a> CertView<'a> {
 }
 
 /// The certificate that the bytes begin with, whose parts keep their ranges.
+/// Refuses, in order: as `body_at`; as `signature_at`.
 #[tactic(auto, using(crate::proofs::KeepLaws::seen_is_certificate, crate::proofs::NameLemmas::seen_is_refusal))]
 pub fn certificate_at<'a>(blob: &'a [u8]) -> Result<(CertView<'a>, usize), Stopped<'a>>
     requires { length blob.now < 2 ^ 32 }

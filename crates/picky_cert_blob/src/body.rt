@@ -20,9 +20,9 @@ pub struct BodyView<'a> {
 
 /// All that stands before the signature of the certificate at a place, and the place of the signature.
 ///
-/// OpenSSH's PROTOCOL.certkeys, from the type's name to the signature key. Refuses at the first part that doesn't fit, in the
-/// order of `CertPart`, and there, in order: `Short`, `NotUtf8`, `Name`, `Length`, `Number`. A list is refused at its first
-/// item that doesn't fit. What is reserved, and what follows the issuer's key inside its string, is passed over.
+/// OpenSSH's PROTOCOL.certkeys, from the type's name to the signature key. Refuses at the first part that doesn't fit,
+/// in the order of `CertPart`, and there, in order, by field: `Short`, `NotUtf8`, `Name`, `Length`, `Number`; in a list
+/// at the first item that doesn't fit. What is reserved, or follows the issuer's key in its string, is passed over.
 #[tactic(auto, unfolding(crate::specs::Layout::body))]
 pub fn body_at<'a>(blob: &'a [u8], from: usize) -> Result<(BodyView<'a>, usize), Stopped<'a>>
     requires { length blob.now < 2 ^ 32 }

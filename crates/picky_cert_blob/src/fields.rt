@@ -11,7 +11,7 @@ use crate::part::CertPart;
 use crate::stopped::Stopped;
 use picky_wire::{Part, Word, string_at, text_at, uint32_at, uint64_at, word_at};
 
-/// A string's bytes.
+/// A string's bytes. Refuses at the part: `Short`.
 pub fn string_in<'a>(
     blob: &'a [u8],
     from: usize,
@@ -25,7 +25,7 @@ pub fn string_in<'a>(
     }
 }
 
-/// A string's bytes, which are UTF-8.
+/// A string's bytes, which are UTF-8. Refuses at the part, in order: `Short`, `NotUtf8`.
 pub fn text_in<'a>(
     blob: &'a [u8],
     from: usize,
@@ -39,7 +39,7 @@ pub fn text_in<'a>(
     }
 }
 
-/// A string's bytes, which are UTF-8, with the text that they are.
+/// A string's bytes, which are UTF-8, with the text that they are. Refuses at the part, in order: `Short`, `NotUtf8`.
 pub fn word_in<'a>(
     blob: &'a [u8],
     from: usize,
@@ -53,7 +53,7 @@ pub fn word_in<'a>(
     }
 }
 
-/// A number of four bytes.
+/// A number of four bytes. Refuses at the part: `Short`.
 pub fn uint32_in<'a>(
     blob: &'a [u8],
     from: usize,
@@ -67,7 +67,7 @@ pub fn uint32_in<'a>(
     }
 }
 
-/// A number of eight bytes.
+/// A number of eight bytes. Refuses at the part: `Short`.
 pub fn uint64_in<'a>(
     blob: &'a [u8],
     from: usize,

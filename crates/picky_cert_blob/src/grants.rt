@@ -26,6 +26,7 @@ pub struct GrantsView<'a> {
 }
 
 /// The grants that stand at a place, and the place after them.
+/// Refuses as `body_at`, at the parts from `Options` to `Issuer`.
 #[tactic(auto, unfolding(crate::specs::Layout::grants))]
 pub fn grants_at<'a>(blob: &'a [u8], from: usize) -> Result<(GrantsView<'a>, usize), Stopped<'a>>
     requires { length blob.now < 2 ^ 32 }

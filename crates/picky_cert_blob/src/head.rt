@@ -35,6 +35,7 @@ pub struct NamedType<'a> {
 }
 
 /// The head of the certificate that stands at a place, and the place after it.
+/// Refuses as `body_at`, at the parts from `Name` to `Subject`.
 #[tactic(auto, unfolding(crate::specs::Layout::head))]
 pub fn head_at<'a>(blob: &'a [u8], from: usize) -> Result<(HeadView<'a>, usize), Stopped<'a>>
     requires { length blob.now < 2 ^ 32 }

@@ -22,6 +22,7 @@ pub trait Item {
     ghost item: { Grammar CertReason Self.Value };
 
     /// The place after the item that stands at a place.
+    /// Refuses at the list's part, in order, by field: `Short`, `NotUtf8`, and for a critical option's name `Name`.
     fn pass<'a>(bytes: &'a [u8], from: usize) -> Result<usize, Stopped<'a>>
         ensures { IsPassed item bytes.now from result };
 
@@ -29,6 +30,7 @@ pub trait Item {
 }
 
 /// A list inside a string.
+/// Refuses, in order: `Short` at the part where the string is cut; as `Item::pass` at the first item that doesn't fit.
 pub fn list_at<'a, I: Item>(
     blob: &'a [u8],
     from: usize,

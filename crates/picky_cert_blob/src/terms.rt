@@ -28,6 +28,7 @@ pub struct TermsView<'a> {
 }
 
 /// The terms that stand at a place, and the place after them.
+/// Refuses as `body_at`, at the parts from `Serial` to `Before`.
 #[tactic(auto, unfolding(crate::specs::Layout::terms))]
 pub fn terms_at<'a>(blob: &'a [u8], from: usize) -> Result<(TermsView<'a>, usize), Stopped<'a>>
     ensures seen { SeenIn terms_seen (TermsLie blob.now from) terms_layout blob.now from result }

@@ -11,6 +11,7 @@ use picky_wire::{Bytes, CodecError, Source, SshReadExt, Text, read_byte, read_ui
 use std::alloc::Global;
 
 /// A text, as `read_ssh_string` reads it.
+/// Refuses, in order: `E`'s error for `ReadFault`, `UnexpectedEnd`, `InvalidUtf8`.
 #[tactic(auto, using(crate::proofs::FieldLemmas::layer_fields))]
 pub fn text_field<E: CodecError, S: Source>(alloc: Global, stream: &mut S) -> Result<Text, E>
     ensures takes { Takes S.tells S.left S.known S.faults (causes_of E.of_wire) (field E.of_wire text).read text.used result stream.old stream.new }
@@ -22,7 +23,7 @@ pub fn text_field<E: CodecError, S: Source>(alloc: Global, stream: &mut S) -> Re
     }
 }
 
-/// A string's bytes, as `read_ssh_bytes` reads them.
+/// A string's bytes, as `read_ssh_bytes` reads them. Refuses, in order: `E`'s error for `ReadFault`, `UnexpectedEnd`.
 #[tactic(auto, using(crate::proofs::FieldLemmas::layer_fields))]
 pub fn bytes_field<E: CodecError, S: Source>(alloc: Global, stream: &mut S) -> Result<Bytes, E>
     ensures takes { Takes S.tells S.left S.known S.faults (causes_of E.of_wire) (field E.of_wire string).read string.used result stream.old stream.new }
@@ -34,7 +35,7 @@ pub fn bytes_field<E: CodecError, S: Source>(alloc: Global, stream: &mut S) -> R
     }
 }
 
-/// A number of four bytes.
+/// A number of four bytes. Refuses, in order: `E`'s error for `ReadFault`, `UnexpectedEnd`.
 #[tactic(auto, using(crate::proofs::FieldLemmas::layer_fields))]
 pub fn uint32_field<E: CodecError, S: Source>(stream: &mut S) -> Result<u32, E>
     ensures takes { Takes S.tells S.left S.known S.faults (causes_of E.of_wire) (field E.of_wire uint32).read uint32.used result stream.old stream.new }
@@ -46,7 +47,7 @@ pub fn uint32_field<E: CodecError, S: Source>(stream: &mut S) -> Result<u32, E>
     }
 }
 
-/// A number of one byte.
+/// A number of one byte. Refuses, in order: `E`'s error for `ReadFault`, `UnexpectedEnd`.
 #[tactic(auto, using(crate::proofs::FieldLemmas::layer_fields))]
 pub fn byte_field<E: CodecError, S: Source>(stream: &mut S) -> Result<u8, E>
     ensures takes { Takes S.tells S.left S.known S.faults (causes_of E.of_wire) (field E.of_wire byte).read byte.used result stream.old stream.new }

@@ -140,6 +140,8 @@ pub fn convert_key<S: Suite>(
 }
 
 /// The line of the certificate that the request asks of what a text means.
+///
+/// Refuses, in order: `Input` as `read_text`; and as `picky_cert_target::write_certificate`.
 pub fn certify<S: Suite, G: Signer>(
     alloc: Global,
     suite: &mut S,
@@ -164,6 +166,8 @@ pub fn certify<S: Suite, G: Signer>(
 }
 
 /// What is to be signed of it, as bytes.
+///
+/// Refuses, in order: `Input` as `read_text`; and as `picky_cert_target::write_signed_bytes`.
 pub fn bytes_to_sign<S: Suite>(
     alloc: Global,
     suite: &mut S,

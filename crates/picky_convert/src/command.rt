@@ -176,6 +176,8 @@ fn file_of(version: PpkVersion) -> KeyTarget
 }
 
 /// The text that the command writes for these bytes, or the status that says why it writes none.
+///
+/// Refuses, in order: `InputNotUtf8`; `Refused` or, in place of the suite's or the signer's fault, `OutsideFault`.
 pub fn perform<S: Suite, G: Signer>(
     alloc: Global,
     command: Command,

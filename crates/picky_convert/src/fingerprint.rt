@@ -7,7 +7,7 @@ use base64::engine::general_purpose::STANDARD_NO_PAD;
 use picky_sshpub::SshPublicKey;
 use std::alloc::{AllocError, Global};
 
-/// The MD5, SHA-1 and SHA-256 digests of the key's blob, a line each.
+/// The MD5, SHA-1 and SHA-256 digests of the key's blob, a line each. Refuses: want of memory.
 #[tactic(auto, unfolding(crate::specs::Fingerprint::fingerprint_lines, picky_text::specs::Lines::text_of))]
 pub fn fingerprint_text(alloc: Global, key: &SshPublicKey) -> Result<String, AllocError>
     ensures { IfOk result (λ text. string_bytes text ≡ text_of_key key.now.inner_key) }

@@ -26,6 +26,7 @@ pub enum InputError {
 }
 
 /// All bytes that the source has left. Of those past the limit at most one is taken.
+/// Refuses, in order: `ReadFault`, `TooLong`.
 pub fn read_input<S: Source>(alloc: Global, source: &mut S) -> Result<Vec<u8>, InputError>
     ensures whole { S.tells source.old → IfOk result (λ v. v.items ≡ S.left source.old) }
     ensures end { S.tells source.old → OnOk result (S.left source.new ≡ []) }

@@ -1,4 +1,5 @@
-//! What a key text means, in each of its forms: OpenSSH's private key, PuTTY's private and public key, and a public key line.
+//! What a key text means, in each of its forms: OpenSSH's private key, PuTTY's private and public key, a certificate,
+//! and a public key line.
 #![tactic(auto)]
 
 mod error;

@@ -45,7 +45,7 @@ impl TryClone for Meaning {
     }
 }
 
-/// The public part of the key, with the comment.
+/// The public part of the key, with the comment. Refuses: `NoMemory`.
 pub fn public_key(alloc: Global, meaning: Meaning) -> Result<SshPublicKey, NoMemory>
     ensures { IfOk result (λ key. key ≡ public_key_of meaning) }
 {

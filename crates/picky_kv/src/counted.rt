@@ -40,7 +40,7 @@ pub(crate) fn take_counted(
     Ok(block)
 }
 
-/// The value of the lines, joined.
+/// The value of the lines, joined. Refuses, in order: `InvalidInput`, `TooLong`.
 pub(crate) fn block_value<K: PpkLiteral, V: PpkBlock>(
     alloc: Global,
     block: JoinedLines,

@@ -63,7 +63,7 @@ impl<'a> PuttyKvReader<'a> {
         }
     }
 
-    /// The value of the next line, with the refusals of `next_key_value`.
+    /// The value of the next line. Refuses as `next_key_value`.
     pub fn next_value<T: PpkKeyValue>(&mut self, alloc: Global) -> Result<T::Value, KvError>
         ensures gives { Gives KvError.NoMemory (λ value. (value, self.new)) result
             (value_alone (next_pair T.Key.field T.Value.field T.Key.name self.old)) }
@@ -95,7 +95,7 @@ impl<'a> PuttyKvReader<'a> {
         }
     }
 
-    /// The value of the next block, with the refusals of `next_multiline_key_value`.
+    /// The value of the next block. Refuses as `next_multiline_key_value`.
     pub fn next_multiline_value<T: PpkMultilineKeyValue>(
         &mut self,
         alloc: Global,
@@ -153,6 +153,7 @@ fn key_and_value(line: &str) -> Option<(&str, &str)>
     line.split_once(SEPARATOR)
 }
 
+/// The value of a text in a line whose key is of type `K`. Refuses, in order: `InvalidInput`, `TooLong`.
 pub(crate) fn read_in<K: PpkLiteral, V: PpkField>(alloc: Global, text: &str) -> Result<V, KvError>
     ensures { Gives KvError.NoMemory (λ value. value) result (in_context K.name (field_value V.field text.now)) }
 {

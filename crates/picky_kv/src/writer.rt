@@ -79,7 +79,7 @@ impl PuttyKvWriter {
         }
     }
 
-    /// The same with the key's one value.
+    /// The same with the key's one value. Refuses as `write_key_value`.
     pub fn write_value<T: PpkKeyValue>(&mut self, value: &T::Value) -> Result<(), KvError>
     where
         T::Key: PpkSingle,
@@ -112,7 +112,7 @@ impl PuttyKvWriter {
         }
     }
 
-    /// The same with the key's one value.
+    /// The same with the key's one value. Refuses as `write_multiline_key_value`.
     pub fn write_multiline_value<T: PpkMultilineKeyValue>(
         &mut self,
         value: &T::Value,

@@ -108,6 +108,7 @@ pub fn parse_pem(alloc: Global, text: &str) -> Result<Pem, PemError>
 /// The armoured text of a content of any length, in a buffer that doesn't grow.
 ///
 /// Header, base64 in rows of 64 characters and footer, each ended by LF (OpenSSH's PROTOCOL.key).
+/// Refuses: want of memory.
 pub fn pem_text(alloc: Global, content: &[u8]) -> Result<String, AllocError>
     ensures { IfOk result (λ text. string_bytes text ≡ text_for content.now) }
 {

@@ -97,7 +97,7 @@ fn unsealed_file(alloc: Global, file: &PpkFile, version: PpkVersion) -> Result<P
     })
 }
 
-/// The file with its own MAC.
+/// The file with its own MAC. Refuses: `NoMemory`.
 #[tactic(auto, using(crate::proofs::CheckedLaws::mac_laws))]
 pub fn remade<S: Suite>(alloc: Global, suite: &S, file: PpkFile) -> Result<Ppk, PuttyError>
     requires { is_sealed file.sealing ≡ false }

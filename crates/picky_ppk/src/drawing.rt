@@ -18,7 +18,7 @@ pub struct SaltAndPadding {
     pub padding: Vec<u8>,
 }
 
-/// What a generator gives for a file: first a salt, in version 3, and then the padding.
+/// What a generator gives for a file: first a salt, in version 3, and then the padding. Refuses: `NoMemory`.
 pub fn fresh<R: Rng>(
     alloc: Global,
     ppk: &Ppk,

@@ -93,7 +93,7 @@ impl FileKeys {
         }
     }
 
-    /// The MAC of a file with these private bytes, which aren't sealed.
+    /// The MAC of a file with these private bytes, which aren't sealed. Refuses: `NoMemory`.
     pub fn mac<S: Suite>(
         &self,
         alloc: Global,

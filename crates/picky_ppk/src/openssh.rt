@@ -68,7 +68,7 @@ impl Ppk {
 
     /// The private key in the file, as OpenSSH has it. Refuses, in order: `Encrypted`; `SshPublicKey` with what is wrong
     /// with the blob; `NotSupported` (`unsupported key algorithm`) for DSS and Ed448; `PublicAndPrivateKeyMismatch`;
-    /// `IoError(UnexpectedEnd)`; `InvalidPrivateKeyData`; `TooLong`.
+    /// `IoError(UnexpectedEnd)`; `InvalidPrivateKeyData`.
     #[tactic(auto, unfolding(crate::specs::KeyOf::base_key_of))]
     pub fn base_key(&self, alloc: Global) -> Result<SshBasePrivateKey, PuttyError>
         ensures { Gives PuttyError.NoMemory (λ key. key) result (base_key_of self.now) }
@@ -119,7 +119,7 @@ impl Ppk {
         plain_in_blob(alloc, &self.file().public_key)
     }
 
-    /// The blob, which isn't read, and the comment, as PuTTY's public key.
+    /// The blob, which isn't read, and the comment, as PuTTY's public key. Refuses: `NoMemory`.
     pub fn extract_putty_public_key(&self, alloc: Global) -> Result<PuttyPublicKey, PuttyError>
         ensures { Gives PuttyError.NoMemory (λ key. key) result
             (Ok (record { blob = self.now.public_key; comment = self.now.comment })) }

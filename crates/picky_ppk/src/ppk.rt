@@ -155,7 +155,7 @@ fn checked<S: Suite>(alloc: Global, suite: &S, file: PpkFile) -> Result<Ppk, Put
     }
 }
 
-/// The file as it isn't sealed, with its own MAC in place of the one that it has.
+/// The file, which isn't sealed, with its own MAC in place of the one that it has. Refuses: `NoMemory`.
 pub fn with_own_mac<S: Suite>(alloc: Global, suite: &S, file: PpkFile) -> Result<Ppk, NoMemory>
     requires { is_sealed file.sealing ≡ false }
     ensures { IfOk result (λ ppk. ppk ≡ with_own_mac_of (S.meanings suite.now) file) }
@@ -191,7 +191,7 @@ fn own_mac<S: Suite>(alloc: Global, suite: &S, file: &PpkFile) -> Result<Mac, No
     Ok(Mac::of_plain(suite, file.sealing.version(), input.as_slice()))
 }
 
-/// What a file's MAC covers, with these private bytes, which aren't sealed.
+/// What a file's MAC covers, with these private bytes, which aren't sealed. Refuses: `NoMemory`.
 pub fn covered(alloc: Global, file: &PpkFile, private: &[u8]) -> Result<Vec<u8>, NoMemory>
     requires { length private.now < 2 ^ 32 }
     ensures { IfOk result (λ input. input.items ≡ covered_of file.now private.now) }
@@ -211,7 +211,7 @@ pub fn covered(alloc: Global, file: &PpkFile, private: &[u8]) -> Result<Vec<u8>,
     }
 }
 
-/// A MAC's bytes, kept.
+/// A MAC's bytes, kept. Refuses: `NoMemory`.
 pub fn mac_bytes(alloc: Global, mac: &Mac) -> Result<Bytes, NoMemory>
     ensures { IfOk result (λ bytes. bytes ≡ mac_bytes_of mac.now) }
 {

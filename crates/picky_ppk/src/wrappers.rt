@@ -116,7 +116,7 @@ impl PuttyBasePrivateKey {
     /// The key that the parts stand for. What follows the last field of the blob or of the private bytes says nothing.
     ///
     /// Refuses, in order: `SshPublicKey` with what is wrong with the blob; `NotSupported` (`unsupported key algorithm`)
-    /// for DSS and Ed448; `PublicAndPrivateKeyMismatch`; `IoError(UnexpectedEnd)`; `InvalidPrivateKeyData`; `TooLong`.
+    /// for DSS and Ed448; `PublicAndPrivateKeyMismatch`; `IoError(UnexpectedEnd)`; `InvalidPrivateKeyData`.
     pub fn to_openssh(&self, alloc: Global) -> Result<SshBasePrivateKey, PuttyError>
         ensures { Gives PuttyError.NoMemory (λ key. key) result (base_to_openssh self.now) }
     {

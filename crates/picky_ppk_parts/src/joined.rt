@@ -6,7 +6,7 @@ ghost use Rattle.std.specs.List.{concat};
 use picky_wire::{NoMemory, Piece, pieces_len, push_pieces};
 use std::alloc::{AllocError, Global};
 
-/// The fields' bytes.
+/// The fields' bytes. Refuses: `NoMemory`.
 pub fn joined(alloc: Global, fields: &[Piece<'_>]) -> Result<Vec<u8>, NoMemory>
     ensures { IfOk result (λ bytes. bytes.items ≡ concat fields.now) }
 {

@@ -19,7 +19,7 @@ use std::alloc::Global;
 ///
 /// Refuses, in order: `SshPublicKey` with what is wrong with the blob; `NotSupported` (`unsupported key algorithm`) for
 /// DSS and Ed448; `PublicAndPrivateKeyMismatch`, where the blob is of another kind or curve; `IoError(UnexpectedEnd)`;
-/// `InvalidPrivateKeyData`, where an Ed25519 secret has more than 32 bytes without its leading zeros; `TooLong`.
+/// `InvalidPrivateKeyData`, where an Ed25519 secret has more than 32 bytes without its leading zeros.
 #[tactic(auto, unfolding(crate::specs::PartsRefusal::parts_key))]
 pub fn private_key_of(
     alloc: Global,

@@ -34,7 +34,7 @@ impl Generator {
         (self.state >> 56) as u8
     }
 
-    /// The next bytes, behind what there is.
+    /// The next bytes, behind what there is. Refuses: want of memory.
     pub fn append(&mut self, bytes: &mut Vec<u8>, len: usize) -> Result<(), AllocError>
         ensures bytes { OnOk result (bytes.new.items ≡ bytes.old.items ++ drawn len self.old.state) }
         ensures state { OnOk result (self.new.state ≡ after len self.old.state) }
@@ -46,7 +46,7 @@ impl Generator {
         Ok(())
     }
 
-    /// The next bytes.
+    /// The next bytes. Refuses: want of memory.
     pub fn bytes(&mut self, alloc: Global, len: usize) -> Result<Vec<u8>, AllocError>
         ensures bytes { IfOk result (λ bytes. bytes.items ≡ drawn len self.old.state) }
         ensures state { OnOk result (self.new.state ≡ after len self.old.state) }

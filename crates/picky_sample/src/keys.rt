@@ -12,7 +12,7 @@ use picky_sshkey_blob::SshBasePrivateKey;
 use picky_wire::{Bytes, Mpint, Text};
 use std::alloc::{AllocError, Global};
 
-/// The key with a number, and its comment.
+/// The key with a number, and its comment. Refuses: want of memory.
 pub fn meaning_of(alloc: Global, number: u16) -> Result<Meaning, AllocError>
     ensures { IfOk result (λ meaning. meaning ≡ meaning_at number) }
 {

@@ -21,7 +21,7 @@ use picky_wire::{NoMemory, Text};
 use sha2::{Digest, Sha256};
 use std::alloc::Global;
 
-/// Feeds the texts of the key with a number, in their order, and counts them.
+/// Feeds the texts of the key with a number, in their order, and counts them. Refuses: `NoMemory`.
 pub fn feed_texts<S: Suite>(
     alloc: Global,
     suite: &mut S,

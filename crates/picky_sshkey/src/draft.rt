@@ -48,6 +48,7 @@ fn may_derive(key: &SshPrivateKey) -> bool
 }
 
 /// The public key's blob and the block of a key, where its passphrase may be derived from and its envelope is short.
+/// Refuses, in order: `HashingError`, `TooLong`.
 #[tactic(auto, using(crate::proofs::WrittenLemmas::lengths))]
 pub fn draft_of(alloc: Global, key: &SshPrivateKey) -> Result<Draft, SshPrivateKeyError>
     ensures ok { IfOk result (λ draft. IsDraft key.now draft) }

@@ -55,7 +55,7 @@ impl TryClone for Kdf {
 }
 
 impl Kdf {
-    /// No derivation: the name `none`, no salt and 0 rounds.
+    /// No derivation: the name `none`, no salt and 0 rounds. Refuses: `NoMemory`.
     #[tactic(auto, unfolding(crate::specs::Kdf::none))]
     pub fn plain(alloc: Global) -> Result<Kdf, NoMemory>
         ensures { IfOk result (λ kdf. kdf ≡ record { name = none; option = no_option }) }
@@ -66,7 +66,7 @@ impl Kdf {
     }
 }
 
-/// The one derivation, with this salt and 16 rounds.
+/// The one derivation, with this salt and 16 rounds. Refuses: `NoMemory`.
 #[tactic(auto, unfolding(crate::specs::Kdf::bcrypt))]
 pub fn bcrypt_kdf(alloc: Global, salt: &[u8; 16]) -> Result<Kdf, NoMemory>
     ensures { IfOk result (λ kdf. kdf ≡ record { name = bcrypt; option = record { salt = salt.now; rounds = 16 } }) }
@@ -76,7 +76,7 @@ pub fn bcrypt_kdf(alloc: Global, salt: &[u8; 16]) -> Result<Kdf, NoMemory>
     Ok(Kdf { name, option })
 }
 
-/// The salt and the rounds as a value.
+/// The salt and the rounds as a value. Refuses: `NoMemory`.
 pub fn option_of(alloc: Global, salt: &[u8], rounds: u32) -> Result<KdfOption, NoMemory>
     requires { length salt.now < 2 ^ 32 }
     ensures { IfOk result (λ option. option ≡ record { salt = salt.now; rounds = rounds }) }

@@ -31,6 +31,10 @@ impl SshComplexTypeEncode for KdfOption {
 
     ghost reason_is_no_want = { unwritten_for_length };
 
+    /// Writes a string of the salt and the rounds, which is empty where there is no salt and 0 rounds.
+    ///
+    /// OpenSSH's PROTOCOL.key, section 2. Refuses, in order: `TooLong`, where the salt has 2^32 - 8 bytes or more;
+    /// `WriteFault`.
     fn encode<S: Sink>(&self, stream: &mut S) -> Result<(), WireError> {
         if self.salt.as_slice().len() >= SALT_ROOM {
             return Err(WireError::TooLong);
@@ -57,6 +61,10 @@ impl SshComplexTypeDecode for KdfOption {
 
     ghost own = { option_own };
 
+    /// The salt and the rounds that a string begins with; no salt and 0 rounds, where it is empty.
+    ///
+    /// OpenSSH's PROTOCOL.key, section 2. Refuses, in order: `ReadFault`; `UnexpectedEnd`, where the string or a field in
+    /// it is cut.
     #[tactic(auto, unfolding(crate::specs::KdfLayout::read_option))]
     fn decode<S: Source>(alloc: Global, stream: &mut S) -> Result<KdfOption, WireError> {
         match stream.read_ssh_bytes(alloc) {

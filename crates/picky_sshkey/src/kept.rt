@@ -21,7 +21,7 @@ pub fn kept_text(alloc: Global, text: &str) -> Result<Text, SshPrivateKeyError>
     }
 }
 
-/// The same of a passphrase, where there is one.
+/// The same of a passphrase, where there is one. Refuses as `kept_text`.
 pub fn kept_pass(alloc: Global, pass: Option<&str>) -> Result<Option<Text>, SshPrivateKeyError>
     ensures { Gives SshPrivateKeyError.NoMemory (λ pass. pass) result
         (if is_short_text (option_copied pass.entry) then Ok (option_copied pass.entry) else Err SshPrivateKeyError.TooLong) }
@@ -35,7 +35,7 @@ pub fn kept_pass(alloc: Global, pass: Option<&str>) -> Result<Option<Text>, SshP
     }
 }
 
-/// A text that is short.
+/// A text that is short. Refuses: `NoMemory`.
 pub fn name_text(alloc: Global, name: &str) -> Result<Text, NoMemory>
     requires { length name.now < 2 ^ 32 }
     ensures { IfOk result (λ text. text ≡ name.now) }

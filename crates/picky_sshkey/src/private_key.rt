@@ -81,7 +81,7 @@ impl SshPrivateKey {
         }
     }
 
-    /// The key without a passphrase and a comment.
+    /// The key without a passphrase and a comment. Refuses: `NoMemory`.
     pub fn from_private_key(alloc: Global, key: PrivateKey) -> Result<SshPrivateKey, NoMemory>
         ensures { IfOk result (λ made. made ≡ made_of (base_made key) None [] []) }
     {
@@ -216,7 +216,7 @@ fn made(
     }
 }
 
-/// The public key of a private one, with an empty comment.
+/// The public key of a private one, with an empty comment. Refuses: `NoMemory`.
 pub fn public_key_of(alloc: Global, base: &SshBasePrivateKey) -> Result<SshPublicKey, NoMemory>
     ensures { IfOk result (λ key. key ≡ record { inner_key = public_part base.now; comment = [] }) }
 {

@@ -10,7 +10,7 @@ use crate::cipher::Cipher;
 use picky_suite::Suite;
 use picky_wire::Failed;
 
-/// Opens a block, and seals one in counter mode.
+/// Opens a block, and seals one in counter mode. Refuses: `Failed`.
 #[tactic(auto, unfolding(crate::specs::Opened::opened))]
 pub fn open<S: Suite>(
     suite: &mut S,

@@ -27,6 +27,7 @@ impl SshComplexTypeEncode for SshBasePrivateKey {
 
     ghost reason_is_no_want = { λ key same. Prim.cc same };
 
+    /// Writes the blob (OpenSSH's PROTOCOL.key). Refuses: `IoError(WriteFault)`.
     fn encode<S: Sink>(&self, stream: &mut S) -> Result<(), SshPrivateKeyError> {
         match write_pieces(stream, &secret_pieces(self)) {
             Ok(()) => Ok(()),
@@ -50,6 +51,10 @@ impl SshComplexTypeDecode for SshBasePrivateKey {
 
     ghost own = { secret_own };
 
+    /// The key of the blob that the bytes begin with (OpenSSH's PROTOCOL.key).
+    ///
+    /// Refuses, in order, by field: `IoError(ReadFault)`, `IoError(UnexpectedEnd)`, `FromUtf8Error`, `UnsupportedKeyType`,
+    /// `KeyError`, `InvalidKeyFormat`, `TooLong`.
     fn decode<S: Source>(
         alloc: Global,
         stream: &mut S,

@@ -15,6 +15,7 @@ use std::alloc::Global;
 const SECRET_LEN: usize = 32;
 
 /// The key whose fields follow the name of its kind.
+/// Refuses, in order, by field: `Fault`, `Short`, `NotUtf8`, `Length`, `Magic` for the secret of Ed25519, `TooLong`.
 pub fn take_fields<S: Source>(
     alloc: Global,
     stream: &mut S,

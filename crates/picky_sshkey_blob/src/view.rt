@@ -82,7 +82,7 @@ impl<'a> PrivateView<'a> {
         }
     }
 
-    /// A copy of the key.
+    /// A copy of the key. Refuses: `NoMemory`.
     pub fn to_key(&self, alloc: Global) -> Result<SshBasePrivateKey, NoMemory>
         requires { IsPrivateKey (key_seen self.now) }
         ensures { IfOk result (λ key. key ≡ key_seen self.now) }

@@ -19,6 +19,7 @@ use picky_wire::{Part, Stuck, byte_at, mpint_at, string_at, text_at};
 const SECRET_LEN: usize = 32;
 
 /// The name of a key type, which is field 0, as the kind that it stands for.
+/// Refuses, in order: `Short`, `NotUtf8`, `Name`.
 #[tactic(auto, using(crate::proofs::ViewLemmas::kind_stopped))]
 pub fn kind_in<'a>(blob: &'a [u8], from: usize) -> Result<(KeyKind, usize), Stopped<'a>>
     ensures { SeenAt (λ kind. kind) (λ _. ⊤) key_type blob.now from result }
@@ -29,7 +30,7 @@ pub fn kind_in<'a>(blob: &'a [u8], from: usize) -> Result<(KeyKind, usize), Stop
     }
 }
 
-/// A number.
+/// A number. Refuses at the field: `Short`.
 pub fn mpint_in<'a>(
     blob: &'a [u8],
     from: usize,
@@ -44,7 +45,7 @@ pub fn mpint_in<'a>(
     }
 }
 
-/// A string's bytes.
+/// A string's bytes. Refuses at the field: `Short`.
 pub fn string_in<'a>(
     blob: &'a [u8],
     from: usize,
@@ -58,7 +59,7 @@ pub fn string_in<'a>(
     }
 }
 
-/// A string's bytes, which are UTF-8.
+/// A string's bytes, which are UTF-8. Refuses at the field, in order: `Short`, `NotUtf8`.
 pub fn text_in<'a>(
     blob: &'a [u8],
     from: usize,
@@ -72,7 +73,7 @@ pub fn text_in<'a>(
     }
 }
 
-/// A number of one byte.
+/// A number of one byte. Refuses at the field: `Short`.
 pub fn byte_in<'a>(blob: &'a [u8], from: usize, field: usize) -> Result<(u8, usize), Stopped<'a>>
     ensures { SeenAt (λ n. n) (λ _. ⊤) (at field byte) blob.now from result }
 {
@@ -82,7 +83,7 @@ pub fn byte_in<'a>(blob: &'a [u8], from: usize, field: usize) -> Result<(u8, usi
     }
 }
 
-/// A public key of Ed25519, which is field 1 of each layout that has one.
+/// A public key of Ed25519, which is field 1 of each layout that has one. Refuses, in order: `Short`, `Length`.
 #[tactic(auto, using(crate::proofs::ViewLemmas::ed_key_stopped))]
 pub fn ed_key_in<'a>(blob: &'a [u8], from: usize) -> Result<(Part<'a>, usize), Stopped<'a>>
     ensures { SeenAt part_bytes (Lies blob.now (end_of (ed_key 1) blob.now from)) (ed_key 1) blob.now from result }
@@ -94,6 +95,7 @@ pub fn ed_key_in<'a>(blob: &'a [u8], from: usize) -> Result<(Part<'a>, usize), S
 }
 
 /// The secret of Ed25519, which is field 2, before the copy of the public key.
+/// Refuses at the field, in order: `Short`; `Length`, also where the copy differs.
 #[tactic(auto, using(crate::proofs::ViewLemmas::secret_seen), unfolding(crate::specs::Blob::ed_secret))]
 pub fn ed_secret_in<'a>(
     blob: &'a [u8],

@@ -18,7 +18,7 @@ use picky_wire::{
 };
 use std::alloc::Global;
 
-/// The key of a blob.
+/// The key of a blob. Refuses, in order, by field: `Fault`, `Short`, `NotUtf8`, `Name`, `Length`, `TooLong`.
 #[tactic(auto, unfolding(crate::specs::Blob::blob))]
 pub fn take_blob<S: Source>(alloc: Global, stream: &mut S) -> Result<SshBasePublicKey, Stop>
     ensures { TakesLayout S.tells S.left S.known S.faults stop_of blob result stream.old stream.new }
@@ -142,6 +142,7 @@ impl SshComplexTypeEncode for SshBasePublicKey {
 
     ghost reason_is_no_want = { λ key same. Prim.cc same };
 
+    /// Writes the blob (RFC 4253, section 6.6). Refuses: `IoError(WriteFault)`.
     fn encode<S: Sink>(&self, stream: &mut S) -> Result<(), SshPublicKeyError> {
         match write_pieces(stream, &pieces(self)) {
             Ok(()) => Ok(()),
@@ -165,6 +166,10 @@ impl SshComplexTypeDecode for SshBasePublicKey {
 
     ghost own = { blob_own };
 
+    /// The key of the blob that the bytes begin with (RFC 4253, section 6.6).
+    ///
+    /// Refuses, in order, by field: `IoError(ReadFault)`, `IoError(UnexpectedEnd)`, `InvalidUtf8`, `UnknownKeyType`,
+    /// `KeyError`, `TooLong`.
     #[tactic(auto, unfolding(crate::specs::BlobRefusal::read_blob))]
     fn decode<S: Source>(
         alloc: Global,

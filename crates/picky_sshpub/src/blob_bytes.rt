@@ -68,7 +68,7 @@ fn key_of_long(alloc: Global, blob: &[u8]) -> Result<SshBasePublicKey, SshPublic
     }
 }
 
-/// The blob of a key.
+/// The blob of a key. Refuses: `NoMemory`.
 pub fn bytes_of(alloc: Global, key: &SshBasePublicKey) -> Result<Vec<u8>, NoMemory>
     ensures { IfOk result (λ blob. blob.items ≡ blob_of key.now) }
 {

@@ -76,6 +76,7 @@ impl SshPublicKey {
 }
 
 /// What a line means. Its bytes need not be UTF-8.
+/// Refuses, in order: as `SshPublicKey::from_str`; `InvalidUtf8` for the comment.
 #[tactic(auto, unfolding(crate::specs::LineRefusal::line_meaning))]
 pub fn key_of_line(alloc: Global, line: &[u8]) -> Result<SshPublicKey, SshPublicKeyError>
     ensures gives { Gives SshPublicKeyError.NoMemory (λ key. key) result (line_meaning line.now) }

@@ -9,7 +9,7 @@ use picky_keys::KeyKind;
 use picky_wire::{Source, Stop, take_bytes, take_text};
 use std::alloc::Global;
 
-/// The name of a key type, as the kind that it stands for.
+/// The name of a key type, as the kind that it stands for. Refuses, in order: `Fault`, `Short`, `NotUtf8`, `Name`.
 #[tactic(auto, unfolding(crate::specs::Blob::key_type))]
 pub fn take_kind<S: Source>(alloc: Global, stream: &mut S) -> Result<KeyKind, Stop>
     ensures { TakesLayout S.tells S.left S.known S.faults stop_of key_type result stream.old stream.new }
@@ -21,7 +21,7 @@ pub fn take_kind<S: Source>(alloc: Global, stream: &mut S) -> Result<KeyKind, St
     }
 }
 
-/// A string of 32 bytes.
+/// A string of 32 bytes. Refuses, in order: `Fault`, `Short`, `Length`.
 #[tactic(auto, unfolding(crate::specs::Blob::ed_key))]
 pub fn take_ed_key<S: Source>(alloc: Global, stream: &mut S) -> Result<[u8; 32], Stop>
     ensures { TakesLayout S.tells S.left S.known S.faults stop_of (ed_key 1) result stream.old stream.new }

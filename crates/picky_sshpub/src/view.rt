@@ -48,7 +48,7 @@ impl<'a> PublicView<'a> {
         key_at(blob, 0)
     }
 
-    /// A copy of the key.
+    /// A copy of the key. Refuses: `NoMemory`.
     pub fn to_key(&self, alloc: Global) -> Result<SshBasePublicKey, NoMemory>
         requires { IsKey (key_seen self.now) }
         ensures { IfOk result (λ key. key ≡ key_seen self.now) }

@@ -20,7 +20,7 @@ use picky_keys::{Issuer, SignatureAlgorithm};
 use picky_wire::{Bytes, Failed};
 use std::alloc::Global;
 
-/// What is sealed is opened, under the same key and iv.
+/// What is sealed is opened, under the same key and iv. Refuses: `Failed`.
 pub fn what_is_sealed_is_opened<S: Suite>(
     suite: &mut S,
     key: &[u8],
@@ -35,7 +35,7 @@ pub fn what_is_sealed_is_opened<S: Suite>(
     suite.cbc_open(key, iv, block)
 }
 
-/// The counter cipher undoes itself, under the same key and iv.
+/// The counter cipher undoes itself, under the same key and iv. Refuses: `Failed`.
 pub fn the_counter_cipher_undoes_itself<S: Suite>(
     suite: &mut S,
     key: &[u8],
@@ -50,6 +50,7 @@ pub fn the_counter_cipher_undoes_itself<S: Suite>(
 }
 
 /// What is sealed under a key and an iv that were derived is opened under those that are derived again.
+/// Refuses: `Failed`.
 pub fn what_is_sealed_under_a_passphrase_is_opened<S: Suite>(
     suite: &mut S,
     pass: &[u8],
@@ -66,6 +67,7 @@ pub fn what_is_sealed_under_a_passphrase_is_opened<S: Suite>(
 }
 
 /// Where the range is tested first, the suite is asked only inside it, and its fault comes only there.
+/// Refuses: `Failed`.
 pub fn a_tested_range_is_asked<S: Suite>(
     suite: &mut S,
     pass: &[u8],
@@ -86,7 +88,7 @@ pub fn a_tested_range_is_asked<S: Suite>(
     Ok(true)
 }
 
-/// Two signatures of one message are good by one relation.
+/// Two signatures of one message are good by one relation. Refuses: `Failed`; `NoMemory`.
 pub fn two_signatures_are_good<G: Signer>(
     signer: &mut G,
     alloc: Global,

@@ -30,7 +30,7 @@ impl Model for MemorySuite {
 }
 
 impl MemorySuite {
-    /// Fails the calls whose numbers are listed, counted from 0 over the five calls that can fail.
+    /// Fails the calls whose numbers are listed, counted from 0 over the five calls that can fail. Refuses: `NoMemory`.
     pub fn new(alloc: Global, failing: &[u64]) -> Result<MemorySuite, NoMemory>
         ensures meanings { IfOk result (λ suite. ⟦<MemorySuite as Suite>⟧.meanings suite ≡ toy) }
         ensures calls { IfOk result

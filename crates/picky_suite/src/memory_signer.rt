@@ -31,6 +31,7 @@ impl Model for MemorySigner {
 
 impl MemorySigner {
     /// Fails the calls whose numbers are listed, counted from 0. A call that runs out of memory isn't counted.
+    /// Refuses: `NoMemory`.
     pub fn new(alloc: Global, failing: &[u64]) -> Result<MemorySigner, NoMemory>
         ensures signs { IfOk result (λ signer. (key : PublicKey) (algorithm : Algorithm) (message signature : List ℕ)
             → ⟦<MemorySigner as Signer>⟧.signs signer key algorithm message signature ↔ (signature ≡ sha256 message)) }

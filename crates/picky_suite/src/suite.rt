@@ -25,7 +25,7 @@ pub trait Suite {
     fn hmac_sha256(&self, key: &[u8], message: &[u8]) -> [u8; 32]
         ensures { result ≡ (meanings self.now).hmac_sha256 key.now message.now };
 
-    /// Derives the bytes of `out` by OpenSSH's bcrypt-pbkdf; what `out` held is no part of it.
+    /// Derives the bytes of `out` by OpenSSH's bcrypt-pbkdf; what `out` held is no part of it. Refuses: `Failed`.
     fn bcrypt(
         &mut self,
         pass: &[u8],
@@ -40,6 +40,7 @@ pub trait Suite {
             result out.old out.new self.old self.new };
 
     /// Derives the bytes of `out` by Argon2 (RFC 9106), with `memory` in KiB; what `out` held is no part of it.
+    /// Refuses: `Failed`.
     fn argon2(
         &mut self,
         flavour: Flavour,
@@ -55,21 +56,21 @@ pub trait Suite {
             ((meanings self.old).argon2 flavour memory passes parallelism pass.now salt.now)
             result out.old out.new self.old self.new };
 
-    /// Seals whole blocks in place, by AES in CBC mode.
+    /// Seals whole blocks in place, by AES in CBC mode. Refuses: `Failed`.
     fn cbc_seal(&mut self, key: &[u8], iv: &[u8; 16], block: &mut [u8]) -> Result<(), Failed>
         requires key { IsCipherKey key.now }
         requires whole { IsWhole block.old }
         ensures { Fills meanings faults ((meanings self.old).cbc_seal key.now iv.now block.old)
             result block.old block.new self.old self.new };
 
-    /// Opens whole blocks in place, by AES in CBC mode.
+    /// Opens whole blocks in place, by AES in CBC mode. Refuses: `Failed`.
     fn cbc_open(&mut self, key: &[u8], iv: &[u8; 16], block: &mut [u8]) -> Result<(), Failed>
         requires key { IsCipherKey key.now }
         requires whole { IsWhole block.old }
         ensures { Fills meanings faults ((meanings self.old).cbc_open key.now iv.now block.old)
             result block.old block.new self.old self.new };
 
-    /// Seals or opens bytes in place, by AES in CTR mode, whose first counter is the iv.
+    /// Seals or opens bytes in place, by AES in CTR mode, whose first counter is the iv. Refuses: `Failed`.
     fn ctr(&mut self, key: &[u8], iv: &[u8; 16], block: &mut [u8]) -> Result<(), Failed>
         requires { IsCipherKey key.now }
         ensures { Fills meanings faults ((meanings self.old).ctr key.now iv.now block.old)

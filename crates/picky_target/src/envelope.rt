@@ -24,6 +24,7 @@ const SALT_LEN: usize = 16;
 const ROUNDS: u32 = 16;
 
 /// OpenSSH's text of a key and a comment, sealed where there is a passphrase.
+/// Refuses as `write_text` for `OpenSsh` and a private key.
 #[tactic(auto, using(crate::proofs::EnvelopeLemmas::drafted_no_fault))]
 pub fn write_envelope<S: Suite>(
     alloc: Global,

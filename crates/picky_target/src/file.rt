@@ -36,6 +36,7 @@ const TOO_MANY: usize = 1 << 32;
 const BLOCK_LEN: usize = 16;
 
 /// PuTTY's file of a key and a comment in a version, sealed where there is a passphrase.
+/// Refuses as `write_text` for `Ppk` and a private key.
 pub fn write_file<S: Suite>(
     alloc: Global,
     suite: &mut S,

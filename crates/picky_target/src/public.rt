@@ -15,7 +15,7 @@ use picky_sshpub::{SshPublicKey, SshPublicKeyError};
 use picky_wire::Text;
 use std::alloc::Global;
 
-/// The public key line.
+/// The public key line. Refuses, in order: `CommentNotCarried`, `TooLong`.
 #[tactic(auto, unfolding(picky_sshpub::specs::LineRefusal::line_text))]
 pub fn write_line(alloc: Global, key: &SshPublicKey) -> Result<Text, ConvertError>
     ensures { Gives ConvertError.NoMemory (λ text. text) result (line_written key.now) }
@@ -30,7 +30,7 @@ pub fn write_line(alloc: Global, key: &SshPublicKey) -> Result<Text, ConvertErro
     }
 }
 
-/// PuTTY's text.
+/// PuTTY's text. Refuses, in order: `Putty(NotSupported)`, `CommentNotCarried`, `TooLong`.
 pub fn write_putty(alloc: Global, key: SshPublicKey) -> Result<Text, ConvertError>
     ensures { Gives ConvertError.NoMemory (λ text. text) result (putty_written key) }
 {

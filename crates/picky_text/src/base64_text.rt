@@ -16,7 +16,7 @@ pub enum Base64Error {
     NoMemory,
 }
 
-/// The base64 text of the bytes.
+/// The base64 text of the bytes. Refuses: want of memory.
 #[tactic(auto, unfolding(crate::specs::Base64::base64_of))]
 pub fn encode(alloc: Global, bytes: &[u8]) -> Result<String, AllocError>
     ensures text { IfOk result (λ t. string_bytes t ≡ base64_of bytes.now) }

@@ -11,6 +11,7 @@ use memchr::memchr2;
 use std::alloc::{AllocError, Global};
 
 /// Appends the text, a backslash before each backslash and quote; on an error, a front of that.
+/// Refuses: want of memory.
 pub fn push_quoted(out: &mut String, text: &str) -> Result<(), AllocError>
     ensures ok { OnOk result (AppendsAll out.old out.new (quote text.now)) }
     ensures err { OnErr result (AppendsFront out.old out.new (quote text.now)) }
@@ -26,7 +27,7 @@ pub fn push_quoted(out: &mut String, text: &str) -> Result<(), AllocError>
     Ok(())
 }
 
-/// The text that was quoted.
+/// The text that was quoted. Refuses: want of memory.
 pub fn unquoted(alloc: Global, text: &str) -> Result<String, AllocError>
     ensures { IfOk result (λ t. string_bytes t ≡ unquote text.now) }
 {

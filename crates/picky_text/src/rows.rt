@@ -9,7 +9,7 @@ ghost use Rattle.picky_text.specs.Rows.{rows_of};
 use crate::lines::LineEnd;
 use std::alloc::AllocError;
 
-/// Appends the rows of the text, each with the line's end; on an error, some front of that.
+/// Appends the rows of the text, each with the line's end; on an error, some front of that. Refuses: want of memory.
 pub fn push_rows(out: &mut String, text: &str, end: LineEnd) -> Result<(), AllocError>
     requires ascii { IsAscii text.now }
     ensures ok { OnOk result (AppendsAll out.old out.new (text_of end (rows_of text.now))) }

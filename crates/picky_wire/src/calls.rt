@@ -22,7 +22,7 @@ impl Model for FailingCalls {
 }
 
 impl FailingCalls {
-    /// No call was made yet, and those whose numbers are listed will fail, counted from 0.
+    /// No call was made yet, and those whose numbers are listed will fail, counted from 0. Refuses: `NoMemory`.
     pub fn new(alloc: Global, failing: &[u64]) -> Result<FailingCalls, NoMemory>
         ensures { IfOk result
             (λ calls. calls ≡ record { failing = failing.now; made = 0; faults = 0 }) }

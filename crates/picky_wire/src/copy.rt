@@ -7,7 +7,7 @@ use std::alloc::Global;
 
 /// A value that can be copied where there is memory for it.
 pub trait TryClone: Sized {
-    /// An equal value.
+    /// An equal value. Refuses: `NoMemory`.
     fn try_clone(&self, alloc: Global) -> Result<Self, NoMemory>
         ensures { IfOk result (λ copy. copy ≡ self.now) };
 }

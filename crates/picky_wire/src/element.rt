@@ -46,6 +46,7 @@ pub trait SshComplexTypeEncode {
     ghost keeps: { Self → Type 0 };
 
     /// Writes the value's spelling. Where the type refuses the value, nothing is written.
+    /// Refuses, in order: the type's own; its error for `WriteFault`.
     fn encode<S: Sink>(&self, stream: &mut S) -> Result<(), Self::Error>
         ensures { MatchOption (write_reason self.now)
             (Puts S.tells S.written S.faults (Self.Error.of_wire errors.WriteFault) (spelling self.now)
@@ -81,6 +82,7 @@ pub trait SshComplexTypeDecode: Sized {
     ghost used: { List ℕ → ℕ };
 
     /// The value that the source's bytes begin with. Exactly what follows it is left.
+    /// Refuses: the type's error for `ReadFault`; the type's own, where the bytes begin with no value.
     fn decode<S: Source>(alloc: Global, stream: &mut S) -> Result<Self, Self::Error>
         ensures takes { Takes S.tells S.left S.known S.faults (causes_of Self.Error.of_wire) reads used
             result stream.old stream.new }

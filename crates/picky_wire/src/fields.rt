@@ -14,7 +14,7 @@ use crate::source::Source;
 use crate::stop::Stop;
 use std::alloc::Global;
 
-/// A number, as `read_ssh_mpint` reads it.
+/// A number, as `read_ssh_mpint` reads it. Refuses, in order: `Fault`, `Short`, `TooLong`.
 #[tactic(auto, using(crate::proofs::FieldLemmas::field_stops))]
 pub fn take_mpint<S: Source>(alloc: Global, stream: &mut S) -> Result<Mpint, Stop>
     ensures takes { TakesLayout S.tells S.left S.known S.faults flaw_stop mpint result stream.old stream.new }
@@ -27,7 +27,7 @@ pub fn take_mpint<S: Source>(alloc: Global, stream: &mut S) -> Result<Mpint, Sto
     }
 }
 
-/// A string's bytes, as `read_ssh_bytes` reads them.
+/// A string's bytes, as `read_ssh_bytes` reads them. Refuses, in order: `Fault`, `Short`.
 #[tactic(auto, using(crate::proofs::FieldLemmas::field_stops))]
 pub fn take_bytes<S: Source>(alloc: Global, stream: &mut S) -> Result<Bytes, Stop>
     ensures takes { TakesLayout S.tells S.left S.known S.faults flaw_stop string result stream.old stream.new }
@@ -40,7 +40,7 @@ pub fn take_bytes<S: Source>(alloc: Global, stream: &mut S) -> Result<Bytes, Sto
     }
 }
 
-/// A text, as `read_ssh_string` reads it.
+/// A text, as `read_ssh_string` reads it. Refuses, in order: `Fault`, `Short`, `NotUtf8`.
 #[tactic(auto, using(crate::proofs::FieldLemmas::field_stops))]
 pub fn take_text<S: Source>(alloc: Global, stream: &mut S) -> Result<Text, Stop>
     ensures takes { TakesLayout S.tells S.left S.known S.faults flaw_stop text result stream.old stream.new }
@@ -53,7 +53,7 @@ pub fn take_text<S: Source>(alloc: Global, stream: &mut S) -> Result<Text, Stop>
     }
 }
 
-/// A number of one byte.
+/// A number of one byte. Refuses, in order: `Fault`, `Short`.
 #[tactic(auto, using(crate::proofs::FieldLemmas::field_stops))]
 pub fn take_byte<S: Source>(stream: &mut S) -> Result<u8, Stop>
     ensures takes { TakesLayout S.tells S.left S.known S.faults flaw_stop byte result stream.old stream.new }
@@ -65,7 +65,7 @@ pub fn take_byte<S: Source>(stream: &mut S) -> Result<u8, Stop>
     }
 }
 
-/// A number of four bytes.
+/// A number of four bytes. Refuses, in order: `Fault`, `Short`.
 #[tactic(auto, using(crate::proofs::FieldLemmas::field_stops))]
 pub fn take_uint32<S: Source>(stream: &mut S) -> Result<u32, Stop>
     ensures takes { TakesLayout S.tells S.left S.known S.faults flaw_stop uint32 result stream.old stream.new }
@@ -77,7 +77,7 @@ pub fn take_uint32<S: Source>(stream: &mut S) -> Result<u32, Stop>
     }
 }
 
-/// A number of eight bytes.
+/// A number of eight bytes. Refuses, in order: `Fault`, `Short`.
 #[tactic(auto, using(crate::proofs::FieldLemmas::field_stops))]
 pub fn take_uint64<S: Source>(stream: &mut S) -> Result<u64, Stop>
     ensures takes { TakesLayout S.tells S.left S.known S.faults flaw_stop uint64 result stream.old stream.new }

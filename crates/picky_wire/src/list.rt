@@ -31,7 +31,7 @@ impl<T> List<T> {
         }
     }
 
-    /// Puts the item at the end. For want of memory it is handed back.
+    /// Puts the item at the end. Refuses: want of memory; the item is handed back, and the list stays.
     pub fn push(&mut self, item: T) -> Result<(), T>
         ensures ok { OnOk result (self.new ≡ self.old ++ item ∷ []) }
         ensures err { IfErr result (λ back. back ≡ item) }

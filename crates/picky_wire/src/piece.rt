@@ -178,7 +178,7 @@ fn is_high(bytes: &[u8]) -> bool
     }
 }
 
-/// Writes one field.
+/// Writes one field. Refuses: `WriteFault`.
 pub fn write_piece<S: Sink>(stream: &mut S, piece: &Piece<'_>) -> Result<(), WireError>
     ensures { Puts S.tells S.written S.faults WireError.WriteFault piece.now result stream.old stream.new }
 {
@@ -197,7 +197,7 @@ fn write_both<S: Sink>(stream: &mut S, front: &[u8], bytes: &[u8]) -> Result<(),
     }
 }
 
-/// Writes one field after another.
+/// Writes one field after another. Refuses: `WriteFault`.
 pub fn write_pieces<S: Sink>(stream: &mut S, pieces: &[Piece<'_>]) -> Result<(), WireError>
     ensures { Puts S.tells S.written S.faults WireError.WriteFault (concat pieces.now) result stream.old stream.new }
 {
@@ -210,7 +210,7 @@ pub fn write_pieces<S: Sink>(stream: &mut S, pieces: &[Piece<'_>]) -> Result<(),
     Ok(())
 }
 
-/// Appends one field after another; on an error, a front of them.
+/// Appends one field after another. Refuses: want of memory; what was appended then is left open.
 pub fn push_pieces(out: &mut Vec<u8>, pieces: &[Piece<'_>]) -> Result<(), AllocError>
     ensures { OnOk result (out.new.items ≡ out.old.items ++ concat pieces.now) }
 {

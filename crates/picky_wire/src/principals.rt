@@ -63,6 +63,7 @@ impl SshComplexTypeEncode for Text {
 
     ghost reason_is_no_want = { λ v same. Prim.cc same };
 
+    /// Writes the text as a string field (RFC 4251, section 5). Refuses: `WriteFault`.
     fn encode<S: Sink>(&self, stream: &mut S) -> Result<(), WireError> {
         write_piece(stream, &Piece::text(self))
     }
@@ -81,6 +82,7 @@ impl SshComplexTypeDecode for Text {
 
     ghost own = { principal_own };
 
+    /// The text of a string field (RFC 4251, section 5). Refuses as `read_ssh_string`.
     #[tactic(auto, unfolding(crate::specs::Principals::principal))]
     fn decode<S: Source>(alloc: Global, stream: &mut S) -> Result<Text, WireError>
         ensures unread { Unread S.tells S.left S.known wire_causes result stream.old stream.new }

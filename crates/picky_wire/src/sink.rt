@@ -21,6 +21,7 @@ pub trait Sink {
     ghost faults: { Self → ℕ };
 
     /// Takes the first bytes of the piece. Answers how many: at least one where the piece isn't empty.
+    /// Refuses: `Failed`.
     fn write(&mut self, piece: &[u8]) -> Result<usize, Failed>
         ensures bound { IfOk result (λ n. n ≤ length piece.now) }
         ensures progress { IfOk result (λ n. 0 < length piece.now → 0 < n) }
@@ -51,7 +52,7 @@ impl Model for MemorySink {
 
 impl MemorySink {
     /// Takes at most `step` bytes per call and `room` in all. It fails the calls whose numbers, from 0,
-    /// are listed, and each that brings bytes where there is no room.
+    /// are listed, and each that brings bytes where there is no room. Refuses: `NoMemory`.
     pub fn new(
         alloc: Global,
         room: usize,

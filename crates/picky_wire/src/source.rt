@@ -25,7 +25,7 @@ pub trait Source {
     ghost faults: { Self → ℕ };
 
     /// Puts at most `buffer.len()` bytes, the first ones that are left, into the buffer's front.
-    /// Answers how many: 0 for a buffer that isn't empty only at the end.
+    /// Answers how many: 0 for a buffer that isn't empty only at the end. Refuses: `Failed`.
     fn read(&mut self, buffer: &mut [u8]) -> Result<usize, Failed>
         ensures bound { IfOk result (λ n. n ≤ length buffer.old) }
         ensures taken { tells self.old
@@ -138,6 +138,7 @@ impl Model for MemorySource {
 
 impl MemorySource {
     /// Gives at most `step` bytes of `content` per call, and fails the calls whose numbers, from 0, are listed.
+    /// Refuses: `NoMemory`.
     pub fn new(
         alloc: Global,
         content: &[u8],

@@ -57,6 +57,7 @@ impl SshComplexTypeEncode for Timestamp {
 
     ghost reason_is_no_want = { λ v same. Prim.cc same };
 
+    /// Writes its seconds as a number of eight bytes. Refuses: `WriteFault`.
     fn encode<S: Sink>(&self, stream: &mut S) -> Result<(), WireError> {
         write_piece(stream, &Piece::uint64(self.0))
     }
@@ -76,6 +77,7 @@ impl SshComplexTypeDecode for Timestamp {
 
     ghost own = { timestamp_own };
 
+    /// The moment of a number of eight bytes (PROTOCOL.certkeys, "valid after"). Refuses as `read_uint64`.
     #[tactic(auto, unfolding(crate::specs::Moment::timestamp))]
     fn decode<S: Source>(_alloc: Global, stream: &mut S) -> Result<Timestamp, WireError>
         // It takes no memory.

@@ -55,7 +55,7 @@ impl<'a> Part<'a> {
         }
     }
 
-    /// A copy of its bytes.
+    /// A copy of its bytes. Refuses: `NoMemory`.
     pub fn to_bytes(&self, alloc: Global) -> Result<Bytes, NoMemory>
         requires { length self.now.bytes.now < 2 ^ 32 }
         ensures { IfOk result (λ bytes. bytes ≡ self.now.bytes.now) }
@@ -66,7 +66,7 @@ impl<'a> Part<'a> {
         }
     }
 
-    /// A copy of its text.
+    /// A copy of its text. Refuses: `NoMemory`.
     pub fn to_text(&self, alloc: Global) -> Result<Text, NoMemory>
         requires short { length self.now.bytes.now < 2 ^ 32 }
         requires utf8 { IsUtf8 self.now.bytes.now }
@@ -81,7 +81,7 @@ impl<'a> Part<'a> {
         }
     }
 
-    /// A copy of its number.
+    /// A copy of its number. Refuses: `NoMemory`.
     #[tactic(auto, using(picky_layout::specs::carried::Zeros::all_is_kept))]
     pub fn to_mpint(&self, alloc: Global) -> Result<Mpint, NoMemory>
         requires { IsMagnitude self.now.bytes.now }

@@ -63,7 +63,7 @@ fn write_string<S: Sink>(sink: &mut S, bytes: &[u8]) -> Result<(), WireError>
     write_piece(sink, &Piece::string(bytes))
 }
 
-/// Writes all of the bytes, or a front of them up to a fault.
+/// Writes all of the bytes, or a front of them up to a fault. Refuses: `WriteFault`.
 pub fn write_all<S: Sink>(sink: &mut S, bytes: &[u8]) -> Result<(), WireError>
     ensures { Puts S.tells S.written S.faults WireError.WriteFault bytes.now result sink.old sink.new }
 {
