@@ -1,7 +1,6 @@
 //! Certificates converted: a line means its subject's public key and its comment.
 
-use crate::certs::{CertRow, ROW_COUNT, cert_row};
-use crate::zero_cert::ZERO_LINE;
+use picky_cert_rows::{CertRow, ROW_COUNT, ZERO_LINE, cert_row};
 use picky_conversion::{Given, convert_key};
 use picky_ppk::{PpkEncryptionConfig, PpkVersion};
 use picky_suite::PlainSuite;

@@ -1,9 +1,9 @@
 //! Of two faults in a certificate the one that is tried first, and why a line is refused whatever its bytes.
 
 use crate::cert_conversions::converted;
-use crate::cert_fault_rows::CertFault;
 use crate::cert_refusals::{is_fault, is_refused, is_unread};
 use picky_cert::CertPart;
+use picky_cert_rows::CertFault;
 use picky_key_text::ReadError;
 use picky_sshpub::SshPublicKeyError;
 use picky_target::{ConvertError, KeyTarget};

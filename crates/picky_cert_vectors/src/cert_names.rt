@@ -1,9 +1,9 @@
 //! How a certificate is written and read under other fields.
 
 use crate::cert_fields::{blob_of, prints};
-use crate::zero_cert::ZERO_LINE;
 use picky_cert::{CertView, SshCertificate};
 use picky_cert_parts::{SshCertType, SshExtension, SshExtensionType};
+use picky_cert_rows::ZERO_LINE;
 use picky_wire::{Bytes, List, Text};
 use std::alloc::Global;
 use std::mem::ManuallyDrop;

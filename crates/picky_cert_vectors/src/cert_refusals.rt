@@ -1,10 +1,9 @@
 //! Why a certificate is refused: each reason, and the part at which its bytes are stuck.
 
 use crate::cert_conversions::converted;
-use crate::cert_fault_rows::{CertFault, FAULTS};
 use crate::cert_fields::blob_of;
-use crate::zero_cert::ZERO_LINE;
 use picky_cert::{CertPart, CertView, SshCertificate};
+use picky_cert_rows::{CertFault, FAULTS, ZERO_LINE};
 use picky_key_text::ReadError;
 use picky_target::{ConvertError, KeyTarget};
 use picky_wire::Bytes;

@@ -1,9 +1,8 @@
 //! Certificates from a source and to a sink, which may fail, and copies of them.
 
-use crate::certs::{ROW_COUNT, cert_row};
-use crate::zero_cert::ZERO_LINE;
 use picky_cert::SshCertificate;
 use picky_cert_parts::SshCertificateError;
+use picky_cert_rows::{ROW_COUNT, ZERO_LINE, cert_row};
 use picky_wire::{IoKind, MemorySink, MemorySource, SliceSource, SshComplexTypeDecode, TryClone};
 use std::alloc::Global;
 use std::mem::ManuallyDrop;

@@ -1,12 +1,10 @@
 //! Certificates that are issued: those of `ssh-keygen` made again from what they say, and a device that fails.
 
 use crate::cert_fields::blob_of;
-use crate::cert_keys::{CA_SK_ED, CA_SK_P256, P521};
-use crate::certs::{CertRow, ROW_COUNT, cert_row};
-use crate::zero_cert::ZERO_LINE;
 use picky_cert::{SshCertificate, SshSignature, SshSignatureBlob};
 use picky_cert_builder::{BuildCertificate, SshCertificateBuilder, SshCertificateGenerationError};
 use picky_cert_parts::{SshCertKeyType, SshCertType, SshSignatureFormat};
+use picky_cert_rows::{CA_SK_ED, CA_SK_P256, CertRow, P521, ROW_COUNT, ZERO_LINE, cert_row};
 use picky_keys::{HashAlgorithm, SignatureAlgorithm};
 use picky_suite::{HandedSigner, MemorySigner};
 use picky_wire::{NoMemory, TryClone};

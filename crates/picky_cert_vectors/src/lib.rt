@@ -4,13 +4,9 @@
 #[cfg(test)]
 mod cert_conversions;
 #[cfg(test)]
-mod cert_fault_rows;
-#[cfg(test)]
 mod cert_faults;
 #[cfg(test)]
 mod cert_fields;
-#[cfg(test)]
-mod cert_keys;
 #[cfg(test)]
 mod cert_lines;
 #[cfg(test)]
@@ -21,8 +17,6 @@ mod cert_parts;
 mod cert_refusals;
 #[cfg(test)]
 mod cert_streams;
-#[cfg(test)]
-mod certs;
 #[cfg(test)]
 mod issued;
 #[cfg(test)]

@@ -3,18 +3,12 @@
 use crate::cert_fields::{blob_of, prints};
 use picky_cert::{CertPart, CertView, SshCertificate};
 use picky_cert_parts::SshCertType;
+use picky_cert_rows::ZERO_LINE;
 use picky_sshpub::PublicView;
 use picky_wire::{Bytes, Part};
 use std::alloc::Global;
 use std::mem::ManuallyDrop;
 use std::test::Fail;
-
-// By python3 from the fields of OpenSSH's PROTOCOL.certkeys, with s = lambda b: len(b).to_bytes(4, "big") + b and
-// ed = s(b"ssh-ed25519"): base64.b64encode(s(b"ssh-ed25519-cert-v01@openssh.com") + s(bytes(32)) + s(bytes(32)) + bytes(8)
-// + b"\0\0\0\2" + s(b"") + s(b"") + bytes(8) + bytes(8) + s(b"") + s(b"") + s(b"") + s(ed + s(bytes(32)))
-// + s(ed + s(bytes(64)))).
-pub const ZERO_LINE: &str =
-    "ssh-ed25519-cert-v01@openssh.com AAAAIHNzaC1lZDI1NTE5LWNlcnQtdjAxQG9wZW5zc2guY29tAAAAIAAAAAAAAAAAAAAAAAAAAAAAAAAAAAAAAAAAAAAAAAAAAAAAIAAAAAAAAAAAAAAAAAAAAAAAAAAAAAAAAAAAAAAAAAAAAAAAAAAAAAAAAAACAAAAAAAAAAAAAAAAAAAAAAAAAAAAAAAAAAAAAAAAAAAAAAAAAAAAMwAAAAtzc2gtZWQyNTUxOQAAACAAAAAAAAAAAAAAAAAAAAAAAAAAAAAAAAAAAAAAAAAAAAAAAFMAAAALc3NoLWVkMjU1MTkAAABAAAAAAAAAAAAAAAAAAAAAAAAAAAAAAAAAAAAAAAAAAAAAAAAAAAAAAAAAAAAAAAAAAAAAAAAAAAAAAAAAAAAAAA== host";
 
 /// It is a host's, and says nothing else.
 fn is_zero(cert: &SshCertificate) -> bool {

@@ -57,6 +57,7 @@ pub struct Turns<'a> {
 }
 
 impl<'a> Turns<'a> {
+    /// A stream that takes these turns, and was handed nothing yet.
     pub fn new(alloc: Global, turns: &'a [Turn]) -> Turns<'a> {
         Turns {
             turns,

@@ -44,6 +44,7 @@ fn read_principals<S: Source>(alloc: Global, source: &mut S) -> Result<Vec<u8>, 
     Ok(joined)
 }
 
+/// The value that the source's bytes begin with, as bytes.
 pub fn read_value<S: Source>(
     alloc: Global,
     kind: Kind,
@@ -58,7 +59,7 @@ pub fn read_value<S: Source>(
     }
 }
 
-// Whether what was read is what was wanted.
+/// Whether what was read is what was wanted.
 pub fn is_wanted(read: Result<Vec<u8>, WireError>, wanted: &Result<&'static [u8], u8>) -> bool {
     match (read, wanted) {
         (Ok(read), Ok(wanted)) => read.as_slice() == *wanted,
@@ -74,6 +75,7 @@ fn number_of(alloc: Global, value: &[u8]) -> Result<Mpint, WireError> {
     }
 }
 
+/// Writes the value that the bytes say.
 pub fn write_value<S: Sink>(
     alloc: Global,
     kind: Kind,

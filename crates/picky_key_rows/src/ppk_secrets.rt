@@ -72,7 +72,7 @@ const HEAD: &str = ": ssh-ed25519\n\
     AAAA\n\
     Private-Lines: 1\n";
 
-/// The file of the row.
+/// The file of the row. Refuses: want of memory.
 pub fn secret_text_of(
     alloc: Global,
     row: &SecretRow,

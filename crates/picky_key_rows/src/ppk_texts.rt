@@ -30,12 +30,12 @@ pub struct PpkRow {
     pub padding_len: usize,
 }
 
-/// The row's text, with CR LF in version 2 (docs/FORMATS.md), where PuTTYgen wrote LF.
+/// The row's text, with CR LF in version 2 (docs/FORMATS.md), where PuTTYgen wrote LF. Refuses: want of memory.
 pub fn text_of(alloc: Global, row: &PpkRow, version: PpkVersion) -> Result<String, AllocError> {
     text_with_macs(alloc, row.body, version, row.mac_v2, row.mac_v3)
 }
 
-/// The text of a body and the MACs of its versions.
+/// The text of a body and the MACs of its versions. Refuses: want of memory.
 pub fn text_with_macs(
     alloc: Global,
     body: &str,

@@ -1,7 +1,6 @@
 //! A copy is made where there is memory, and is equal to its value.
 
-use crate::private_keys::{unsealed, zero_key};
-use picky_key_rows::PRIVATE_ROWS;
+use picky_key_rows::{PRIVATE_ROWS, unsealed, zero_key};
 use picky_key_text::Key;
 use picky_keys::{EcCurve, PublicKey};
 use picky_kv::{

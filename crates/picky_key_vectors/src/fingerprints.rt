@@ -1,7 +1,6 @@
 //! The digests that ssh-keygen shows of a key.
 
-use crate::hex_texts::hex_of;
-use picky_key_rows::{KEY_ROWS, KeyRow};
+use picky_key_rows::{KEY_ROWS, KeyRow, hex_of};
 use picky_sshpub::SshPublicKey;
 use picky_text::encode;
 use std::alloc::Global;

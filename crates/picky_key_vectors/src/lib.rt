@@ -1,5 +1,5 @@
-//! The tests of private keys, PuTTY's files and the blobs of public keys: what no clause says. Values of other programs and of
-//! the standards, and each call with an allocator where memory is ample.
+//! The tests of OpenSSH private keys and of the blobs of public keys: what no clause says. Values of other programs and of the
+//! standards, and each call with an allocator where memory is ample.
 #![tactic(auto)]
 
 #[cfg(test)]
@@ -9,34 +9,14 @@ mod copies;
 #[cfg(test)]
 mod fingerprints;
 #[cfg(test)]
-mod hex_texts;
+mod private_block_refusals;
 #[cfg(test)]
-mod ppk_comments;
-#[cfg(test)]
-mod ppk_files;
-#[cfg(test)]
-mod ppk_key_refusals;
-#[cfg(test)]
-mod ppk_refusals;
-#[cfg(test)]
-mod ppk_sealed;
-#[cfg(test)]
-mod ppk_sealing_refusals;
-#[cfg(test)]
-mod ppk_secrets;
-#[cfg(test)]
-mod ppk_views;
-#[cfg(test)]
-mod ppk_wrappers;
+mod private_key_refusals;
 #[cfg(test)]
 mod private_keys;
 #[cfg(test)]
 mod private_views;
 #[cfg(test)]
-mod putty_comments;
-#[cfg(test)]
-mod putty_public;
-#[cfg(test)]
-mod putty_refusals;
+mod sealed_key_refusals;
 #[cfg(test)]
 mod sealed_keys;

@@ -1,9 +1,9 @@
 //! OpenSSH private keys without a passphrase: texts of other programs, read and written.
 
 use crate::blobs::key_of;
-use picky_key_rows::{PRIVATE_ROWS, PrivateRow, V2, ZERO_KEY};
+use picky_key_rows::{PRIVATE_ROWS, PrivateRow, V2, ZERO_KEY, unsealed, zero_key};
 use picky_keys::PrivateKey;
-use picky_sshkey::{Kdf, KdfOption, PrivateKeyRef, SshBasePrivateKey, SshPrivateKey, parse_pem};
+use picky_sshkey::{Kdf, KdfOption, PrivateKeyRef, SshPrivateKey, parse_pem};
 use picky_suite::PlainSuite;
 use picky_wire::{
     Bytes, MemorySink, SliceSource, SshComplexTypeDecode, SshComplexTypeEncode, Text,
@@ -12,26 +12,10 @@ use std::alloc::Global;
 use std::mem::ManuallyDrop;
 use std::test::Fail;
 
-/// The key of an unsealed text. No call of a suite is needed, and this one has none.
-pub fn unsealed(alloc: Global, text: &str) -> Result<SshPrivateKey, Fail> {
-    let mut suite = PlainSuite::new();
-    Ok(SshPrivateKey::from_pem_str(alloc, &mut suite, text, None)?)
-}
-
 /// The text that is written for a key without a passphrase.
 pub fn written(alloc: Global, key: &SshPrivateKey) -> Result<Text, Fail> {
     let mut suite = PlainSuite::new();
     Ok(key.to_string(alloc, &mut suite)?)
-}
-
-/// The key of `ZERO_KEY`, or one with a passphrase.
-pub fn zero_key(alloc: Global, pass: Option<&str>) -> Result<SshPrivateKey, Fail> {
-    let base = SshBasePrivateKey::Ed {
-        secret: [0; 32],
-        public: [0; 32],
-    };
-    let salt = b"saltsaltsaltsalt";
-    Ok(SshPrivateKey::from_base(alloc, base, pass, "hello", salt)?)
 }
 
 /// The text's key has this comment and names this cipher.

@@ -1,7 +1,6 @@
 //! OpenSSH private keys that are sealed under a passphrase by the suite for tests, whose cipher is a toy.
 
-use crate::private_keys::zero_key;
-use picky_key_rows::ZERO_KEY;
+use picky_key_rows::{ZERO_KEY, zero_key};
 use picky_sshkey::{SshBasePrivateKey, SshPrivateKey, SshPrivateKeyError};
 use picky_suite::{MemorySuite, PlainSuite, Suite};
 use picky_wire::{NoMemory, Text};

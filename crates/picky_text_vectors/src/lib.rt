@@ -12,12 +12,6 @@ mod printed_cert_errors;
 #[cfg(test)]
 mod printed_errors;
 #[cfg(test)]
-mod private_block_refusals;
-#[cfg(test)]
-mod private_key_refusals;
-#[cfg(test)]
 mod refused_lines;
-#[cfg(test)]
-mod sealed_key_refusals;
 #[cfg(test)]
 mod target_texts;

@@ -1,7 +1,8 @@
 //! PuTTY's private key files that aren't sealed: texts of PuTTYgen read and written, made of OpenSSH's keys and back.
 
-use crate::private_keys::{unsealed, zero_key};
-use picky_key_rows::{PASS, PPK_ROWS, PRIVATE_ROWS, PpkRow, PrivateRow, VERSIONS, text_of};
+use picky_key_rows::{
+    PASS, PPK_ROWS, PRIVATE_ROWS, PpkRow, PrivateRow, VERSIONS, text_of, unsealed, zero_key,
+};
 use picky_keys::PrivateKey;
 use picky_ppk::{Ppk, PpkVersion, PuttyError};
 use picky_sshkey::SshPrivateKey;

@@ -1,6 +1,13 @@
-//! Certificates with one fault.
+//! A certificate of zeros, and certificates with one fault.
 
-use picky_cert::CertPart;
+use picky_cert_blob::CertPart;
+
+// By python3 from the fields of OpenSSH's PROTOCOL.certkeys, with s = lambda b: len(b).to_bytes(4, "big") + b and
+// ed = s(b"ssh-ed25519"): base64.b64encode(s(b"ssh-ed25519-cert-v01@openssh.com") + s(bytes(32)) + s(bytes(32)) + bytes(8)
+// + b"\0\0\0\2" + s(b"") + s(b"") + bytes(8) + bytes(8) + s(b"") + s(b"") + s(b"") + s(ed + s(bytes(32)))
+// + s(ed + s(bytes(64)))).
+pub const ZERO_LINE: &str =
+    "ssh-ed25519-cert-v01@openssh.com AAAAIHNzaC1lZDI1NTE5LWNlcnQtdjAxQG9wZW5zc2guY29tAAAAIAAAAAAAAAAAAAAAAAAAAAAAAAAAAAAAAAAAAAAAAAAAAAAAIAAAAAAAAAAAAAAAAAAAAAAAAAAAAAAAAAAAAAAAAAAAAAAAAAAAAAAAAAACAAAAAAAAAAAAAAAAAAAAAAAAAAAAAAAAAAAAAAAAAAAAAAAAAAAAMwAAAAtzc2gtZWQyNTUxOQAAACAAAAAAAAAAAAAAAAAAAAAAAAAAAAAAAAAAAAAAAAAAAAAAAFMAAAALc3NoLWVkMjU1MTkAAABAAAAAAAAAAAAAAAAAAAAAAAAAAAAAAAAAAAAAAAAAAAAAAAAAAAAAAAAAAAAAAAAAAAAAAAAAAAAAAAAAAAAAAA== host";
 
 /// The base64 of a certificate's bytes, the part at which they are stuck, and the error as `{:?}` prints it.
 pub struct CertFault {

@@ -3,8 +3,7 @@
 
 use crate::ppk_files::{made_of, ppk_of};
 use crate::ppk_refusals::named;
-use crate::private_keys::unsealed;
-use picky_key_rows::PRIVATE_ROWS;
+use picky_key_rows::{PRIVATE_ROWS, unsealed};
 use picky_ppk::Ppk;
 use std::alloc::{AllocError, Global};
 use std::mem::ManuallyDrop;

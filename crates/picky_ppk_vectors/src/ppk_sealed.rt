@@ -1,9 +1,10 @@
 //! Sealed PuTTY private key files: PuTTYgen's, read and written, and those of the suite for tests, whose cipher is a toy.
 
-use crate::hex_texts::hex_of;
 use crate::ppk_files::{is_kept, is_written, p256_ppk, ppk_of, row_ppk};
 use crate::ppk_views::is_copied;
-use picky_key_rows::{CONFIG, PASS, PPK_ROWS, PpkRow, SEALED_V2, SEALED_V3, TOY_V2, TOY_V3};
+use picky_key_rows::{
+    CONFIG, PASS, PPK_ROWS, PpkRow, SEALED_V2, SEALED_V3, TOY_V2, TOY_V3, hex_of,
+};
 use picky_ppk::aes::make_padding;
 use picky_ppk::{
     Argon2Flavour, Argon2Params, KeyMaterialV2, KeyMaterialV3, Ppk, PpkFile, PpkKeyAlgorithm,

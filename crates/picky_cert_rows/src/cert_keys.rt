@@ -1,4 +1,4 @@
-//! The keys of the certificates of `crate::certs`, of subjects and of issuers: a line's first two words.
+//! The keys of the certificates, of subjects and of issuers: a line's first two words.
 
 // ssh-keygen -t ed25519 -f ed; of each, cut -d' ' -f1,2 NAME.pub
 pub const ED: &str =

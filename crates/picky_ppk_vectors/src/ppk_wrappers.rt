@@ -1,9 +1,8 @@
 //! PuTTY's keys without a file: made of OpenSSH's keys, with the parts of PuTTYgen's files, and back.
 
 use crate::ppk_files::{is_of_key, is_same_key, row_ppk};
-use crate::private_keys::unsealed;
 use crate::putty_public::shown;
-use picky_key_rows::{PPK_ROWS, PRIVATE_ROWS, PpkRow, PrivateRow};
+use picky_key_rows::{PPK_ROWS, PRIVATE_ROWS, PpkRow, PrivateRow, unsealed};
 use picky_ppk::{
     PpkFile, PpkVersion, PuttyBasePrivateKey, PuttyBasePublicKey, PuttyError, PuttyPrivateKey,
 };
