@@ -2,6 +2,7 @@ pub mod ByteLemmas
 pub mod KeepLaws
 pub mod LineLemmas
 pub mod LineLaws
+pub mod RefuseLemmas
 pub mod NameLemmas
 pub mod SignedLaws
 pub mod EqualityLemmas
