@@ -1,6 +1,6 @@
 -- That the reading of a secret before a copy is sound and complete.
-use Rattle.std.specs.Prelude.{◌≡◌, Bool, true, false, List, ℕ, ◌+◌, ◌++◌, ◌&&◌, nat_le, length, take, drop, bytes_eq, if◌then◌else◌}
-use Rattle.std.specs.Prelude.{Ok, Err}
+use Rattle.std.specs.Prelude.{◌≡◌, Bool, true, false, List, ℕ, ◌+◌, ◌++◌, ◌&&◌, nat_le, length, take, drop, bytes_eq}
+use Rattle.std.specs.Prelude.{if◌then◌else◌, Ok, Err}
 use Rattle.std.proofs.Common.{refl, sym, ap, ◌∙◌, arith}
 use Rattle.std.proofs.lemmas.Bool.{leb-true, le-leb}
 use Rattle.std.proofs.lemmas.Slice.Eq.{bytes_eq-Decides}
@@ -35,5 +35,7 @@ before_complete why public both secret (are, len) =
     let long : nat_le 32 (length both) ≡ true = le-leb 32 (length both) (omega arith) in
     let behind : drop 32 both ≡ public = ap (drop 32) are ∙ drop_at secret public 32 len in
     let copy : bytes_eq (drop 32 both) public ≡ true = (bytes_eq-Decides (drop 32 both) public).1 behind in
-    let front : take 32 both ≡ secret = ap (take 32) are ∙ ap (λ n. take n (secret ++ public)) (sym len) ∙ take-append_seam secret public in
+    let cut : take 32 (secret ++ public) ≡ secret =
+    ap (λ n. take n (secret ++ public)) (sym len) ∙ take-append_seam secret public in
+    let front : take 32 both ≡ secret = ap (take 32) are ∙ cut in
     ap (λ t. if t then Ok (take 32 both) else Err why) (true_both _ _ long copy) ∙ ap Ok front
