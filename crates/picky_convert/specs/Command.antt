@@ -1,5 +1,6 @@
 -- What a command line names, and what is written for the bytes of a source that are text.
-use Rattle.std.specs.Prelude.{◌≡◌, ◌&&◌, List, [], ◌∷◌, ℕ, Bool, true, false, codes, nat_le, Option, Some, None, Result, Ok, if◌then◌else◌}
+use Rattle.std.specs.Prelude.{◌≡◌, ◌&&◌, List, [], ◌∷◌, ℕ, Bool, true, false, codes, nat_le, Option, Some, None}
+use Rattle.std.specs.Prelude.{Result, Ok, if◌then◌else◌}
 use Rattle.std.specs.Option.{option_map}
 use Rattle.std.specs.Str.{bytes_eq}
 use Rattle.picky_layout.specs.Outcome.{and_then, map_err, map_ok}
@@ -25,7 +26,8 @@ use Rattle.picky_conversion.specs.Outside.{Outside, reader}
 use Rattle.picky_conversion.specs.Certify.{IsReadFault}
 use Rattle.picky_conversion.specs.Convert.{conversion, converting_asks, IsConversion, IsFaultOf}
 use Rattle.picky_convert.specs.Fingerprint.{fingerprint_text}
-use Rattle.picky_conversion.specs.Issue.{CanIssue, CanIssueBytes, IsIssued, IsIssuedBytes, IsIssuingFault, issued, issued_bytes, issuing_asks}
+use Rattle.picky_conversion.specs.Issue.{CanIssue, CanIssueBytes, IsIssued, IsIssuedBytes, IsIssuingFault, issued}
+use Rattle.picky_conversion.specs.Issue.{issued_bytes, issuing_asks}
 use Rattle.picky_conversion.specs.Made.{Made, ToSign, Whole}
 use Rattle.picky_sample.specs.Sample.{sample_text}
 
