@@ -1,5 +1,6 @@
 //! A certificate as a value.
 
+use crate::copy::both;
 use picky_cert_parts::{
     SshCertKeyType, SshCertType, SshCriticalOption, SshExtension, SshSignature,
 };
@@ -35,30 +36,33 @@ pub struct SshCertificate {
 
 impl TryClone for SshCertificate {
     fn try_clone(&self, alloc: Global) -> Result<SshCertificate, NoMemory> {
-        let public_key = self.public_key.try_clone(alloc)?;
-        let nonce = self.nonce.try_clone(alloc)?;
-        let key_id = self.key_id.try_clone(alloc)?;
-        let valid_principals = self.valid_principals.try_clone(alloc)?;
-        let critical_options = self.critical_options.try_clone(alloc)?;
-        let extensions = self.extensions.try_clone(alloc)?;
-        let signature_key = self.signature_key.try_clone(alloc)?;
-        let signature = self.signature.try_clone(alloc)?;
-        let comment = self.comment.try_clone(alloc)?;
-        Ok(SshCertificate {
-            cert_key_type: self.cert_key_type,
-            public_key,
-            nonce,
-            serial: self.serial,
-            cert_type: self.cert_type,
-            key_id,
-            valid_principals,
-            valid_after: self.valid_after,
-            valid_before: self.valid_before,
-            critical_options,
-            extensions,
-            signature_key,
-            signature,
-            comment,
-        })
+        let key = self.public_key.try_clone(alloc);
+        let subject = both(key, self.nonce.try_clone(alloc));
+        let principals = self.valid_principals.try_clone(alloc);
+        let terms = both(self.key_id.try_clone(alloc), principals);
+        let options = self.critical_options.try_clone(alloc);
+        let grants = both(options, self.extensions.try_clone(alloc));
+        let issuer = self.signature_key.try_clone(alloc);
+        let seal = both(issuer, self.signature.try_clone(alloc));
+        let copied = both(both(subject, terms), both(grants, seal));
+        match both(copied, self.comment.try_clone(alloc)) {
+            Ok((((subject, terms), (grants, seal)), comment)) => Ok(SshCertificate {
+                cert_key_type: self.cert_key_type,
+                public_key: subject.0,
+                nonce: subject.1,
+                serial: self.serial,
+                cert_type: self.cert_type,
+                key_id: terms.0,
+                valid_principals: terms.1,
+                valid_after: self.valid_after,
+                valid_before: self.valid_before,
+                critical_options: grants.0,
+                extensions: grants.1,
+                signature_key: seal.0,
+                signature: seal.1,
+                comment,
+            }),
+            Err(NoMemory) => Err(NoMemory),
+        }
     }
 }

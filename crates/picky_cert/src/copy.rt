@@ -1,6 +1,6 @@
 //! A certificate copied from its bytes, part by part.
 
-ghost use Rattle.std.specs.Prelude.{◌≡◌, [], ◌<◌, ◌^◌, IfOk, IsUtf8, length};
+ghost use Rattle.std.specs.Prelude.{◌≡◌, [], ◌<◌, ◌^◌, IfOk, IsUtf8, length, Ok};
 ghost use Rattle.picky_cert_parts.specs.Signature.{IsSignature};
 ghost use Rattle.picky_sshpub.specs.Key.{IsKey};
 ghost use Rattle.picky_sshpub.specs.View.{key_seen};
@@ -27,30 +27,50 @@ impl<'a> CertView<'a> {
         requires items { HasItems (body_in self.now) }
         ensures { IfOk result (λ c. c ≡ cert_seen self.now) }
     {
-        let nonce = self.nonce.to_bytes(alloc)?;
-        let public_key = copied_key(alloc, &self.public_key)?;
-        let key_id = self.key_id.to_text(alloc)?;
-        let valid_principals = copied_principals(alloc, &self.valid_principals)?;
-        let critical_options = copied_options(alloc, &self.critical_options)?;
-        let extensions = copied_extensions(alloc, &self.extensions)?;
-        let signature_key = copied_key(alloc, &self.signature_key)?;
-        let signature = copied_signature(alloc, self.format, &self.signature, self.sk)?;
-        Ok(SshCertificate {
-            cert_key_type: self.cert_key_type,
-            public_key,
-            nonce,
-            serial: self.serial,
-            cert_type: self.cert_type,
-            key_id,
-            valid_principals,
-            valid_after: self.valid_after,
-            valid_before: self.valid_before,
-            critical_options,
-            extensions,
-            signature_key,
-            signature,
-            comment: no_text(alloc),
-        })
+        let key = copied_key(alloc, &self.public_key);
+        let subject = both(key, self.nonce.to_bytes(alloc));
+        let principals = copied_principals(alloc, &self.valid_principals);
+        let terms = both(self.key_id.to_text(alloc), principals);
+        let options = copied_options(alloc, &self.critical_options);
+        let grants = both(options, copied_extensions(alloc, &self.extensions));
+        let issuer = copied_key(alloc, &self.signature_key);
+        let signature = copied_signature(alloc, self.format, &self.signature, self.sk);
+        let seal = both(issuer, signature);
+        match both(both(subject, terms), both(grants, seal)) {
+            Ok(((subject, terms), (grants, seal))) => Ok(SshCertificate {
+                cert_key_type: self.cert_key_type,
+                public_key: subject.0,
+                nonce: subject.1,
+                serial: self.serial,
+                cert_type: self.cert_type,
+                key_id: terms.0,
+                valid_principals: terms.1,
+                valid_after: self.valid_after,
+                valid_before: self.valid_before,
+                critical_options: grants.0,
+                extensions: grants.1,
+                signature_key: seal.0,
+                signature: seal.1,
+                comment: no_text(alloc),
+            }),
+            Err(NoMemory) => Err(NoMemory),
+        }
+    }
+}
+
+/// Both values, where memory sufficed for both. Its caller has nothing to drop.
+pub fn both<A: Drop, B: Drop>(
+    a: Result<A, NoMemory>,
+    b: Result<B, NoMemory>,
+) -> Result<(A, B), NoMemory>
+    ensures { IfOk result (λ pair. (a ≡ Ok pair.0) × (b ≡ Ok pair.1)) }
+{
+    match a {
+        Ok(a) => match b {
+            Ok(b) => Ok((a, b)),
+            Err(NoMemory) => Err(NoMemory),
+        },
+        Err(NoMemory) => Err(NoMemory),
     }
 }
 

@@ -71,13 +71,20 @@ fn certificate_of_words(
     if body.len() >= TOO_MANY || is_too_long(comment) {
         return Err(SshCertificateError::TooLong);
     }
+    // `drop` is one call, where a certificate at the end of its scope is dropped field by field.
     match certificate_of_body(alloc, body) {
         Ok(certificate) => match comment {
             Some(comment) => match Text::new(alloc, comment) {
                 Ok(comment) => Ok(with_comment(certificate, comment)),
-                Err(_) => Err(SshCertificateError::NoMemory),
+                Err(_) => {
+                    drop(certificate);
+                    Err(SshCertificateError::NoMemory)
+                }
             },
-            None => Err(SshCertificateError::InvalidUtf8),
+            None => {
+                drop(certificate);
+                Err(SshCertificateError::InvalidUtf8)
+            }
         },
         Err(e) => Err(e),
     }
