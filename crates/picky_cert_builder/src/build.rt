@@ -17,6 +17,7 @@ use picky_cert::{SshCertificate, SshSignatureBlob};
 use picky_suite::{SignError, Signer};
 use picky_wire::Bytes;
 use std::alloc::Global;
+use std::mem::replace;
 
 impl SshCertificateBuilder {
     /// The bytes that are signed of the certificate that `build` would make (OpenSSH's PROTOCOL.certkeys).
@@ -32,7 +33,14 @@ impl SshCertificateBuilder {
     {
         match self.draft(alloc, nonce) {
             Ok(draft) => {
-                let Draft { message, .. } = draft;
+                let Draft {
+                    certificate,
+                    issuer,
+                    message,
+                    ..
+                } = draft;
+                drop(certificate);
+                drop(issuer);
                 Ok(message)
             }
             Err(e) => Err(e),
@@ -73,7 +81,7 @@ impl SshCertificateBuilder {
         ensures { self.new ≡ unset self.old }
     {
         let cert_key_type = self.cert_key_type;
-        *self = SshCertificateBuilder::init();
+        drop(replace(self, SshCertificateBuilder::init()));
         self.cert_key_type = cert_key_type;
     }
 }
@@ -97,11 +105,18 @@ impl Draft {
         } = self;
         match signer.sign(alloc, &issuer, algorithm, message.as_slice()) {
             Ok(bytes) => {
+                drop(issuer);
                 certificate.signature.blob = SshSignatureBlob::Standard(bytes);
                 Ok(certificate)
             }
-            Err(SignError::Failed) => Err(SshCertificateGenerationError::SignatureError),
-            Err(SignError::NoMemory) => Err(SshCertificateGenerationError::NoMemory),
+            Err(e) => {
+                drop(issuer);
+                drop(certificate);
+                match e {
+                    SignError::Failed => Err(SshCertificateGenerationError::SignatureError),
+                    SignError::NoMemory => Err(SshCertificateGenerationError::NoMemory),
+                }
+            }
         }
     }
 }

@@ -13,6 +13,7 @@ use picky_keys::{KeyKind, SignatureAlgorithm};
 use picky_sshkey::SshPrivateKey;
 use picky_sshpub::SshPublicKey;
 use picky_wire::{List, Text, Timestamp};
+use std::mem::replace;
 
 /// A certificate that is to be made. Each field may be unset.
 #[derive(Drop)]
@@ -163,7 +164,7 @@ impl SshCertificateBuilder {
         ensures set { result.now ≡ record (self.old) { issuer = Some (issuers.Private signature_key.base_key) } }
     {
         let SshPrivateKey { base_key, .. } = signature_key;
-        self.issuer = Some(IssuerKey::Private(base_key));
+        drop(replace(&mut self.issuer, Some(IssuerKey::Private(base_key))));
         self
     }
 
@@ -173,7 +174,7 @@ impl SshCertificateBuilder {
         ensures set { result.now ≡ record (self.old) { issuer = Some (issuers.Public issuer.inner_key) } }
     {
         let SshPublicKey { inner_key, .. } = issuer;
-        self.issuer = Some(IssuerKey::Public(inner_key));
+        drop(replace(&mut self.issuer, Some(IssuerKey::Public(inner_key))));
         self
     }
 

@@ -6,6 +6,7 @@ ghost use Rattle.picky_cert_names.specs.Names.{option_name};
 ghost use Rattle.picky_cert_builder.specs.ByName.{by_name};
 ghost use Rattle.picky_cert_builder.specs.Draft.{or_empty, or_permits, or_zero as or_zero_of};
 
+use crate::builder::SshCertificateBuilder;
 use crate::permits::default_permits;
 use crate::sort::{Named, sorted_by_name};
 use picky_cert_parts::{SshCertType, SshCriticalOption, SshExtension};
@@ -33,7 +34,7 @@ pub fn text_or_empty(alloc: Global, text: &Option<Text>) -> Result<Text, NoMemor
 }
 
 /// A copy of the list, or the empty one. Refuses: `NoMemory`.
-pub fn list_or_empty<T: TryClone + Drop>(
+fn list_or_empty<T: TryClone + Drop>(
     alloc: Global,
     list: &Option<List<T>>,
 ) -> Result<List<T>, NoMemory>
@@ -65,8 +66,26 @@ impl Named for SshExtension {
     }
 }
 
+/// The principals, and the critical options and the extensions by name. Refuses: `NoMemory`.
+pub fn grants(
+    alloc: Global,
+    builder: &SshCertificateBuilder,
+    cert_type: SshCertType,
+) -> Result<(List<Text>, List<SshCriticalOption>, List<SshExtension>), NoMemory>
+    ensures { IfOk result (λ grants. grants ≡ (
+      or_empty builder.now.valid_principals,
+      by_name (λ o. option_name o.option_type) (or_empty builder.now.critical_options),
+      by_name (λ x. extension_name x.extension_type) (or_permits cert_type (or_empty builder.now.extensions)),
+    )) }
+{
+    let valid_principals = list_or_empty(alloc, &builder.valid_principals)?;
+    let critical_options = options_by_name(alloc, &builder.critical_options)?;
+    let extensions = extensions_by_name(alloc, cert_type, &builder.extensions)?;
+    Ok((valid_principals, critical_options, extensions))
+}
+
 /// A copy of the critical options, by name. Refuses: `NoMemory`.
-pub fn options_by_name(
+fn options_by_name(
     alloc: Global,
     options: &Option<List<SshCriticalOption>>,
 ) -> Result<List<SshCriticalOption>, NoMemory>
@@ -77,7 +96,7 @@ pub fn options_by_name(
 }
 
 /// A copy of the extensions, or the permits of a user who asks for none, by name. Refuses: `NoMemory`.
-pub fn extensions_by_name(
+fn extensions_by_name(
     alloc: Global,
     cert_type: SshCertType,
     extensions: &Option<List<SshExtension>>,

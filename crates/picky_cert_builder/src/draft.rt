@@ -1,21 +1,23 @@
 //! The certificate that is asked for, before it is signed, and what is signed of it.
 
-ghost use Rattle.std.specs.Prelude.{◌≡◌, true, IfOk};
+ghost use Rattle.std.specs.Prelude.{◌≡◌, true, Ok, Err, IfOk, if◌then◌else◌};
 ghost use Rattle.std.specs.Option.{IfSome};
 ghost use Rattle.picky_wire.specs.Gives.{Gives};
+ghost use Rattle.picky_sshpub.specs.LineRefusal.{is_short};
 ghost use Rattle.picky_cert_blob.specs.Subject.{fits_subject};
+ghost use Rattle.picky_cert.specs.Spelled.{signed_of};
 ghost use Rattle.picky_cert_builder.specs.Draft.{certificate_of, if_short, requested};
 ghost use Rattle.picky_cert_builder.specs.Drafted.{IsWhole, draft_shown};
-ghost use Rattle.picky_cert_builder.specs.Issuer.{issuer_of};
+ghost use Rattle.picky_cert_builder.specs.Issuer.{issuer_of, issuer_part};
 
 use crate::builder::SshCertificateBuilder;
-use crate::defaults::{extensions_by_name, list_or_empty, options_by_name, or_zero, text_or_empty};
+use crate::defaults::{grants, or_zero, text_or_empty};
 use crate::error::SshCertificateGenerationError;
 use crate::issuer::IssuerKey;
 use crate::terms::FitTerms;
 use picky_cert::{SshCertificate, SshCertificateError, SshSignature, SshSignatureBlob};
 use picky_keys::{Issuer, SignatureAlgorithm};
-use picky_sshpub::SshPublicKey;
+use picky_sshpub::{SshBasePublicKey, SshPublicKey};
 use picky_wire::{Bytes, NoMemory, Text, TryClone};
 use std::alloc::Global;
 
@@ -58,7 +60,6 @@ impl SshCertificateBuilder {
 /// The certificate of these terms, subject and issuer.
 ///
 /// Refuses: `TooLong`, where 2^32 bytes or more would be signed.
-#[tactic(auto, unfolding(picky_cert::specs::LineRefusal::signed_text), using(crate::proofs::IssuerLemmas::issuer_key_of))]
 fn draft_of(
     alloc: Global,
     builder: &SshCertificateBuilder,
@@ -73,21 +74,73 @@ fn draft_of(
     ensures whole { IfOk result IsWhole }
     ensures issuer { IfOk result (λ draft. draft.issuer ≡ issuer_of issuer.now) }
 {
-    let certificate = match unsigned_certificate(alloc, builder, fit, key, issuer, nonce) {
-        Ok(certificate) => certificate,
-        Err(NoMemory) => return Err(SshCertificateGenerationError::NoMemory),
-    };
-    let issuer = match issuer.to_issuer(alloc) {
-        Ok(issuer) => issuer,
-        Err(NoMemory) => return Err(SshCertificateGenerationError::NoMemory),
-    };
-    match certificate.signed_bytes(alloc) {
-        Ok(message) => Ok(Draft {
+    match unsigned_certificate(alloc, builder, fit, key, issuer, nonce) {
+        Ok(certificate) => draft_by(alloc, certificate, fit.signature_algo, issuer),
+        Err(NoMemory) => Err(SshCertificateGenerationError::NoMemory),
+    }
+}
+
+/// The certificate, for this issuer to sign. Refuses: as `draft_of`.
+#[tactic(auto, using(crate::proofs::IssuerLemmas::issuer_key_of))]
+fn draft_by(
+    alloc: Global,
+    certificate: SshCertificate,
+    algorithm: SignatureAlgorithm,
+    issuer: &IssuerKey,
+) -> Result<Draft, SshCertificateGenerationError>
+    requires fits { fits_subject certificate.cert_key_type certificate.public_key.inner_key ≡ true }
+    requires issuer { certificate.signature_key.inner_key ≡ issuer_part issuer.now }
+    ensures gives { Gives SshCertificateGenerationError.NoMemory draft_shown result (if_short certificate algorithm) }
+    ensures whole { IfOk result IsWhole }
+    ensures issuer { IfOk result (λ draft. draft.issuer ≡ issuer_of issuer.now) }
+{
+    match issuer_and_message(alloc, issuer, &certificate) {
+        Ok((issuer, message)) => Ok(Draft {
             certificate,
             issuer,
-            algorithm: fit.signature_algo,
+            algorithm,
             message,
         }),
+        Err(e) => {
+            drop(certificate);
+            Err(e)
+        }
+    }
+}
+
+/// Who is to sign the certificate, and the bytes that are signed. Refuses: as `draft_of`.
+fn issuer_and_message(
+    alloc: Global,
+    issuer: &IssuerKey,
+    certificate: &SshCertificate,
+) -> Result<(Issuer, Bytes), SshCertificateGenerationError>
+    requires { fits_subject certificate.now.cert_key_type certificate.now.public_key.inner_key ≡ true }
+    ensures { Gives SshCertificateGenerationError.NoMemory (λ made. made) result
+        (if is_short (signed_of certificate.now) then Ok (issuer_of issuer.now, signed_of certificate.now)
+        else Err SshCertificateGenerationError.TooLong) }
+{
+    match message_of(alloc, certificate) {
+        Ok(message) => match issuer.to_issuer(alloc) {
+            Ok(issuer) => Ok((issuer, message)),
+            Err(NoMemory) => Err(SshCertificateGenerationError::NoMemory),
+        },
+        Err(e) => Err(e),
+    }
+}
+
+/// The bytes that are signed. Refuses: as `draft_of`.
+#[tactic(auto, unfolding(picky_cert::specs::LineRefusal::signed_text))]
+fn message_of(
+    alloc: Global,
+    certificate: &SshCertificate,
+) -> Result<Bytes, SshCertificateGenerationError>
+    requires { fits_subject certificate.now.cert_key_type certificate.now.public_key.inner_key ≡ true }
+    ensures { Gives SshCertificateGenerationError.NoMemory (λ bytes. bytes) result
+        (if is_short (signed_of certificate.now) then Ok (signed_of certificate.now)
+        else Err SshCertificateGenerationError.TooLong) }
+{
+    match certificate.signed_bytes(alloc) {
+        Ok(message) => Ok(message),
         Err(SshCertificateError::NoMemory) => Err(SshCertificateGenerationError::NoMemory),
         Err(_) => Err(SshCertificateGenerationError::TooLong),
     }
@@ -104,14 +157,10 @@ fn unsigned_certificate(
 ) -> Result<SshCertificate, NoMemory>
     ensures { IfOk result (λ c. c ≡ certificate_of builder.now fit.now key.now issuer.now nonce.now) }
 {
-    let public_key = key.try_clone(alloc)?;
-    let nonce = nonce_bytes(alloc, nonce)?;
     let key_id = text_or_empty(alloc, &builder.key_id)?;
-    let valid_principals = list_or_empty(alloc, &builder.valid_principals)?;
-    let critical_options = options_by_name(alloc, &builder.critical_options)?;
-    let extensions = extensions_by_name(alloc, fit.cert_type, &builder.extensions)?;
-    let inner_key = issuer.public_part(alloc)?;
     let comment = text_or_empty(alloc, &builder.comment)?;
+    let (valid_principals, critical_options, extensions) = grants(alloc, builder, fit.cert_type)?;
+    let (nonce, inner_key, public_key) = keys(alloc, key, issuer, nonce)?;
     Ok(SshCertificate {
         cert_key_type: fit.cert_key_type,
         public_key,
@@ -134,6 +183,21 @@ fn unsigned_certificate(
         },
         comment,
     })
+}
+
+/// The nonce, the issuer's key and the subject's. Refuses: `NoMemory`.
+fn keys(
+    alloc: Global,
+    key: &SshPublicKey,
+    issuer: &IssuerKey,
+    nonce: &[u8; 32],
+) -> Result<(Bytes, SshBasePublicKey, SshPublicKey), NoMemory>
+    ensures { IfOk result (λ keys. keys ≡ (nonce.now, issuer_part issuer.now, key.now)) }
+{
+    let nonce = nonce_bytes(alloc, nonce)?;
+    let inner_key = issuer.public_part(alloc)?;
+    let public_key = key.try_clone(alloc)?;
+    Ok((nonce, inner_key, public_key))
 }
 
 /// The nonce as bytes. Refuses: `NoMemory`.
