@@ -17,13 +17,13 @@ use Rattle.picky_key_text.specs.declared.error.ReadError.TheVariants as errors
 public_equal : (a b : SshPublicKeyError) → IsTrue (public.ghosts.eq a b) ↔ (a ≡ b)
 public_equal = search rules
 
-private_equal : (a b : SshPrivateKeyError) → IsTrue (private.ghosts.eq a b) ↔ (a ≡ b)
+pub private_equal : (a b : SshPrivateKeyError) → IsTrue (private.ghosts.eq a b) ↔ (a ≡ b)
 private_equal = search rules
 
 certificate_equal : (a b : SshCertificateError) → IsTrue (certificate.ghosts.eq a b) ↔ (a ≡ b)
 certificate_equal = search rules
 
-putty_equal : (a b : PuttyError) → IsTrue (putty.ghosts.eq a b) ↔ (a ≡ b)
+pub putty_equal : (a b : PuttyError) → IsTrue (putty.ghosts.eq a b) ↔ (a ≡ b)
 putty_equal = search rules
 
 pub read_equal : (a b : ReadError) → IsTrue (whole.ghosts.eq a b) ↔ (a ≡ b)

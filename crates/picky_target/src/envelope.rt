@@ -43,7 +43,11 @@ pub fn write_envelope<S: Suite>(
         suite.old suite.new }
 {
     match drafted(alloc, key, comment, pass, fresh) {
-        Ok(key) => text_of_key(alloc, suite, &key),
+        Ok(key) => {
+            let text = text_of_key(alloc, suite, &key);
+            drop(key);
+            text
+        }
         Err(e) => Err(e),
     }
 }
