@@ -52,7 +52,9 @@ fn sign_line<G: Signer>(alloc: Global, signer: &mut G, draft: Draft) -> Result<T
     match draft.sign(alloc, signer) {
         Ok(certificate) => {
             signature_keeps_its_ranges(&certificate.signature);
-            line_of(alloc, &certificate)
+            let line = line_of(alloc, &certificate);
+            drop(certificate);
+            line
         }
         Err(SshCertificateGenerationError::SignatureError) => Err(ConvertError::Request(
             SshCertificateGenerationError::SignatureError,

@@ -41,10 +41,15 @@ pub fn write_signed_bytes(
         (map_ok (λ u. signed_of u.certificate) (drafted request.now meaning fresh.now)) }
 {
     if !carries_comment(KeyTarget::OpenSshPublic, meaning.comment.as_str()) {
+        drop(meaning);
         return Err(ConvertError::CommentNotCarried);
     }
     match builder_of(alloc, request, meaning) {
-        Ok(builder) => bytes_of(alloc, &builder, fresh),
+        Ok(builder) => {
+            let bytes = bytes_of(alloc, &builder, fresh);
+            drop(builder);
+            bytes
+        }
         Err(NoMemory) => Err(ConvertError::NoMemory),
     }
 }
@@ -66,6 +71,7 @@ pub fn draft_line(
     match draft(alloc, request, meaning, fresh) {
         Ok(draft) => {
             if unsigned_line_len(&draft) >= TOO_MANY {
+                drop(draft);
                 return Err(ConvertError::TooLong);
             }
             Ok(draft)
@@ -87,10 +93,15 @@ fn draft(
     ensures back { IfOk result (λ d. IsReadBack d.certificate) }
 {
     if !carries_comment(KeyTarget::OpenSshPublic, meaning.comment.as_str()) {
+        drop(meaning);
         return Err(ConvertError::CommentNotCarried);
     }
     match builder_of(alloc, request, meaning) {
-        Ok(builder) => draft_of(alloc, &builder, fresh),
+        Ok(builder) => {
+            let draft = draft_of(alloc, &builder, fresh);
+            drop(builder);
+            draft
+        }
         Err(NoMemory) => Err(ConvertError::NoMemory),
     }
 }

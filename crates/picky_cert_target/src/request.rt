@@ -1,6 +1,7 @@
 //! What is asked of a certificate.
 
 ghost use Rattle.std.specs.Prelude.{◌≡◌, IfOk};
+ghost use Rattle.picky_key_text.specs.Key.{public_key as public_key_of};
 ghost use Rattle.picky_cert_target.specs.Request.{asked_for, issuer_in};
 
 use picky_cert_builder::{IssuerKey, SshCertificateBuilder};
@@ -8,6 +9,7 @@ use picky_cert_names::SshCertKeyType;
 use picky_cert_parts::{SshCertType, SshCriticalOption, SshExtension};
 use picky_key_text::{Key, Meaning, public_key};
 use picky_keys::SignatureAlgorithm;
+use picky_sshpub::SshPublicKey;
 use picky_wire::{List, NoMemory, Text, Timestamp, TryClone};
 use std::alloc::Global;
 
@@ -66,28 +68,40 @@ pub fn builder_of(
 ) -> Result<SshCertificateBuilder, NoMemory>
     ensures { IfOk result (λ builder. builder ≡ asked_for request.now meaning) }
 {
-    let comment = meaning.comment.try_clone(alloc)?;
+    let subject = subject_of(alloc, meaning)?;
+    match request.try_clone(alloc) {
+        Ok(request) => {
+            let (key, comment) = subject;
+            Ok(SshCertificateBuilder {
+                cert_key_type: request.cert_key_type,
+                public_key: Some(key),
+                serial: request.serial,
+                cert_type: request.cert_type,
+                key_id: request.key_id,
+                valid_principals: Some(request.principals),
+                valid_after: request.valid_after,
+                valid_before: request.valid_before,
+                critical_options: Some(request.critical_options),
+                extensions: Some(request.extensions),
+                issuer: issuer_of(request.issuer),
+                signature_algo: request.signature_algo,
+                comment: Some(comment),
+            })
+        }
+        Err(NoMemory) => {
+            drop(subject);
+            Err(NoMemory)
+        }
+    }
+}
+
+/// The public part of the key, and the comment. Refuses: `NoMemory`.
+fn subject_of(alloc: Global, meaning: Meaning) -> Result<(SshPublicKey, Text), NoMemory>
+    ensures { IfOk result (λ both. both ≡ (public_key_of meaning, meaning.comment)) }
+{
     let key = public_key(alloc, meaning)?;
-    let key_id = text_where_given(alloc, &request.key_id)?;
-    let principals = request.principals.try_clone(alloc)?;
-    let critical_options = request.critical_options.try_clone(alloc)?;
-    let extensions = request.extensions.try_clone(alloc)?;
-    let issuer = issuer_where_given(alloc, &request.issuer)?;
-    Ok(SshCertificateBuilder {
-        cert_key_type: request.cert_key_type,
-        public_key: Some(key),
-        serial: request.serial,
-        cert_type: request.cert_type,
-        key_id,
-        valid_principals: Some(principals),
-        valid_after: request.valid_after,
-        valid_before: request.valid_before,
-        critical_options: Some(critical_options),
-        extensions: Some(extensions),
-        issuer,
-        signature_algo: request.signature_algo,
-        comment: Some(comment),
-    })
+    let comment = key.comment.try_clone(alloc)?;
+    Ok((key, comment))
 }
 
 /// A copy of the text, where there is one. Refuses: `NoMemory`.
@@ -116,19 +130,13 @@ fn key_where_given(alloc: Global, key: &Option<Key>) -> Result<Option<Key>, NoMe
     }
 }
 
-/// The same as an issuer's. Refuses: `NoMemory`.
-fn issuer_where_given(alloc: Global, key: &Option<Key>) -> Result<Option<IssuerKey>, NoMemory>
-    ensures { IfOk result (λ issuer. issuer ≡ issuer_in key.now) }
+/// The key as an issuer's, where there is one.
+fn issuer_of(key: Option<Key>) -> Option<IssuerKey>
+    ensures { result ≡ issuer_in key }
 {
     match key {
-        Some(Key::Private(key)) => {
-            let key = key.try_clone(alloc)?;
-            Ok(Some(IssuerKey::Private(key)))
-        }
-        Some(Key::Public(key)) => {
-            let key = key.try_clone(alloc)?;
-            Ok(Some(IssuerKey::Public(key)))
-        }
-        None => Ok(None),
+        Some(Key::Private(key)) => Some(IssuerKey::Private(key)),
+        Some(Key::Public(key)) => Some(IssuerKey::Public(key)),
+        None => None,
     }
 }
