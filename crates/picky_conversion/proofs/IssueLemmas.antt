@@ -1,6 +1,6 @@
 -- What the commands that issue certificates answer: the issuer's text is read, and then the key text.
-use Rattle.std.proofs.Common.{◌≡◌, ℕ, List, [], Bool, true, false, Option, None, Some, Result, Ok, Err, refl, sym, ap, ◌∙◌, subst, ◌⊎◌, inl, inr, ◌&&◌, ◌||◌}
-use Rattle.picky_layout.specs.Outcome.{and_then, map_err, map_ok}
+use Rattle.std.proofs.Common.{◌≡◌, ℕ, List, [], Bool, false, Option, None, Some, Result, Ok, Err, refl, sym, ap, ◌∙◌, subst, ◌⊎◌, inl, inr, ◌&&◌}
+use Rattle.picky_layout.specs.Outcome.{map_err, map_ok}
 use Rattle.picky_suite.specs.Asked.{LeavesSuite}
 use Rattle.picky_suite.specs.Failures.{IsAskedFault}
 use Rattle.picky_suite.specs.Meanings.{Meanings}
@@ -128,46 +128,42 @@ issue_refused signs view o options input rose signer_rose e (inr (inr refused)) 
     inr (inr (inr (ap (map_ok ToSign) (issued_refused o options input e refused))))
 
 -- the same of what is printed
-pub print_gives : {X : Type 0} (view : X → List ℕ) (o : Outside) (m : Meanings) (options : CertOptions) (input : List ℕ)
-    (issuer : Option Key) (bytes : List ℕ) (text : X)
-    → issuer_read o (issuer_part input) ≡ Ok issuer → m ≡ o.meanings
-    → map_ok (λ u. signed_of u.certificate) (drafting (record o { meanings = m }) (request_by options issuer) (key_part input)) ≡ Ok bytes
-    → ((u : Unsigned) → bytes ≡ signed_of u.certificate → view text ≡ hex_line u)
-    → issued_bytes o options input ≡ Ok (view text)
-print_gives view o m options input issuer bytes text is same drafted printed =
-    let whole = subst (λ n. map_ok (λ u. signed_of u.certificate) (drafting (record o { meanings = n }) (request_by options issuer) (key_part input)) ≡ Ok bytes) same drafted in
-    go (drafting o (request_by options issuer) (key_part input)) refl whole
-  where
-    go : (says : Result Unsigned ConvertError) → drafting o (request_by options issuer) (key_part input) ≡ says
-        → map_ok (λ u. signed_of u.certificate) says ≡ Ok bytes → issued_bytes o options input ≡ Ok (view text)
-    go (Ok u) says_so given =
-        let at = sym (unsigned_by o options input issuer is) ∙ says_so in
-        rw at (ap Ok (sym (printed u (cc given))))
-    go (Err e) says_so given = cc given
+pub printed_gives : {X : Type 0} (view : X → List ℕ) (says : Result Unsigned ConvertError) (bytes : List ℕ) (text : X)
+    → map_ok (λ u. signed_of u.certificate) says ≡ Ok bytes
+    → ((u : Unsigned) → bytes ≡ signed_of u.certificate → view text ≡ hex_line u) → map_ok hex_line says ≡ Ok (view text)
+printed_gives view (Ok u) bytes text given printed = ap Ok (sym (printed u (cc given)))
+printed_gives view (Err e) bytes text given printed = cc given
 
-pub print_later : {X : Type 0} (view : X → List ℕ) (o : Outside) (m : Meanings) (options : CertOptions) (input : List ℕ)
-    (issuer : Option Key) (before between after : ℕ) (e : ConvertError)
+pub printed_refused : (says : Result Unsigned ConvertError) (fault : Type 0) (e : ConvertError)
+    → (e ≡ errors.NoMemory) ⊎ fault ⊎ (map_ok (λ u. signed_of u.certificate) says ≡ Err e)
+    → (e ≡ errors.NoMemory) ⊎ fault ⊎ (map_ok hex_line says ≡ Err e)
+printed_refused says fault e (inl want) = inl want
+printed_refused says fault e (inr (inl asked)) = inr (inl asked)
+printed_refused (Ok u) fault e (inr (inr refused)) = cc refused
+printed_refused (Err f) fault e (inr (inr refused)) =
+    let same : f ≡ e = cc refused in
+    inr (inr (ap Err same))
+
+plain_same : {X : Type 0} (view : X → List ℕ) (says other : Result (List ℕ) ConvertError) (Faults Others : ConvertError → Type 0)
+    (r : Result X ConvertError) → says ≡ other → ((e : ConvertError) → Faults e → Others e) → AnswersPlain view says Faults r
+    → AnswersPlain view other Others r
+plain_same view says other Faults Others (Ok x) same each is = sym same ∙ is
+plain_same view says other Faults Others (Err e) same each (inl want) = inl want
+plain_same view says other Faults Others (Err e) same each (inr (inl fault)) = inr (inl (each e fault))
+plain_same view says other Faults Others (Err e) same each (inr (inr refused)) = inr (inr (sym same ∙ refused))
+
+pub print_gives : {X : Type 0} (view : X → List ℕ) (o : Outside) (m : Meanings) (options : CertOptions) (input : List ℕ)
+    (issuer : Option Key) (before between after : ℕ) (r : Result X ConvertError)
     → issuer_read o (issuer_part input) ≡ Ok issuer → m ≡ o.meanings → between ≡ before
-    → AnswersPlain {X = List ℕ} (λ bytes. bytes)
-    (map_ok (λ u. signed_of u.certificate) (drafting (record o { meanings = m }) (request_by options issuer) (key_part input)))
-    (λ f. IsReadFault (record o { meanings = m }) (key_part input) f (Rose between after)) (Err e)
-    → AnswersPlain {X = X} view (issued_bytes o options input) (λ f. IsIssuingFault o input f (Rose before after)) (Err e)
-print_later view o m options input issuer before between after e is same count (inl want) = inl want
-print_later view o m options input issuer before between after e is same count (inr (inl fault)) =
-    inr (inl (key_fault o input issuer (Rose between after) (Rose before after) is (λ rose. subst (λ n. Rose n after) count rose) e
-    (subst (λ n. IsReadFault (record o { meanings = n }) (key_part input) e (Rose between after)) same fault)))
-print_later view o m options input issuer before between after e is same count (inr (inr refused)) =
-    let whole = subst (λ n. map_ok (λ u. signed_of u.certificate) (drafting (record o { meanings = n }) (request_by options issuer) (key_part input)) ≡ Err e) same refused in
-    go (drafting o (request_by options issuer) (key_part input)) refl whole
-  where
-    go : (says : Result Unsigned ConvertError) → drafting o (request_by options issuer) (key_part input) ≡ says
-        → map_ok (λ u. signed_of u.certificate) says ≡ Err e
-        → (e ≡ errors.NoMemory) ⊎ IsIssuingFault o input e (Rose before after) ⊎ (issued_bytes o options input ≡ Err e)
-    go (Ok u) says_so given = cc given
-    go (Err f) says_so given =
-        let at = sym (unsigned_by o options input issuer is) ∙ says_so in
-        let same_error : f ≡ e = cc given in
-        inr (inr (rw at (ap Err same_error)))
+    → AnswersPlain view (map_ok hex_line (drafting (record o { meanings = m }) (request_by options issuer) (key_part input)))
+    (λ e. IsReadFault (record o { meanings = m }) (key_part input) e (Rose between after)) r
+    → AnswersPlain view (issued_bytes o options input) (λ e. IsIssuingFault o input e (Rose before after)) r
+print_gives view o m options input issuer before between after r is same count answers =
+    plain_same view (map_ok hex_line (drafting o (request_by options issuer) (key_part input))) _ _ _ r
+    (ap (map_ok hex_line) (unsigned_by o options input issuer is))
+    (key_fault o input issuer (Rose between after) (Rose before after) is (λ rose. subst (λ n. Rose n after) count rose))
+    (subst (λ n. AnswersPlain view (map_ok hex_line (drafting (record o { meanings = n }) (request_by options issuer) (key_part input)))
+    (λ e. IsReadFault (record o { meanings = n }) (key_part input) e (Rose between after)) r) same answers)
 
 pub print_refused : {X : Type 0} (view : X → List ℕ) (o : Outside) (options : CertOptions) (input : List ℕ) (rose : Type 0)
     (e : ConvertError) → ReadsIssuer o (issuer_part input) rose (Err e)

@@ -6,8 +6,9 @@ ghost use Rattle.picky_layout.specs.Outcome.{map_ok};
 ghost use Rattle.picky_suite.specs.Failures.{IsAskedFault};
 ghost use Rattle.picky_wire.specs.Count.{Rose};
 ghost use Rattle.picky_cert_builder.specs.Draft.{Unsigned};
+ghost use Rattle.picky_key_text.specs.Order.{asks};
 ghost use Rattle.picky_cert.specs.Spelled.{signed_of};
-ghost use Rattle.picky_conversion.specs.Certify.{hex_line};
+ghost use Rattle.picky_conversion.specs.Certify.{IsReadFault, drafting, hex_line};
 ghost use Rattle.picky_conversion.specs.Convert.{LeavesAskedSuite};
 ghost use Rattle.picky_conversion.specs.Issue.{IsIssuingFault, asks_issuer, issued, issued_bytes, issuer_fault, issuer_read, issuing_asks, request_by as request_by_options};
 ghost use Rattle.picky_conversion.specs.Made.{Answers, AnswersPlain, LeavesSigner, ToSign, is_signed};
@@ -71,15 +72,28 @@ pub fn print_signed<S: Suite>(
 {
     let parts = parts_of(input);
     match issuer_of(alloc, suite, parts.issuer, given) {
-        Ok(issuer) => {
-            match bytes_to_sign(alloc, suite, parts.key, &request_by(options, issuer), given) {
-                Ok(bytes) => match hex_text(alloc, bytes.as_slice()) {
-                    Ok(text) => Ok(text),
-                    Err(_) => Err(ConvertError::NoMemory),
-                },
-                Err(e) => Err(e),
-            }
-        }
+        Ok(issuer) => print_request(alloc, suite, parts.key, &request_by(options, issuer), given),
+        Err(e) => Err(e),
+    }
+}
+
+/// What is to be signed of a request, in lower-case hex, and LF. Refuses: as `bytes_to_sign`.
+fn print_request<S: Suite>(
+    alloc: Global,
+    suite: &mut S,
+    input: &str,
+    request: &CertRequest,
+    given: Given<'_>,
+) -> Result<String, ConvertError>
+    ensures gives { AnswersPlain string_bytes (map_ok hex_line (drafting (outside (S.meanings suite.old) given.entry) request.now input.now))
+        (λ e. IsReadFault (outside (S.meanings suite.old) given.entry) input.now e (Rose (S.faults suite.old) (S.faults suite.new))) result }
+    ensures suite { LeavesAskedSuite S.meanings S.faults (asks (option_copied given.entry.pass_in) input.now) result suite.old suite.new }
+{
+    match bytes_to_sign(alloc, suite, input, request, given) {
+        Ok(bytes) => match hex_text(alloc, bytes.as_slice()) {
+            Ok(text) => Ok(text),
+            Err(_) => Err(ConvertError::NoMemory),
+        },
         Err(e) => Err(e),
     }
 }
