@@ -2,7 +2,7 @@
 
 use crate::fakes::Asked;
 use crate::keys::{KEY_ROWS, key_of};
-use crate::wire_rows::{READ_ROWS, WRITE_ROWS};
+use crate::wire_rows::{READ_ROWS, ReadRow, WRITE_ROWS, WriteRow};
 use crate::wire_values::{is_wanted, read_value, write_value};
 use picky_sshpub::{SshBasePublicKey, SshPublicKey, SshPublicKeyError};
 use picky_wire::{
@@ -10,6 +10,7 @@ use picky_wire::{
     SshComplexTypeEncode, SshReadExt, WireError,
 };
 use std::alloc::Global;
+use std::mem::ManuallyDrop;
 use std::test::Fail;
 
 #[test]
@@ -22,43 +23,50 @@ fn calls_fail_by_their_number(rt: HostRuntime) -> Result<(), Fail> {
     Ok(())
 }
 
+/// Where the call fails, this is read of the row's bytes.
+fn is_read(
+    alloc: Global,
+    row: &ReadRow,
+    call: u64,
+    wanted: &Result<&'static [u8], u8>,
+) -> Result<bool, NoMemory> {
+    let mut source = ManuallyDrop::new(MemorySource::new(alloc, row.bytes, 1, &[call])?);
+    Ok(is_wanted(read_value(alloc, row.kind, &mut *source), wanted))
+}
+
 #[test]
 fn reads_fail_where_a_call_fails(rt: HostRuntime) -> Result<(), Fail> {
-    let alloc = rt.alloc();
     for row in &READ_ROWS {
         let name = row.name;
         for call in 0..row.taken {
-            let mut source = MemorySource::new(alloc, row.bytes, 1, &[call])?;
-            let read = read_value(alloc, row.kind, &mut source);
-            assert!(rt; is_wanted(read, &Err(2)), "{name}, call {call} fails");
+            assert!(rt;
+                is_read(rt.alloc(), row, call, &Err(2))?,
+                "{name}, call {call} fails"
+            );
         }
-        let mut source = MemorySource::new(alloc, row.bytes, 1, &[row.taken + 1])?;
-        let read = read_value(alloc, row.kind, &mut source);
         assert!(rt;
-            is_wanted(read, &row.wanted),
+            is_read(rt.alloc(), row, row.taken + 1, &row.wanted)?,
             "{name}, a later call would fail"
         );
     }
     Ok(())
 }
 
+/// Where the call fails, writing the row fails, and these bytes stay.
+fn is_cut(alloc: Global, row: &WriteRow, call: u64, bytes: &[u8]) -> Result<bool, NoMemory> {
+    let mut sink = ManuallyDrop::new(MemorySink::new(alloc, 100, 1, &[call])?);
+    let written = write_value(alloc, row.kind, row.value, &mut *sink);
+    Ok(written == Err(WireError::WriteFault) && sink.written() == bytes)
+}
+
 #[test]
 fn writes_fail_where_a_call_fails(rt: HostRuntime) -> Result<(), Fail> {
-    let alloc = rt.alloc();
     for row in &WRITE_ROWS {
-        let name = row.name;
         for call in 0..row.wanted.len() {
-            let mut sink = MemorySink::new(alloc, 100, 1, &[call as u64])?;
-            let written = write_value(alloc, row.kind, row.value, &mut sink);
-            assert_eq!(rt;
-                written,
-                Err(WireError::WriteFault),
-                "{name}, call {call} fails"
-            );
-            assert_eq!(rt;
-                sink.written(),
-                &row.wanted[..call],
-                "{name}, call {call} fails"
+            assert!(rt;
+                is_cut(rt.alloc(), row, call as u64, &row.wanted[..call])?,
+                "{}, call {call} fails",
+                row.name
             );
         }
     }
@@ -67,9 +75,9 @@ fn writes_fail_where_a_call_fails(rt: HostRuntime) -> Result<(), Fail> {
 
 /// Writing and reading the key's blob, and taking its line, stop where call 9 fails.
 fn stops(alloc: Global, line: &str) -> Result<bool, Fail> {
-    let key = key_of(alloc, line)?;
-    let mut whole = MemorySink::new(alloc, 999, 999, &[])?;
-    key.encode(&mut whole)?;
+    let key = ManuallyDrop::new(key_of(alloc, line)?);
+    let mut whole = ManuallyDrop::new(MemorySink::new(alloc, 999, 999, &[])?);
+    key.encode(&mut *whole)?;
     Ok(
         key.spelling_len() == whole.written().len() as u64
             && stops_writing(alloc, &key)?
@@ -122,10 +130,10 @@ fn most_asked(alloc: Global, bytes: &[u8], wanted: Option<&[u8]>) -> Option<usiz
 fn asks_for_few_bytes_ahead(rt: HostRuntime) -> Result<(), Fail> {
     let alloc = rt.alloc();
     let short = b"\xff\xff\xff\xff\x01\x02\x03";
-    assert_eq!(rt; most_asked(alloc, short, None), Some(4096));
+    assert!(rt; most_asked(alloc, short, None) == Some(4096));
     let mut long = Vec::from_slice(alloc, &10_000u32.to_be_bytes())?;
     long.extend_from_slice(&[7u8; 10_000])?;
     let wanted = Some([7u8; 10_000].as_slice());
-    assert_eq!(rt; most_asked(alloc, long.as_slice(), wanted), Some(4096));
+    assert!(rt; most_asked(alloc, long.as_slice(), wanted) == Some(4096));
     Ok(())
 }

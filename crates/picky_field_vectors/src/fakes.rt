@@ -126,3 +126,8 @@ pub fn hex_of(alloc: Global, bytes: &[u8]) -> Result<String, AllocError> {
     }
     Ok(text)
 }
+
+/// The bytes are these in hex.
+pub fn is_hex(alloc: Global, bytes: &[u8], hex: &str) -> Result<bool, AllocError> {
+    Ok(hex_of(alloc, bytes)?.as_str() == hex)
+}

@@ -1,7 +1,7 @@
 //! The public part of private keys and of issuers.
 
 use picky_keys::{EcCurve, Issuer, PrivateKey, PublicKeyRef};
-use picky_wire::{Bytes, Mpint, TryClone};
+use picky_wire::{Bytes, Mpint, NoMemory, TryClone};
 use std::alloc::Global;
 use std::mem::ManuallyDrop;
 use std::test::Fail;
@@ -38,30 +38,41 @@ fn ec_key(alloc: Global) -> Result<PrivateKey, Fail> {
     })
 }
 
+fn is_copied(alloc: Global, issuer: &Issuer) -> Result<bool, NoMemory> {
+    let copy = ManuallyDrop::new(issuer.try_clone(alloc)?);
+    Ok(*copy == *issuer)
+}
+
 /// The issuer shows this, and is its copy.
-fn shows(alloc: Global, issuer: &Issuer, wanted: PublicKeyRef<'_>) -> bool {
-    match issuer.try_clone(alloc) {
-        Ok(copy) => copy == *issuer && issuer.public() == wanted,
-        Err(_) => false,
-    }
+fn shows(alloc: Global, issuer: &Issuer, wanted: PublicKeyRef<'_>) -> Result<bool, NoMemory> {
+    Ok(is_copied(alloc, issuer)? && issuer.public() == wanted)
 }
 
 /// As an issuer the key shows this, and is its copy.
-fn private_shows(alloc: Global, key: &PrivateKey, wanted: PublicKeyRef<'_>) -> bool {
-    match key.try_clone(alloc) {
-        Ok(copy) => copy == *key && shows(alloc, &Issuer::Private(copy), wanted),
-        Err(_) => false,
-    }
+fn private_shows(
+    alloc: Global,
+    key: &PrivateKey,
+    wanted: PublicKeyRef<'_>,
+) -> Result<bool, NoMemory> {
+    let copy = ManuallyDrop::new(key.try_clone(alloc)?);
+    let is_copied = *copy == *key;
+    let issuer = ManuallyDrop::new(Issuer::Private(ManuallyDrop::into_inner(copy)));
+    Ok(is_copied && shows(alloc, &issuer, wanted)?)
 }
 
 /// So does its public part.
-fn is_public(alloc: Global, key: &PrivateKey, wanted: PublicKeyRef<'_>) -> bool {
-    match key.to_public_key(alloc) {
-        Ok(public) => {
-            private_shows(alloc, key, wanted) && shows(alloc, &Issuer::Public(public), wanted)
-        }
-        Err(_) => false,
-    }
+fn public_shows(
+    alloc: Global,
+    key: &PrivateKey,
+    wanted: PublicKeyRef<'_>,
+) -> Result<bool, NoMemory> {
+    let issuer = ManuallyDrop::new(Issuer::Public(key.to_public_key(alloc)?));
+    shows(alloc, &issuer, wanted)
+}
+
+/// Both do.
+fn is_public(alloc: Global, key: &PrivateKey, wanted: PublicKeyRef<'_>) -> Result<bool, NoMemory> {
+    Ok(private_shows(alloc, key, wanted)? && public_shows(alloc, key, wanted)?)
 }
 
 #[test]
@@ -70,7 +81,7 @@ fn shows_the_public_part_of_an_rsa_key(rt: HostRuntime) -> Result<(), Fail> {
     let key = ManuallyDrop::new(rsa_key(alloc)?);
     let e = number(alloc, &[17])?;
     let n = number(alloc, &[0x0C, 0xA1])?;
-    assert!(rt; is_public(alloc, &*key, PublicKeyRef::Rsa { e: &*e, n: &*n }));
+    assert!(rt; is_public(alloc, &*key, PublicKeyRef::Rsa { e: &*e, n: &*n })?);
     Ok(())
 }
 
@@ -83,11 +94,11 @@ fn shows_the_public_part_of_keys_on_curves(rt: HostRuntime) -> Result<(), Fail> 
         curve: EcCurve::NistP384,
         point: &*point,
     };
-    assert!(rt; is_public(alloc, &*key, shown));
+    assert!(rt; is_public(alloc, &*key, shown)?);
     let key = ManuallyDrop::new(PrivateKey::Ed {
         secret: [1; 32],
         public: [2; 32],
     });
-    assert!(rt; is_public(alloc, &*key, PublicKeyRef::Ed { key: &[2; 32] }));
+    assert!(rt; is_public(alloc, &*key, PublicKeyRef::Ed { key: &[2; 32] })?);
     Ok(())
 }

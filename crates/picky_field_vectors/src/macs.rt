@@ -1,8 +1,10 @@
 //! HMAC-SHA-1 and HMAC-SHA-256 of published keys and messages, which show that the definition is the
 //! standard's.
 
-use crate::fakes::hex_of;
+use crate::fakes::{hex_of, is_hex};
 use picky_suite::{MemorySuite, PlainSuite, Suite, hmac_sha1, hmac_sha256};
+use std::alloc::{AllocError, Global};
+use std::mem::ManuallyDrop;
 use std::test::Fail;
 
 // A key and a message, and their two MACs in hex.
@@ -131,22 +133,26 @@ fn macs_of<S: Suite>(suite: &S, key: &[u8], message: &[u8]) -> ([u8; 20], [u8; 3
     )
 }
 
+/// The functions give the row's values, and both suites give what the functions do.
+fn is_given(alloc: Global, tested: &MemorySuite, row: &Row) -> Result<bool, AllocError> {
+    let plain = ManuallyDrop::new(PlainSuite::new());
+    let macs = (
+        hmac_sha1(row.key, row.message),
+        hmac_sha256(row.key, row.message),
+    );
+    Ok(
+        is_hex(alloc, &macs.0, row.sha1)?
+            && hex_of(alloc, &macs.1)?.starts_with(row.sha256)
+            && macs_of(&*plain, row.key, row.message) == macs
+            && macs_of(tested, row.key, row.message) == macs,
+    )
+}
+
 #[test]
 fn gives_the_published_values(rt: HostRuntime) -> Result<(), Fail> {
-    let plain = PlainSuite::new();
-    let tested = MemorySuite::new(rt.alloc(), &[])?;
+    let tested = ManuallyDrop::new(MemorySuite::new(rt.alloc(), &[])?);
     for row in &ROWS {
-        let name = row.name;
-        let macs = (
-            hmac_sha1(row.key, row.message),
-            hmac_sha256(row.key, row.message),
-        );
-        let sha1 = hex_of(rt.alloc(), &macs.0)?;
-        assert_eq!(rt; sha1.as_str(), row.sha1, "HMAC-SHA-1, {name}");
-        let sha256 = hex_of(rt.alloc(), &macs.1)?;
-        assert!(rt; sha256.starts_with(row.sha256), "HMAC-SHA-256, {name}");
-        assert_eq!(rt; macs_of(&plain, row.key, row.message), macs, "{name}");
-        assert_eq!(rt; macs_of(&tested, row.key, row.message), macs, "{name}");
+        assert!(rt; is_given(rt.alloc(), &tested, row)?, "{}", row.name);
     }
     Ok(())
 }

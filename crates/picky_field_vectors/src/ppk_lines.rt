@@ -2,11 +2,12 @@
 
 use picky_kv::{
     KvError, PpkArgon2Memory, PpkArgon2Parallelism, PpkArgon2Passes, PpkArgon2Salt, PpkComment,
-    PpkEncryption, PpkHeader, PpkKeyDerivation, PpkPrivateLines, PpkPrivateMac, PpkPublicLines,
-    PuttyKvReader, PuttyKvWriter,
+    PpkEncryption, PpkHeader, PpkKeyDerivation, PpkKeyValue, PpkPrivateLines, PpkPrivateMac,
+    PpkPublicLines, PpkSingle, PuttyKvReader, PuttyKvWriter,
 };
 use picky_wire::{Bytes, Text};
 use std::alloc::Global;
+use std::mem::ManuallyDrop;
 use std::test::Fail;
 
 // puttygen 0.78: puttygen -t ed25519 -o sealed.ppk --new-passphrase pw -C 'of a test: ed25519'
@@ -36,16 +37,25 @@ fn copy_header(
     to.write_key_value::<PpkHeader>(&key, &value)
 }
 
+fn copy_value<T: PpkKeyValue>(
+    alloc: Global,
+    from: &mut PuttyKvReader<'_>,
+    to: &mut PuttyKvWriter,
+) -> Result<(), KvError>
+where
+    T::Key: PpkSingle,
+{
+    let value = ManuallyDrop::new(from.next_value::<T>(alloc)?);
+    to.write_value::<T>(&value)
+}
+
 fn copy_head(
     alloc: Global,
     from: &mut PuttyKvReader<'_>,
     to: &mut PuttyKvWriter,
 ) -> Result<(), KvError> {
-    let value = from.next_value::<PpkEncryption>(alloc)?;
-    to.write_value::<PpkEncryption>(&value)?;
-    let value = from.next_value::<PpkComment>(alloc)?;
-    to.write_value::<PpkComment>(&value)?;
-    Ok(())
+    copy_value::<PpkEncryption>(alloc, from, to)?;
+    copy_value::<PpkComment>(alloc, from, to)
 }
 
 fn copy_public(
@@ -62,17 +72,11 @@ fn copy_derivation(
     from: &mut PuttyKvReader<'_>,
     to: &mut PuttyKvWriter,
 ) -> Result<(), KvError> {
-    let value = from.next_value::<PpkKeyDerivation>(alloc)?;
-    to.write_value::<PpkKeyDerivation>(&value)?;
-    let value = from.next_value::<PpkArgon2Memory>(alloc)?;
-    to.write_value::<PpkArgon2Memory>(&value)?;
-    let value = from.next_value::<PpkArgon2Passes>(alloc)?;
-    to.write_value::<PpkArgon2Passes>(&value)?;
-    let value = from.next_value::<PpkArgon2Parallelism>(alloc)?;
-    to.write_value::<PpkArgon2Parallelism>(&value)?;
-    let value = from.next_value::<PpkArgon2Salt>(alloc)?;
-    to.write_value::<PpkArgon2Salt>(&value)?;
-    Ok(())
+    copy_value::<PpkKeyDerivation>(alloc, from, to)?;
+    copy_value::<PpkArgon2Memory>(alloc, from, to)?;
+    copy_value::<PpkArgon2Passes>(alloc, from, to)?;
+    copy_value::<PpkArgon2Parallelism>(alloc, from, to)?;
+    copy_value::<PpkArgon2Salt>(alloc, from, to)
 }
 
 fn copy_tail(
@@ -80,11 +84,9 @@ fn copy_tail(
     from: &mut PuttyKvReader<'_>,
     to: &mut PuttyKvWriter,
 ) -> Result<(), KvError> {
-    let value = from.next_multiline_value::<PpkPrivateLines>(alloc)?;
+    let value = ManuallyDrop::new(from.next_multiline_value::<PpkPrivateLines>(alloc)?);
     to.write_multiline_value::<PpkPrivateLines>(&value)?;
-    let value = from.next_value::<PpkPrivateMac>(alloc)?;
-    to.write_value::<PpkPrivateMac>(&value)?;
-    Ok(())
+    copy_value::<PpkPrivateMac>(alloc, from, to)
 }
 
 fn copied(alloc: Global, text: &str, crlf: bool) -> Result<Text, KvError> {
@@ -103,7 +105,7 @@ fn reads_the_mac_in_hex_of_both_cases(rt: HostRuntime) -> Result<(), Fail> {
     let mut reader = PuttyKvReader::from_str("Private-MAC: 00aBFf");
     let mac = Bytes::from(reader.next_value::<PpkPrivateMac>(rt.alloc())?);
     // RFC 4648, section 8: two digits a byte, the high four bits first, in either case
-    assert_eq!(rt; mac.as_slice(), [0x00, 0xab, 0xff].as_slice());
+    assert!(rt; mac.as_slice() == [0x00, 0xab, 0xff].as_slice());
     Ok(())
 }
 
@@ -232,7 +234,7 @@ fn stays_at_its_end_once_refused(rt: HostRuntime) -> Result<(), Fail> {
 fn keeps_all_behind_the_first_separator(rt: HostRuntime) -> Result<(), Fail> {
     let mut reader = PuttyKvReader::from_str("Comment: a: b");
     let comment = Text::from(reader.next_value::<PpkComment>(rt.alloc())?);
-    assert_eq!(rt; comment.as_str(), "a: b");
+    assert!(rt; comment.as_str() == "a: b");
     Ok(())
 }
 
@@ -240,7 +242,7 @@ fn keeps_all_behind_the_first_separator(rt: HostRuntime) -> Result<(), Fail> {
 fn reads_a_count_with_a_plus_and_zeros(rt: HostRuntime) -> Result<(), Fail> {
     let mut reader = PuttyKvReader::from_str("Public-Lines: +002\nAAAA\nAAAA");
     let bytes = Bytes::from(reader.next_multiline_value::<PpkPublicLines>(rt.alloc())?);
-    assert_eq!(rt; bytes.as_slice(), [0; 6].as_slice());
+    assert!(rt; bytes.as_slice() == [0; 6].as_slice());
     assert!(rt; is_at_its_end(rt.alloc(), &mut reader));
     Ok(())
 }
@@ -249,6 +251,6 @@ fn reads_a_count_with_a_plus_and_zeros(rt: HostRuntime) -> Result<(), Fail> {
 fn reads_hex_of_both_cases(rt: HostRuntime) -> Result<(), Fail> {
     let mut reader = PuttyKvReader::from_str("Argon2-Salt: 00aBFf");
     let salt = Bytes::from(reader.next_value::<PpkArgon2Salt>(rt.alloc())?);
-    assert_eq!(rt; salt.as_slice(), [0x00, 0xab, 0xff].as_slice());
+    assert!(rt; salt.as_slice() == [0x00, 0xab, 0xff].as_slice());
     Ok(())
 }

@@ -1,7 +1,7 @@
 //! What the suite and the signers for tests answer, against values of Python's hashlib, and calls that fail by their
 //! number.
 
-use crate::fakes::hex_of;
+use crate::fakes::is_hex;
 use picky_keys::{Issuer, PublicKey, SignatureAlgorithm};
 use picky_suite::laws::{
     a_tested_range_is_asked, the_counter_cipher_undoes_itself, two_signatures_are_good,
@@ -13,6 +13,7 @@ use picky_suite::{
 };
 use picky_wire::{Bytes, Failed};
 use std::alloc::Global;
+use std::mem::ManuallyDrop;
 use std::test::Fail;
 
 const PASS: &[u8] = b"password";
@@ -42,23 +43,21 @@ static TEXT: [u8; 33] = [
 // d = lambda ns: b"".join(sha512(s(b"password") + s(b"saltsalt") + b"".join(map(n32, ns)) + bytes([i])).digest()
 //                         for i in (0, 1))
 // print(d([16])[:32].hex(), d([16])[:48].hex())
-#[test]
-fn bcrypt_gives_the_digests_of_python(rt: HostRuntime) -> Result<(), Fail> {
-    let mut suite = MemorySuite::new(rt.alloc(), &[])?;
+fn gives_digests(alloc: Global, suite: &mut MemorySuite) -> Result<bool, Fail> {
     let mut short = [0; 32];
     suite.bcrypt(PASS, SALT, 16, &mut short)?;
-    let short = hex_of(rt.alloc(), &short)?;
-    assert_eq!(rt;
-        short.as_str(),
-        "537431a36b9dc5b8428688a838cb14c687b81a6cfec04be28524f258a632567c"
-    );
     let mut long = [0; 48];
     suite.bcrypt(PASS, SALT, 16, &mut long)?;
-    let long = hex_of(rt.alloc(), &long)?;
-    assert_eq!(rt;
-        long.as_str(),
-        "537431a36b9dc5b8428688a838cb14c687b81a6cfec04be28524f258a632567c86f7dd556e333b02cbfa1dd8bc2b17d3"
-    );
+    let wanted_short = "537431a36b9dc5b8428688a838cb14c687b81a6cfec04be28524f258a632567c";
+    let wanted_long =
+        "537431a36b9dc5b8428688a838cb14c687b81a6cfec04be28524f258a632567c86f7dd556e333b02cbfa1dd8bc2b17d3";
+    Ok(is_hex(alloc, &short, wanted_short)? && is_hex(alloc, &long, wanted_long)?)
+}
+
+#[test]
+fn bcrypt_gives_the_digests_of_python(rt: HostRuntime) -> Result<(), Fail> {
+    let mut suite = ManuallyDrop::new(MemorySuite::new(rt.alloc(), &[])?);
+    assert!(rt; gives_digests(rt.alloc(), &mut suite)?);
     Ok(())
 }
 
@@ -87,14 +86,18 @@ static DERIVED: [Derived; 3] = [
     },
 ];
 
+/// The suite derives what the row says.
+fn derives(alloc: Global, suite: &mut MemorySuite, row: &Derived) -> Result<bool, Fail> {
+    let mut out = [0; 80];
+    suite.argon2(row.flavour, 8192, 21, 1, PASS, SALT, &mut out)?;
+    Ok(is_hex(alloc, &out, row.wanted)?)
+}
+
 #[test]
 fn argon2_gives_the_digests_of_python(rt: HostRuntime) -> Result<(), Fail> {
-    let mut suite = MemorySuite::new(rt.alloc(), &[])?;
+    let mut suite = ManuallyDrop::new(MemorySuite::new(rt.alloc(), &[])?);
     for row in &DERIVED {
-        let mut out = [0; 80];
-        suite.argon2(row.flavour, 8192, 21, 1, PASS, SALT, &mut out)?;
-        let out = hex_of(rt.alloc(), &out)?;
-        assert_eq!(rt; out.as_str(), row.wanted, "{:?}", row.flavour);
+        assert!(rt; derives(rt.alloc(), &mut suite, row)?, "{:?}", row.flavour);
     }
     Ok(())
 }
@@ -103,47 +106,51 @@ fn argon2_gives_the_digests_of_python(rt: HostRuntime) -> Result<(), Fail> {
 // key, iv, text = bytes(range(32)), bytes(range(100, 116)), bytes(range(150, 183))
 // one = xor(xor(text[:16], iv), key)
 // print((one + xor(xor(text[16:32], one), key)).hex())
-#[test]
-fn two_blocks_are_sealed_in_a_chain(rt: HostRuntime) -> Result<(), Fail> {
-    let mut suite = MemorySuite::new(rt.alloc(), &[])?;
+/// Two blocks are sealed as this, and come back.
+fn is_chained(alloc: Global, suite: &mut MemorySuite, wanted: &str) -> Result<bool, Fail> {
     let mut block = [0; 32];
     block.copy_from_slice(&TEXT[..32]);
     suite.cbc_seal(&KEY, &IV, &mut block)?;
-    let sealed = hex_of(rt.alloc(), &block)?;
-    assert_eq!(rt;
-        sealed.as_str(),
-        "f2f3fcfdf6f7f0f1fafbc4c5dedfd8d95455565758595a5b5c5d7e7f60616263"
-    );
+    let is_sealed = is_hex(alloc, &block, wanted)?;
     suite.cbc_open(&KEY, &IV, &mut block)?;
-    assert_eq!(rt; block.as_slice(), &TEXT[..32]);
+    Ok(is_sealed && block.as_slice() == &TEXT[..32])
+}
+
+#[test]
+fn two_blocks_are_sealed_in_a_chain(rt: HostRuntime) -> Result<(), Fail> {
+    let mut suite = ManuallyDrop::new(MemorySuite::new(rt.alloc(), &[])?);
+    let wanted = "f2f3fcfdf6f7f0f1fafbc4c5dedfd8d95455565758595a5b5c5d7e7f60616263";
+    assert!(rt; is_chained(rt.alloc(), &mut suite, wanted)?);
     Ok(())
 }
 
 // print(b"".join(xor(xor(text[i:i + 16], key), iv) for i in (0, 16, 32)).hex()), with the words as for sealing
 #[test]
 fn a_cut_block_is_xored_too(rt: HostRuntime) -> Result<(), Fail> {
-    let mut suite = MemorySuite::new(rt.alloc(), &[])?;
+    let mut suite = ManuallyDrop::new(MemorySuite::new(rt.alloc(), &[])?);
     let mut block = TEXT;
     suite.ctr(&KEY, &IV, &mut block)?;
-    let sealed = hex_of(rt.alloc(), &block)?;
-    assert_eq!(rt;
-        sealed.as_str(),
-        "f2f3fcfdf6f7f0f1fafbc4c5dedfd8d9c2c3cccdc6c7c0c1cacbd4d5cecfc8c9d2"
-    );
+    let wanted = "f2f3fcfdf6f7f0f1fafbc4c5dedfd8d9c2c3cccdc6c7c0c1cacbd4d5cecfc8c9d2";
+    assert!(rt; is_hex(rt.alloc(), &block, wanted)?);
     Ok(())
+}
+
+/// What the suite seals comes back: by a key, under a passphrase, and by the counter.
+fn comes_back(suite: &mut MemorySuite) -> Result<bool, Failed> {
+    let mut block = KEY;
+    what_is_sealed_is_opened(suite, &KEY, &IV, &mut block)?;
+    let by_key = block == KEY;
+    what_is_sealed_under_a_passphrase_is_opened(suite, PASS, SALT, 16, &mut block)?;
+    let under_pass = block == KEY;
+    let mut text = TEXT;
+    the_counter_cipher_undoes_itself(suite, &KEY, &IV, &mut text)?;
+    Ok(by_key && under_pass && text == TEXT)
 }
 
 #[test]
 fn what_is_sealed_comes_back(rt: HostRuntime) -> Result<(), Fail> {
-    let mut suite = MemorySuite::new(rt.alloc(), &[])?;
-    let mut block = KEY;
-    what_is_sealed_is_opened(&mut suite, &KEY, &IV, &mut block)?;
-    assert_eq!(rt; block, KEY);
-    what_is_sealed_under_a_passphrase_is_opened(&mut suite, PASS, SALT, 16, &mut block)?;
-    assert_eq!(rt; block, KEY);
-    let mut text = TEXT;
-    the_counter_cipher_undoes_itself(&mut suite, &KEY, &IV, &mut text)?;
-    assert_eq!(rt; text, TEXT);
+    let mut suite = ManuallyDrop::new(MemorySuite::new(rt.alloc(), &[])?);
+    assert!(rt; comes_back(&mut suite)?);
     Ok(())
 }
 
@@ -159,27 +166,35 @@ fn nth_call<S: Suite>(suite: &mut S, n: u64) -> Result<(), Failed> {
     }
 }
 
+/// Of seven calls the suite fails the listed one alone.
+fn fails_the_listed(suite: &mut MemorySuite, listed: u64) -> bool {
+    for call in 0..7 {
+        if nth_call(suite, call).is_err() != (call == listed) {
+            return false;
+        }
+    }
+    true
+}
+
 #[test]
 fn a_suite_fails_the_listed_call(rt: HostRuntime) -> Result<(), Fail> {
     for listed in 0..5 {
-        let mut suite = MemorySuite::new(rt.alloc(), &[listed])?;
-        for call in 0..7 {
-            assert_eq!(rt;
-                nth_call(&mut suite, call).is_err(),
-                call == listed,
-                "call {call}, where {listed} fails"
-            );
-        }
+        let mut suite = ManuallyDrop::new(MemorySuite::new(rt.alloc(), &[listed])?);
+        assert!(rt; fails_the_listed(&mut suite, listed), "call {listed}");
     }
     Ok(())
+}
+
+/// The plain suite fails the call, and counts it.
+fn is_failed_and_counted(call: u64) -> bool {
+    let mut suite = ManuallyDrop::new(PlainSuite::new());
+    nth_call(&mut *suite, call) == Err(Failed) && *suite != PlainSuite::new()
 }
 
 #[test]
 fn the_plain_suite_fails_each_call_and_counts_it(rt: HostRuntime) -> Result<(), Fail> {
     for call in 0..5 {
-        let mut suite = PlainSuite::new();
-        assert_eq!(rt; nth_call(&mut suite, call), Err(Failed), "call {call}");
-        assert_ne!(rt; suite, PlainSuite::new(), "call {call}");
+        assert!(rt; is_failed_and_counted(call), "call {call}");
     }
     Ok(())
 }
@@ -190,21 +205,17 @@ fn issuer() -> Issuer {
 }
 
 fn sign<G: Signer>(alloc: Global, signer: &mut G, message: &[u8]) -> Result<Bytes, SignError> {
-    signer.sign(alloc, &issuer(), SignatureAlgorithm::Ed25519, message)
+    let issuer = ManuallyDrop::new(issuer());
+    signer.sign(alloc, &issuer, SignatureAlgorithm::Ed25519, message)
 }
 
 // python3 -c 'import hashlib; print(hashlib.sha256(b"message").hexdigest())'
 const DIGEST: &str = "ab530a13e45914982b79f9b7e3fba994cfd1f3fb22f71cea1afbf02b460c6d1d";
 
-fn is_digest(alloc: Global, bytes: &[u8]) -> Result<bool, Fail> {
-    let hex = hex_of(alloc, bytes)?;
-    Ok(hex.as_str() == DIGEST)
-}
-
 /// The signer signs by the digest, or fails where it has to.
 fn signs_unless(alloc: Global, signer: &mut MemorySigner, fails: bool) -> Result<bool, Fail> {
     match sign(alloc, signer, b"message") {
-        Ok(signature) => Ok(!fails && is_digest(alloc, signature.as_slice())?),
+        Ok(signature) => Ok(!fails && is_hex(alloc, signature.as_slice(), DIGEST)?),
         Err(error) => Ok(fails && error == SignError::Failed),
     }
 }
@@ -221,16 +232,17 @@ fn fails_once(alloc: Global, listed: u64) -> Result<bool, Fail> {
 }
 
 fn signs_alike(alloc: Global) -> Result<bool, Fail> {
-    let mut signer = MemorySigner::new(alloc, &[])?;
+    let mut signer = ManuallyDrop::new(MemorySigner::new(alloc, &[])?);
+    let issuer = ManuallyDrop::new(issuer());
     let algorithm = SignatureAlgorithm::Ed25519;
-    let (one, other) = two_signatures_are_good(
-        &mut signer,
+    let signatures = ManuallyDrop::new(two_signatures_are_good(
+        &mut *signer,
         alloc,
-        &issuer(),
+        &issuer,
         algorithm,
         b"message",
-    )?;
-    Ok(one == other)
+    )?);
+    Ok(signatures.0 == signatures.1)
 }
 
 #[test]
@@ -242,20 +254,24 @@ fn a_signer_signs_by_the_digest_and_fails_the_listed_call(rt: HostRuntime) -> Re
     Ok(())
 }
 
+fn signs_as_handed(alloc: Global, signer: &mut HandedSigner) -> Result<bool, SignError> {
+    Ok(sign(alloc, signer, b"message")?.as_slice() == b"signature".as_slice())
+}
+
+fn signs_never(alloc: Global) -> bool {
+    let mut signer = ManuallyDrop::new(HandedSigner::new(None));
+    sign(alloc, &mut *signer, b"message") == Err(SignError::Failed)
+        && sign(alloc, &mut *signer, b"message") == Err(SignError::Failed)
+}
+
 #[test]
 fn a_handed_signature_is_answered_each_time(rt: HostRuntime) -> Result<(), Fail> {
-    let mut signer = HandedSigner::new(Some(Bytes::new(rt.alloc(), b"signature")?));
+    let signature = Bytes::new(rt.alloc(), b"signature")?;
+    let mut signer = ManuallyDrop::new(HandedSigner::new(Some(signature)));
     for _ in 0..2 {
-        let signature = sign(rt.alloc(), &mut signer, b"message")?;
-        assert_eq!(rt; signature.as_slice(), b"signature".as_slice());
+        assert!(rt; signs_as_handed(rt.alloc(), &mut signer)?);
     }
-    let mut without = HandedSigner::new(None);
-    for _ in 0..2 {
-        assert_eq!(rt;
-            sign(rt.alloc(), &mut without, b"message"),
-            Err(SignError::Failed)
-        );
-    }
+    assert!(rt; signs_never(rt.alloc()));
     Ok(())
 }
 
@@ -291,19 +307,18 @@ fn the_ranges_hold_their_ends(rt: HostRuntime) -> Result<(), Fail> {
     Ok(())
 }
 
+/// The suite is asked inside the range alone, and fails its second call.
+fn is_asked_inside(suite: &mut MemorySuite) -> bool {
+    let mut out = [0; 48];
+    a_tested_range_is_asked(suite, b"p", b"salt", 0, &mut out) == Ok(false)
+        && out == [0; 48]
+        && a_tested_range_is_asked(suite, b"p", b"salt", 16, &mut out) == Ok(true)
+        && a_tested_range_is_asked(suite, b"p", b"salt", 16, &mut out).is_err()
+}
+
 #[test]
 fn a_suite_is_asked_inside_the_range_alone(rt: HostRuntime) -> Result<(), Fail> {
-    let mut suite = MemorySuite::new(rt.alloc(), &[1])?;
-    let mut out = [0; 48];
-    assert_eq!(rt;
-        a_tested_range_is_asked(&mut suite, b"p", b"salt", 0, &mut out),
-        Ok(false)
-    );
-    assert_eq!(rt; out, [0; 48]);
-    assert_eq!(rt;
-        a_tested_range_is_asked(&mut suite, b"p", b"salt", 16, &mut out),
-        Ok(true)
-    );
-    assert!(rt; a_tested_range_is_asked(&mut suite, b"p", b"salt", 16, &mut out).is_err());
+    let mut suite = ManuallyDrop::new(MemorySuite::new(rt.alloc(), &[1])?);
+    assert!(rt; is_asked_inside(&mut suite));
     Ok(())
 }

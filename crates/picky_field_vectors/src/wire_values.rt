@@ -1,11 +1,12 @@
 //! The values of the rows, read and written a few bytes at a time.
 
-use crate::wire_rows::{Kind, READ_ROWS, WRITE_ROWS};
+use crate::wire_rows::{Kind, READ_ROWS, ReadRow, WRITE_ROWS, WriteRow};
 use picky_wire::{
     List, MemorySink, MemorySource, Mpint, Sink, SliceSource, Source, SshReadExt, SshWriteExt,
     Timestamp, WireError, decode_list, decode_principals, encode_list, encode_principals,
 };
 use std::alloc::Global;
+use std::mem::ManuallyDrop;
 use std::test::Fail;
 
 // Bytes in a vector of their own.
@@ -97,35 +98,51 @@ pub fn write_value<S: Sink>(
     }
 }
 
+/// The row is read of a slice, which has so many bytes left.
+fn is_read(alloc: Global, row: &ReadRow) -> bool {
+    let mut slice = SliceSource::new(row.bytes);
+    let read = read_value(alloc, row.kind, &mut slice);
+    is_wanted(read, &row.wanted) && slice.rest().len() == row.left
+}
+
+/// The row is read where a call gives one byte and so many more.
+fn is_read_in_calls(alloc: Global, row: &ReadRow, more: u8) -> Result<bool, Fail> {
+    let step = more as usize + 1;
+    let mut source = ManuallyDrop::new(MemorySource::new(alloc, row.bytes, step, &[])?);
+    Ok(is_wanted(read_value(alloc, row.kind, &mut *source), &row.wanted))
+}
+
 #[test]
 fn reads_the_rows(rt: HostRuntime) -> Result<(), Fail> {
-    let alloc = rt.alloc();
     for row in &READ_ROWS {
-        let name = row.name;
-        let mut slice = SliceSource::new(row.bytes);
-        let read = read_value(alloc, row.kind, &mut slice);
-        assert!(rt; is_wanted(read, &row.wanted), "{name}");
-        assert_eq!(rt; slice.rest().len(), row.left, "{name}, left");
+        assert!(rt; is_read(rt.alloc(), row), "{}", row.name);
         for more in [0u8, 6, 99] {
-            let step = more as usize + 1;
-            let mut source = MemorySource::new(alloc, row.bytes, step, &[])?;
-            let read = read_value(alloc, row.kind, &mut source);
-            assert!(rt; is_wanted(read, &row.wanted), "{name}, {step} bytes a call");
+            assert!(rt;
+                is_read_in_calls(rt.alloc(), row, more)?,
+                "{}, a byte and {more} a call",
+                row.name
+            );
         }
     }
     Ok(())
 }
 
+/// The row is written where a call takes one byte and so many more.
+fn is_written(alloc: Global, row: &WriteRow, more: u8) -> Result<bool, Fail> {
+    let mut sink = ManuallyDrop::new(MemorySink::new(alloc, 100, more as usize + 1, &[])?);
+    write_value(alloc, row.kind, row.value, &mut *sink)?;
+    Ok(sink.written() == row.wanted)
+}
+
 #[test]
 fn writes_the_rows(rt: HostRuntime) -> Result<(), Fail> {
-    let alloc = rt.alloc();
     for row in &WRITE_ROWS {
-        let name = row.name;
         for more in [0u8, 6, 99] {
-            let step = more as usize + 1;
-            let mut sink = MemorySink::new(alloc, 100, step, &[])?;
-            write_value(alloc, row.kind, row.value, &mut sink)?;
-            assert_eq!(rt; sink.written(), row.wanted, "{name}, {step} bytes a call");
+            assert!(rt;
+                is_written(rt.alloc(), row, more)?,
+                "{}, a byte and {more} a call",
+                row.name
+            );
         }
     }
     Ok(())
