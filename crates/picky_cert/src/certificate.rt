@@ -1,11 +1,10 @@
 //! A certificate as a value.
 
-use crate::copy::both;
 use picky_cert_parts::{
     SshCertKeyType, SshCertType, SshCriticalOption, SshExtension, SshSignature,
 };
 use picky_sshpub::SshPublicKey;
-use picky_wire::{Bytes, List, NoMemory, Text, Timestamp, TryClone};
+use picky_wire::{Bytes, List, NoMemory, Text, Timestamp, TryClone, both};
 use std::alloc::Global;
 
 /// A certificate: a key, and what its issuer says of it (OpenSSH's PROTOCOL.certkeys).

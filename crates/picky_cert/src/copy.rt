@@ -1,6 +1,6 @@
 //! A certificate copied from its bytes, part by part.
 
-ghost use Rattle.std.specs.Prelude.{◌≡◌, [], ◌<◌, ◌^◌, IfOk, IsUtf8, length, Ok};
+ghost use Rattle.std.specs.Prelude.{◌≡◌, [], ◌<◌, ◌^◌, IfOk, IsUtf8, length};
 ghost use Rattle.picky_cert_parts.specs.Signature.{IsSignature};
 ghost use Rattle.picky_sshpub.specs.Key.{IsKey};
 ghost use Rattle.picky_sshpub.specs.View.{key_seen};
@@ -17,7 +17,7 @@ use picky_cert_parts::{
     SshCriticalOption, SshExtension, SshSignature, SshSignatureBlob, SshSignatureFormat,
 };
 use picky_sshpub::{PublicView, SshPublicKey};
-use picky_wire::{List, NoMemory, Part, Text, decode_items};
+use picky_wire::{List, NoMemory, Part, Text, both, decode_items};
 use std::alloc::Global;
 
 impl<'a> CertView<'a> {
@@ -55,22 +55,6 @@ impl<'a> CertView<'a> {
             }),
             Err(NoMemory) => Err(NoMemory),
         }
-    }
-}
-
-/// Both values, where memory sufficed for both. Its caller has nothing to drop.
-pub fn both<A: Drop, B: Drop>(
-    a: Result<A, NoMemory>,
-    b: Result<B, NoMemory>,
-) -> Result<(A, B), NoMemory>
-    ensures { IfOk result (λ pair. (a ≡ Ok pair.0) × (b ≡ Ok pair.1)) }
-{
-    match a {
-        Ok(a) => match b {
-            Ok(b) => Ok((a, b)),
-            Err(NoMemory) => Err(NoMemory),
-        },
-        Err(NoMemory) => Err(NoMemory),
     }
 }
 

@@ -24,7 +24,7 @@ mod write;
 
 pub use bytes::{Bytes, Text};
 pub use calls::FailingCalls;
-pub use copy::TryClone;
+pub use copy::{TryClone, both};
 pub use element::{CodecError, SshComplexTypeDecode, SshComplexTypeEncode, SshElement, SshLayout};
 pub use error::{Failed, IoKind, NoMemory, SizeError, WireError};
 pub use fields::{take_byte, take_bytes, take_mpint, take_text, take_uint32, take_uint64};
