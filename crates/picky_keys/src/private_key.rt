@@ -6,7 +6,7 @@ ghost use Rattle.picky_keys.specs.PrivateKey.{public_fields, issuer_key};
 
 use crate::curve::EcCurve;
 use crate::public_key::{PublicKey, PublicKeyRef};
-use picky_wire::{Bytes, Mpint, NoMemory, TryClone};
+use picky_wire::{Bytes, Mpint, NoMemory, TryClone, both};
 use std::alloc::Global;
 
 /// A private key with its public fields.
@@ -68,20 +68,20 @@ impl TryClone for PrivateKey {
                 p,
                 q,
             } => {
-                let n = n.try_clone(alloc)?;
-                let e = e.try_clone(alloc)?;
-                let d = d.try_clone(alloc)?;
-                let iqmp = iqmp.try_clone(alloc)?;
-                let p = p.try_clone(alloc)?;
-                let q = q.try_clone(alloc)?;
-                Ok(PrivateKey::Rsa {
-                    n,
-                    e,
-                    d,
-                    iqmp,
-                    p,
-                    q,
-                })
+                let public = both(n.try_clone(alloc), e.try_clone(alloc));
+                let secret = both(d.try_clone(alloc), iqmp.try_clone(alloc));
+                let primes = both(p.try_clone(alloc), q.try_clone(alloc));
+                match both(both(public, secret), primes) {
+                    Ok((((n, e), (d, iqmp)), (p, q))) => Ok(PrivateKey::Rsa {
+                        n,
+                        e,
+                        d,
+                        iqmp,
+                        p,
+                        q,
+                    }),
+                    Err(NoMemory) => Err(NoMemory),
+                }
             }
             PrivateKey::Ec {
                 curve,

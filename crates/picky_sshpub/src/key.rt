@@ -3,7 +3,7 @@
 ghost use Rattle.std.specs.Prelude.{◌≡◌};
 
 use picky_keys::{EcCurve, EdAlgorithm, KeyKind, PublicKeyRef};
-use picky_wire::{Bytes, Mpint, NoMemory, Text, TryClone};
+use picky_wire::{Bytes, Mpint, NoMemory, Text, TryClone, both};
 use std::alloc::Global;
 
 /// A public key. The two kinds whose secret a device keeps have the application that it is for.
@@ -68,9 +68,10 @@ impl TryClone for SshBasePublicKey {
     fn try_clone(&self, alloc: Global) -> Result<SshBasePublicKey, NoMemory> {
         match self {
             SshBasePublicKey::Rsa { e, n } => {
-                let e = e.try_clone(alloc)?;
-                let n = n.try_clone(alloc)?;
-                Ok(SshBasePublicKey::Rsa { e, n })
+                match both(e.try_clone(alloc), n.try_clone(alloc)) {
+                    Ok((e, n)) => Ok(SshBasePublicKey::Rsa { e, n }),
+                    Err(NoMemory) => Err(NoMemory),
+                }
             }
             SshBasePublicKey::Ec { curve, point } => {
                 let point = point.try_clone(alloc)?;
@@ -81,9 +82,12 @@ impl TryClone for SshBasePublicKey {
             }
             SshBasePublicKey::Ed { key } => Ok(SshBasePublicKey::Ed { key: *key }),
             SshBasePublicKey::SkEcdsaSha2NistP256 { point, application } => {
-                let point = point.try_clone(alloc)?;
-                let application = application.try_clone(alloc)?;
-                Ok(SshBasePublicKey::SkEcdsaSha2NistP256 { point, application })
+                match both(point.try_clone(alloc), application.try_clone(alloc)) {
+                    Ok((point, application)) => {
+                        Ok(SshBasePublicKey::SkEcdsaSha2NistP256 { point, application })
+                    }
+                    Err(NoMemory) => Err(NoMemory),
+                }
             }
             SshBasePublicKey::SkEd25519 { key, application } => {
                 let application = application.try_clone(alloc)?;
@@ -98,8 +102,12 @@ impl TryClone for SshBasePublicKey {
 
 impl TryClone for SshPublicKey {
     fn try_clone(&self, alloc: Global) -> Result<SshPublicKey, NoMemory> {
-        let inner_key = self.inner_key.try_clone(alloc)?;
-        let comment = self.comment.try_clone(alloc)?;
-        Ok(SshPublicKey { inner_key, comment })
+        match both(
+            self.inner_key.try_clone(alloc),
+            self.comment.try_clone(alloc),
+        ) {
+            Ok((inner_key, comment)) => Ok(SshPublicKey { inner_key, comment }),
+            Err(NoMemory) => Err(NoMemory),
+        }
     }
 }

@@ -109,9 +109,15 @@ fn key_of_words(
         Ok(inner_key) => match comment {
             Some(comment) => match Text::new(alloc, comment) {
                 Ok(comment) => Ok(SshPublicKey { inner_key, comment }),
-                Err(_) => Err(SshPublicKeyError::NoMemory),
+                Err(_) => {
+                    drop(inner_key);
+                    Err(SshPublicKeyError::NoMemory)
+                }
             },
-            None => Err(SshPublicKeyError::InvalidUtf8),
+            None => {
+                drop(inner_key);
+                Err(SshPublicKeyError::InvalidUtf8)
+            }
         },
         Err(e) => Err(e),
     }

@@ -8,7 +8,7 @@ ghost use Rattle.picky_sshpub.specs.View.{key_seen, PartsLie};
 
 use crate::key::SshBasePublicKey;
 use picky_keys::{EcCurve, KeyKind};
-use picky_wire::{NoMemory, Part, Stuck, mpint_at, sized_at, string_at, text_at, word_at};
+use picky_wire::{NoMemory, Part, Stuck, both, mpint_at, sized_at, string_at, text_at, word_at};
 use std::alloc::Global;
 
 /// A public key whose parts are slices of its blob.
@@ -55,9 +55,10 @@ impl<'a> PublicView<'a> {
     {
         match self {
             PublicView::Rsa { e, n } => {
-                let e = e.to_mpint(alloc)?;
-                let n = n.to_mpint(alloc)?;
-                Ok(SshBasePublicKey::Rsa { e, n })
+                match both(e.to_mpint(alloc), n.to_mpint(alloc)) {
+                    Ok((e, n)) => Ok(SshBasePublicKey::Rsa { e, n }),
+                    Err(NoMemory) => Err(NoMemory),
+                }
             }
             PublicView::Ec { curve, point } => {
                 let point = point.to_bytes(alloc)?;
@@ -71,9 +72,12 @@ impl<'a> PublicView<'a> {
                 Ok(SshBasePublicKey::Ed { key })
             }
             PublicView::SkEcdsaSha2NistP256 { point, application } => {
-                let point = point.to_bytes(alloc)?;
-                let application = application.to_text(alloc)?;
-                Ok(SshBasePublicKey::SkEcdsaSha2NistP256 { point, application })
+                match both(point.to_bytes(alloc), application.to_text(alloc)) {
+                    Ok((point, application)) => {
+                        Ok(SshBasePublicKey::SkEcdsaSha2NistP256 { point, application })
+                    }
+                    Err(NoMemory) => Err(NoMemory),
+                }
             }
             PublicView::SkEd25519 { key, application } => {
                 let key = ed_key_of(key);
