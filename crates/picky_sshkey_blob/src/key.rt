@@ -5,7 +5,7 @@ ghost use Rattle.picky_sshkey_blob.specs.Key.{kind_of, public_part};
 
 use picky_keys::{EcCurve, EdAlgorithm, KeyKind};
 use picky_sshpub::SshBasePublicKey;
-use picky_wire::{Bytes, Mpint, NoMemory, Text, TryClone};
+use picky_wire::{Bytes, Mpint, NoMemory, Text, TryClone, both};
 use std::alloc::Global;
 
 /// A private key with its public parts.
@@ -114,20 +114,20 @@ impl TryClone for SshBasePrivateKey {
                 p,
                 q,
             } => {
-                let n = n.try_clone(alloc)?;
-                let e = e.try_clone(alloc)?;
-                let d = d.try_clone(alloc)?;
-                let iqmp = iqmp.try_clone(alloc)?;
-                let p = p.try_clone(alloc)?;
-                let q = q.try_clone(alloc)?;
-                Ok(SshBasePrivateKey::Rsa {
-                    n,
-                    e,
-                    d,
-                    iqmp,
-                    p,
-                    q,
-                })
+                let public = both(n.try_clone(alloc), e.try_clone(alloc));
+                let secret = both(d.try_clone(alloc), iqmp.try_clone(alloc));
+                let primes = both(p.try_clone(alloc), q.try_clone(alloc));
+                match both(both(public, secret), primes) {
+                    Ok((((n, e), (d, iqmp)), (p, q))) => Ok(SshBasePrivateKey::Rsa {
+                        n,
+                        e,
+                        d,
+                        iqmp,
+                        p,
+                        q,
+                    }),
+                    Err(NoMemory) => Err(NoMemory),
+                }
             }
             SshBasePrivateKey::Ec {
                 curve,
@@ -152,15 +152,18 @@ impl TryClone for SshBasePrivateKey {
                 flags,
                 handle,
             } => {
-                let point = point.try_clone(alloc)?;
-                let application = application.try_clone(alloc)?;
-                let handle = handle.try_clone(alloc)?;
-                Ok(SshBasePrivateKey::SkEcdsaSha2NistP256 {
-                    point,
-                    application,
-                    flags: *flags,
-                    handle,
-                })
+                let public = both(point.try_clone(alloc), application.try_clone(alloc));
+                match both(public, handle.try_clone(alloc)) {
+                    Ok(((point, application), handle)) => {
+                        Ok(SshBasePrivateKey::SkEcdsaSha2NistP256 {
+                            point,
+                            application,
+                            flags: *flags,
+                            handle,
+                        })
+                    }
+                    Err(NoMemory) => Err(NoMemory),
+                }
             }
             SshBasePrivateKey::SkEd25519 {
                 key,

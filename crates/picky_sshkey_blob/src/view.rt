@@ -12,7 +12,7 @@ use crate::key::SshBasePrivateKey;
 use crate::view_read::private_at;
 use picky_keys::EcCurve;
 use picky_sshpub::ed_key_of;
-use picky_wire::{NoMemory, Part, Stuck};
+use picky_wire::{NoMemory, Part, Stuck, both};
 use std::alloc::Global;
 
 /// A private key whose parts are slices of its blob.
@@ -96,20 +96,20 @@ impl<'a> PrivateView<'a> {
                 p,
                 q,
             } => {
-                let n = n.to_mpint(alloc)?;
-                let e = e.to_mpint(alloc)?;
-                let d = d.to_mpint(alloc)?;
-                let iqmp = iqmp.to_mpint(alloc)?;
-                let p = p.to_mpint(alloc)?;
-                let q = q.to_mpint(alloc)?;
-                Ok(SshBasePrivateKey::Rsa {
-                    n,
-                    e,
-                    d,
-                    iqmp,
-                    p,
-                    q,
-                })
+                let public = both(n.to_mpint(alloc), e.to_mpint(alloc));
+                let secret = both(d.to_mpint(alloc), iqmp.to_mpint(alloc));
+                let primes = both(p.to_mpint(alloc), q.to_mpint(alloc));
+                match both(both(public, secret), primes) {
+                    Ok((((n, e), (d, iqmp)), (p, q))) => Ok(SshBasePrivateKey::Rsa {
+                        n,
+                        e,
+                        d,
+                        iqmp,
+                        p,
+                        q,
+                    }),
+                    Err(NoMemory) => Err(NoMemory),
+                }
             }
             PrivateView::Ec {
                 curve,
@@ -135,15 +135,18 @@ impl<'a> PrivateView<'a> {
                 flags,
                 handle,
             } => {
-                let point = point.to_bytes(alloc)?;
-                let application = application.to_text(alloc)?;
-                let handle = handle.to_bytes(alloc)?;
-                Ok(SshBasePrivateKey::SkEcdsaSha2NistP256 {
-                    point,
-                    application,
-                    flags: *flags,
-                    handle,
-                })
+                let public = both(point.to_bytes(alloc), application.to_text(alloc));
+                match both(public, handle.to_bytes(alloc)) {
+                    Ok(((point, application), handle)) => {
+                        Ok(SshBasePrivateKey::SkEcdsaSha2NistP256 {
+                            point,
+                            application,
+                            flags: *flags,
+                            handle,
+                        })
+                    }
+                    Err(NoMemory) => Err(NoMemory),
+                }
             }
             PrivateView::SkEd25519 {
                 key,
