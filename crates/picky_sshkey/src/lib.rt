@@ -8,6 +8,7 @@ mod envelope;
 mod kdf;
 mod kdf_wire;
 mod kept;
+mod key_of_block;
 pub mod laws;
 mod private_key;
 mod reading;

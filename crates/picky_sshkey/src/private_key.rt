@@ -4,7 +4,8 @@ ghost use Rattle.std.specs.Prelude.{◌≡◌, ◌⊎◌, [], Some, None, IfOk, 
 ghost use Rattle.std.specs.Option.{option_copied};
 ghost use Rattle.picky_wire.specs.Gives.{Gives};
 ghost use Rattle.picky_sshkey_blob.specs.Key.{public_part};
-ghost use Rattle.picky_sshkey.specs.Made.{key_made, made_of, base_of as base_made, inner_of, private_shown};
+ghost use Rattle.picky_sshkey.specs.Made.{key_made, made_of, made_option, base_of as base_made, inner_of, private_shown};
+ghost use Rattle.picky_sshkey.specs.Written.{written_cipher, written_kdf};
 
 use crate::cipher::Cipher;
 use crate::kdf::{Kdf, NONE, bcrypt_kdf};
@@ -12,7 +13,7 @@ use crate::kept::{kept_pass, kept_text, name_text};
 use picky_keys::{EcCurve, PrivateKey};
 use picky_sshkey_blob::{SshBasePrivateKey, SshPrivateKeyError};
 use picky_sshpub::SshPublicKey;
-use picky_wire::{Bytes, Mpint, NoMemory, Text, TryClone};
+use picky_wire::{Bytes, Mpint, NoMemory, Text, TryClone, both};
 use std::alloc::Global;
 
 /// A private key. The public key has an empty comment: the key's own stands in `comment` alone.
@@ -69,11 +70,17 @@ impl SshPrivateKey {
     {
         let passphrase = match kept_pass(alloc, passphrase) {
             Ok(passphrase) => passphrase,
-            Err(e) => return Err(e),
+            Err(e) => {
+                drop(base);
+                return Err(e);
+            }
         };
         let comment = match kept_text(alloc, comment) {
             Ok(comment) => comment,
-            Err(e) => return Err(e),
+            Err(e) => {
+                drop(base);
+                return Err(e);
+            }
         };
         match made(alloc, base, passphrase, comment, salt) {
             Ok(key) => Ok(key),
@@ -85,8 +92,13 @@ impl SshPrivateKey {
     pub fn from_private_key(alloc: Global, key: PrivateKey) -> Result<SshPrivateKey, NoMemory>
         ensures { IfOk result (λ made. made ≡ made_of (base_made key) None [] []) }
     {
-        let comment = name_text(alloc, "")?;
-        made(alloc, base_of(key), None, comment, &[0; 16])
+        match name_text(alloc, "") {
+            Ok(comment) => made(alloc, base_of(key), None, comment, &[0; 16]),
+            Err(NoMemory) => {
+                drop(key);
+                Err(NoMemory)
+            }
+        }
     }
 
     /// The public key, with an empty comment.
@@ -143,21 +155,25 @@ impl SshPrivateKey {
 
 impl TryClone for SshPrivateKey {
     fn try_clone(&self, alloc: Global) -> Result<SshPrivateKey, NoMemory> {
-        let cipher_name = self.cipher_name.try_clone(alloc)?;
-        let kdf = self.kdf.try_clone(alloc)?;
-        let base_key = self.base_key.try_clone(alloc)?;
-        let public_key = self.public_key.try_clone(alloc)?;
-        let comment = self.comment.try_clone(alloc)?;
-        let passphrase = pass_clone(alloc, &self.passphrase)?;
-        Ok(SshPrivateKey {
-            cipher_name,
-            kdf,
-            base_key,
-            public_key,
-            check: self.check,
-            comment,
-            passphrase,
-        })
+        let envelope = both(self.cipher_name.try_clone(alloc), self.kdf.try_clone(alloc));
+        let base_key = self.base_key.try_clone(alloc);
+        let keys = both(base_key, self.public_key.try_clone(alloc));
+        let passphrase = pass_clone(alloc, &self.passphrase);
+        let texts = both(self.comment.try_clone(alloc), passphrase);
+        match both(both(envelope, keys), texts) {
+            Ok((((cipher_name, kdf), (base_key, public_key)), (comment, passphrase))) => {
+                Ok(SshPrivateKey {
+                    cipher_name,
+                    kdf,
+                    base_key,
+                    public_key,
+                    check: self.check,
+                    comment,
+                    passphrase,
+                })
+            }
+            Err(NoMemory) => Err(NoMemory),
+        }
     }
 }
 
@@ -175,7 +191,6 @@ fn pass_clone(alloc: Global, pass: &Option<Text>) -> Result<Option<Text>, NoMemo
 }
 
 /// The key of these parts.
-#[tactic(auto, unfolding(crate::specs::Kdf::none, crate::specs::Kdf::bcrypt))]
 fn made(
     alloc: Global,
     base_key: SshBasePrivateKey,
@@ -185,34 +200,42 @@ fn made(
 ) -> Result<SshPrivateKey, NoMemory>
     ensures { IfOk result (λ key. key ≡ made_of base_key passphrase comment salt.now) }
 {
-    let public_key = public_key_of(alloc, &base_key)?;
+    let envelope = envelope_under(alloc, &passphrase, salt);
+    match both(public_key_of(alloc, &base_key), envelope) {
+        Ok((public_key, (cipher_name, kdf))) => Ok(SshPrivateKey {
+            cipher_name,
+            kdf,
+            base_key,
+            public_key,
+            check: 0,
+            comment,
+            passphrase,
+        }),
+        Err(NoMemory) => {
+            drop(base_key);
+            Err(NoMemory)
+        }
+    }
+}
+
+/// The cipher's name and the derivation under the passphrase, where there is one. Refuses: `NoMemory`.
+#[tactic(auto, unfolding(crate::specs::Kdf::none, crate::specs::Kdf::bcrypt))]
+fn envelope_under(
+    alloc: Global,
+    passphrase: &Option<Text>,
+    salt: &[u8; 16],
+) -> Result<(Text, Kdf), NoMemory>
+    ensures { IfOk result (λ made. made ≡ (
+      written_cipher passphrase.now,
+      record { name = written_kdf passphrase.now; option = made_option passphrase.now salt.now },
+    )) }
+{
     match passphrase {
-        Some(pass) => {
-            let cipher_name = name_text(alloc, Cipher::Aes256Ctr.name())?;
-            let kdf = bcrypt_kdf(alloc, salt)?;
-            Ok(SshPrivateKey {
-                cipher_name,
-                kdf,
-                base_key,
-                public_key,
-                check: 0,
-                comment,
-                passphrase: Some(pass),
-            })
-        }
-        None => {
-            let cipher_name = name_text(alloc, NONE)?;
-            let kdf = Kdf::plain(alloc)?;
-            Ok(SshPrivateKey {
-                cipher_name,
-                kdf,
-                base_key,
-                public_key,
-                check: 0,
-                comment,
-                passphrase: None,
-            })
-        }
+        Some(_) => both(
+            name_text(alloc, Cipher::Aes256Ctr.name()),
+            bcrypt_kdf(alloc, salt),
+        ),
+        None => both(name_text(alloc, NONE), Kdf::plain(alloc)),
     }
 }
 

@@ -1,8 +1,7 @@
 //! A private key read from its text (OpenSSH's PROTOCOL.key).
 
-ghost use Rattle.std.specs.Prelude.{◌≡◌, ◌≢◌, ◌⊎◌, ◌^◌, ◌<◌, [], true, false, None, Some, Ok, Err, length, not, IfOk, IfErr, IfSome, if◌then◌else◌};
+ghost use Rattle.std.specs.Prelude.{◌≡◌, ◌≢◌, ◌⊎◌, ◌^◌, ◌<◌, true, false, None, Some, Ok, Err, length, not, IfOk, IfErr, IfSome, if◌then◌else◌};
 ghost use Rattle.std.specs.Option.{option_copied};
-ghost use Rattle.std.specs.Str.{trim_end};
 ghost use Rattle.picky_layout.specs.Front.{read_front};
 ghost use Rattle.picky_layout.specs.Outcome.{and_then};
 ghost use Rattle.picky_suite.specs.Asked.{GivesAsked, LeavesSuite};
@@ -10,25 +9,23 @@ ghost use Rattle.picky_suite.specs.Ranges.{BcryptOk, IsWhole};
 ghost use Rattle.picky_wire.specs.Count.{Rose};
 ghost use Rattle.picky_wire.specs.Gives.{Gives};
 ghost use Rattle.picky_sshpub.specs.LineRefusal.{is_short_text};
-ghost use Rattle.picky_sshkey_blob.specs.Key.{IsPrivateKey, public_part as public_part_of};
-ghost use Rattle.picky_sshkey_blob.specs.View.{key_seen};
 ghost use Rattle.picky_sshkey.specs.Cipher.{is_cbc};
-ghost use Rattle.picky_sshkey.specs.PrivateRefusal.{content_asks, content_key, envelope_under, is_public_part, key_closed, text_asks, text_key};
+ghost use Rattle.picky_sshkey.specs.PrivateRefusal.{content_asks, content_key, envelope_under, key_closed, text_asks, text_key};
 ghost use Rattle.picky_sshkey.specs.PrivateRefusal.{key_of_block as key_of_block_of, lock_of as lock_of_envelope, lock_under as lock_under_of, sealed_under as sealed_under_of};
 ghost use Rattle.picky_sshkey.specs.PrivateBlock.{private_block};
-ghost use Rattle.picky_sshkey.specs.View.{block_seen, envelope_seen, lock_seen, lock_shown, option_seen};
+ghost use Rattle.picky_sshkey.specs.View.{envelope_seen, lock_seen, lock_shown};
 ghost use Rattle.picky_sshkey.specs.inner.Short.{IsShortEnvelope};
 
-use crate::block::{BlockView, block_in};
+use crate::block::block_in;
 use crate::cipher::Cipher;
 use crate::envelope::{EnvelopeView, envelope_in};
-use crate::kdf::{BCRYPT, Kdf, NONE, option_of};
-use crate::kept::{kept_pass, name_text};
-use crate::private_key::{SshPrivateKey, public_key_of};
+use crate::kdf::{BCRYPT, NONE};
+use crate::kept::name_text;
+use crate::key_of_block::key_of_block;
+use crate::private_key::SshPrivateKey;
 use crate::sealing::open;
 use picky_pem::{Pem, PemError, parse_pem};
-use picky_sshkey_blob::{SshBasePrivateKey, SshPrivateKeyError};
-use picky_sshpub::{SshBasePublicKey, SshPublicKey, SshPublicKeyError};
+use picky_sshkey_blob::SshPrivateKeyError;
 use picky_suite::{Suite, bcrypt_ok};
 use picky_wire::{Failed, NoMemory};
 use std::alloc::Global;
@@ -272,108 +269,5 @@ fn key_in(
     match block_in(alloc, block) {
         Ok(block) => key_of_block(alloc, envelope, &block, pass),
         Err(e) => Err(e),
-    }
-}
-
-/// The key of a block, where the envelope's public key is its own.
-fn key_of_block(
-    alloc: Global,
-    envelope: &EnvelopeView<'_>,
-    block: &BlockView<'_>,
-    pass: Option<&str>,
-) -> Result<SshPrivateKey, SshPrivateKeyError>
-    requires key { IsPrivateKey (key_seen block.now.key) }
-    requires short { IsShortEnvelope envelope.now }
-    requires comment { length block.now.comment.now < 2 ^ 32 }
-    requires pass { is_short_text (option_copied pass) ≡ true }
-    ensures gives { Gives SshPrivateKeyError.NoMemory (λ key. key) result
-        (key_of_block_of (option_copied pass.entry) (envelope_seen envelope.now) (block_seen block.now)) }
-{
-    let base_key = match block.key.to_key(alloc) {
-        Ok(key) => key,
-        Err(NoMemory) => return Err(SshPrivateKeyError::NoMemory),
-    };
-    match public_part(alloc, envelope.outer, &base_key) {
-        Ok(public_key) => match kept(alloc, envelope, block, pass, base_key, public_key) {
-            Ok(key) => Ok(key),
-            Err(NoMemory) => Err(SshPrivateKeyError::NoMemory),
-        },
-        Err(e) => Err(e),
-    }
-}
-
-/// The public key of a private one, where the blob has it too.
-#[tactic(auto, using(crate::proofs::ReadingLemmas::says_public))]
-fn public_part(
-    alloc: Global,
-    outer: &[u8],
-    base: &SshBasePrivateKey,
-) -> Result<SshPublicKey, SshPrivateKeyError>
-    requires { IsPrivateKey base.now }
-    ensures gives { Gives SshPrivateKeyError.NoMemory (λ key. key) result
-        (if is_public_part outer.now base.now then Ok (record { inner_key = public_part_of base.now; comment = [] })
-        else Err SshPrivateKeyError.PublicKeyMismatch) }
-{
-    let said = match SshBasePublicKey::from_blob(alloc, outer) {
-        Ok(key) => key,
-        Err(SshPublicKeyError::NoMemory) => return Err(SshPrivateKeyError::NoMemory),
-        Err(_) => return Err(SshPrivateKeyError::PublicKeyMismatch),
-    };
-    match public_key_of(alloc, base) {
-        Ok(key) => {
-            if !is_same(&said, &key.inner_key) {
-                return Err(SshPrivateKeyError::PublicKeyMismatch);
-            }
-            Ok(key)
-        }
-        Err(NoMemory) => Err(SshPrivateKeyError::NoMemory),
-    }
-}
-
-/// Whether two keys are one.
-fn is_same(said: &SshBasePublicKey, key: &SshBasePublicKey) -> bool
-    ensures same { result ≡ true → said.now ≡ key.now }
-    ensures other { result ≡ false → said.now ≡ key.now → ⊥ }
-{
-    said == key
-}
-
-/// The key of these parts.
-fn kept(
-    alloc: Global,
-    envelope: &EnvelopeView<'_>,
-    block: &BlockView<'_>,
-    pass: Option<&str>,
-    base_key: SshBasePrivateKey,
-    public_key: SshPublicKey,
-) -> Result<SshPrivateKey, NoMemory>
-    requires short { IsShortEnvelope envelope.now }
-    requires comment { length block.now.comment.now < 2 ^ 32 }
-    requires pass { is_short_text (option_copied pass) ≡ true }
-    ensures { IfOk result (λ key. key ≡ record {
-      cipher_name = envelope.now.cipher.now;
-      kdf = record { name = envelope.now.kdf.now; option = option_seen envelope.now.option };
-      base_key = base_key;
-      public_key = public_key;
-      check = block.now.check;
-      comment = trim_end block.now.comment.now;
-      passphrase = option_copied pass.entry;
-    }) }
-{
-    let cipher_name = name_text(alloc, envelope.cipher)?;
-    let name = name_text(alloc, envelope.kdf)?;
-    let option = option_of(alloc, envelope.option.salt, envelope.option.rounds)?;
-    let comment = name_text(alloc, block.comment.trim_end())?;
-    match kept_pass(alloc, pass) {
-        Ok(passphrase) => Ok(SshPrivateKey {
-            cipher_name,
-            kdf: Kdf { name, option },
-            base_key,
-            public_key,
-            check: block.check,
-            comment,
-            passphrase,
-        }),
-        Err(_) => Err(NoMemory),
     }
 }
