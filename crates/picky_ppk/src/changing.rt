@@ -11,7 +11,7 @@ use crate::ppk::{Ppk, with_own_mac};
 use picky_ppk_file::{PpkFile, PpkSealing};
 use picky_ppk_parts::{PpkVersion, PuttyError};
 use picky_suite::Suite;
-use picky_wire::{NoMemory, SizeError, Text, TryClone};
+use picky_wire::{NoMemory, SizeError, Text, TryClone, both};
 use std::alloc::Global;
 
 impl Ppk {
@@ -65,36 +65,50 @@ impl Ppk {
 fn commented_file(alloc: Global, file: &PpkFile, comment: Text) -> Result<PpkFile, NoMemory>
     ensures { IfOk result (λ copy. copy ≡ record file.now { comment = comment }) }
 {
-    let sealing = file.sealing.try_clone(alloc)?;
-    let public_key = file.public_key.try_clone(alloc)?;
-    let private_bytes = file.private_bytes.try_clone(alloc)?;
-    let mac = file.mac.try_clone(alloc)?;
-    Ok(PpkFile {
-        sealing,
-        algorithm: file.algorithm,
-        comment,
-        public_key,
-        private_bytes,
-        mac,
-    })
+    let front = both(
+        file.sealing.try_clone(alloc),
+        file.public_key.try_clone(alloc),
+    );
+    let back = both(
+        file.private_bytes.try_clone(alloc),
+        file.mac.try_clone(alloc),
+    );
+    match both(front, back) {
+        Ok(((sealing, public_key), (private_bytes, mac))) => Ok(PpkFile {
+            sealing,
+            algorithm: file.algorithm,
+            comment,
+            public_key,
+            private_bytes,
+            mac,
+        }),
+        Err(NoMemory) => Err(NoMemory),
+    }
 }
 
 /// A copy of the fields in another version, where nothing seals them.
 fn unsealed_file(alloc: Global, file: &PpkFile, version: PpkVersion) -> Result<PpkFile, NoMemory>
     ensures { IfOk result (λ copy. copy ≡ record file.now { sealing = Unsealed version }) }
 {
-    let comment = file.comment.try_clone(alloc)?;
-    let public_key = file.public_key.try_clone(alloc)?;
-    let private_bytes = file.private_bytes.try_clone(alloc)?;
-    let mac = file.mac.try_clone(alloc)?;
-    Ok(PpkFile {
-        sealing: PpkSealing::Unsealed(version),
-        algorithm: file.algorithm,
-        comment,
-        public_key,
-        private_bytes,
-        mac,
-    })
+    let front = both(
+        file.comment.try_clone(alloc),
+        file.public_key.try_clone(alloc),
+    );
+    let back = both(
+        file.private_bytes.try_clone(alloc),
+        file.mac.try_clone(alloc),
+    );
+    match both(front, back) {
+        Ok(((comment, public_key), (private_bytes, mac))) => Ok(PpkFile {
+            sealing: PpkSealing::Unsealed(version),
+            algorithm: file.algorithm,
+            comment,
+            public_key,
+            private_bytes,
+            mac,
+        }),
+        Err(NoMemory) => Err(NoMemory),
+    }
 }
 
 /// The file with its own MAC. Refuses: `NoMemory`.

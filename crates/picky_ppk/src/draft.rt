@@ -8,7 +8,7 @@ ghost use Rattle.picky_ppk.specs.Sealed.{draft_of, sealing_under as sealing_unde
 
 use picky_ppk_file::{PpkFile, PpkSealing};
 use picky_ppk_parts::{Argon2Params, PpkEncryptionConfig, PpkVersion};
-use picky_wire::{Bytes, NoMemory, TryClone};
+use picky_wire::{Bytes, NoMemory, TryClone, both};
 use std::alloc::{AllocError, Global};
 
 /// The file as `Ppk::encrypt` seals it, with its private bytes and padding still open, and no MAC. Sealing changes no length,
@@ -24,18 +24,23 @@ pub fn file_draft(
     requires short { is_short (file.now.private_bytes ++ padding.now) ≡ true }
     ensures { IfOk result (λ draft. draft ≡ record (draft_of config salt.now padding.now file.now) { mac = [] }) }
 {
-    let sealing = sealing_under(alloc, file.sealing.version(), config, salt)?;
-    let comment = file.comment.try_clone(alloc)?;
-    let public_key = file.public_key.try_clone(alloc)?;
-    let private_bytes = padded(alloc, file.private_bytes.as_slice(), padding)?;
-    Ok(PpkFile {
-        sealing,
-        algorithm: file.algorithm,
-        comment,
-        public_key,
-        private_bytes,
-        mac: Bytes::from_vec(Vec::new(alloc)),
-    })
+    let sealing = sealing_under(alloc, file.sealing.version(), config, salt);
+    let texts = both(
+        file.comment.try_clone(alloc),
+        file.public_key.try_clone(alloc),
+    );
+    let private_bytes = padded(alloc, file.private_bytes.as_slice(), padding);
+    match both(both(sealing, texts), private_bytes) {
+        Ok(((sealing, (comment, public_key)), private_bytes)) => Ok(PpkFile {
+            sealing,
+            algorithm: file.algorithm,
+            comment,
+            public_key,
+            private_bytes,
+            mac: Bytes::from_vec(Vec::new(alloc)),
+        }),
+        Err(NoMemory) => Err(NoMemory),
+    }
 }
 
 /// What seals a file.

@@ -18,7 +18,7 @@ use picky_ppk_file::{PpkFile, PpkSealing};
 use picky_ppk_parts::aes::{BLOCK_SIZE, decrypt};
 use picky_ppk_parts::{PuttyError, counted_len};
 use picky_suite::Suite;
-use picky_wire::{Bytes, NoMemory, TryClone};
+use picky_wire::{Bytes, NoMemory, TryClone, both};
 use std::alloc::Global;
 
 impl Ppk {
@@ -184,15 +184,21 @@ fn unsealed<S: Suite>(
     ensures is { IfOk result (λ ppk. ppk ≡ unsealed_of (S.meanings suite.now) file.now private_bytes) }
     ensures mac { IfOk result (λ ppk. CarriesMac (S.meanings suite.now) ppk) }
 {
-    let comment = file.comment.try_clone(alloc)?;
-    let public_key = file.public_key.try_clone(alloc)?;
-    let file = PpkFile {
-        sealing: PpkSealing::Unsealed(file.sealing.version()),
-        algorithm: file.algorithm,
-        comment,
-        public_key,
-        private_bytes,
-        mac: Bytes::from_vec(Vec::new(alloc)),
-    };
-    with_own_mac(alloc, suite, file)
+    match both(
+        file.comment.try_clone(alloc),
+        file.public_key.try_clone(alloc),
+    ) {
+        Ok((comment, public_key)) => {
+            let file = PpkFile {
+                sealing: PpkSealing::Unsealed(file.sealing.version()),
+                algorithm: file.algorithm,
+                comment,
+                public_key,
+                private_bytes,
+                mac: Bytes::from_vec(Vec::new(alloc)),
+            };
+            with_own_mac(alloc, suite, file)
+        }
+        Err(NoMemory) => Err(NoMemory),
+    }
 }

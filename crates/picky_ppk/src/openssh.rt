@@ -22,7 +22,7 @@ use picky_ppk_parts::{
 use picky_putty_public::{PuttyPublicKey, plain_key};
 use picky_sshkey::{SshBasePrivateKey, SshPrivateKey, SshPrivateKeyError};
 use picky_suite::Suite;
-use picky_wire::{Bytes, NoMemory, Text, TryClone};
+use picky_wire::{Bytes, NoMemory, Text, TryClone, both};
 use std::alloc::Global;
 
 impl Ppk {
@@ -124,11 +124,12 @@ impl Ppk {
         ensures { Gives PuttyError.NoMemory (λ key. key) result
             (Ok (record { blob = self.now.public_key; comment = self.now.comment })) }
     {
-        match self.file().public_key.try_clone(alloc) {
-            Ok(blob) => match self.file().comment.try_clone(alloc) {
-                Ok(comment) => Ok(PuttyPublicKey::of_parts(blob, comment)),
-                Err(NoMemory) => Err(PuttyError::NoMemory),
-            },
+        let file = self.file();
+        match both(
+            file.public_key.try_clone(alloc),
+            file.comment.try_clone(alloc),
+        ) {
+            Ok((blob, comment)) => Ok(PuttyPublicKey::of_parts(blob, comment)),
             Err(NoMemory) => Err(PuttyError::NoMemory),
         }
     }

@@ -19,6 +19,7 @@ use picky_suite::Suite;
 use picky_wire::{Bytes, NoMemory, Text, TryClone};
 use std::alloc::Global;
 use std::marker::Model;
+use std::mem::replace;
 
 /// A PuTTY private key file, sealed or not. One that isn't carries the MAC of the suite that it was made with.
 #[derive(Debug, Drop, PartialEq, Eq)]
@@ -147,11 +148,15 @@ fn checked<S: Suite>(alloc: Global, suite: &S, file: PpkFile) -> Result<Ppk, Put
     match own_mac(alloc, suite, &file) {
         Ok(mac) => {
             if mac.as_slice() != file.mac.as_slice() {
+                drop(file);
                 return Err(PuttyError::MacValidation);
             }
             Ok(Ppk { file })
         }
-        Err(NoMemory) => Err(PuttyError::NoMemory),
+        Err(NoMemory) => {
+            drop(file);
+            Err(PuttyError::NoMemory)
+        }
     }
 }
 
@@ -160,26 +165,27 @@ pub fn with_own_mac<S: Suite>(alloc: Global, suite: &S, file: PpkFile) -> Result
     requires { is_sealed file.sealing ≡ false }
     ensures { IfOk result (λ ppk. ppk ≡ with_own_mac_of (S.meanings suite.now) file) }
 {
-    let mac = own_mac(alloc, suite, &file)?;
-    let mac = mac_bytes(alloc, &mac)?;
-    let PpkFile {
-        sealing,
-        algorithm,
-        comment,
-        public_key,
-        private_bytes,
-        ..
-    } = file;
-    Ok(Ppk {
-        file: PpkFile {
-            sealing,
-            algorithm,
-            comment,
-            public_key,
-            private_bytes,
-            mac,
-        },
-    })
+    match own_mac_bytes(alloc, suite, &file) {
+        Ok(mac) => {
+            let mut file = file;
+            drop(replace(&mut file.mac, mac));
+            Ok(Ppk { file })
+        }
+        Err(NoMemory) => {
+            drop(file);
+            Err(NoMemory)
+        }
+    }
+}
+
+/// The bytes of the MAC of a file that isn't sealed.
+fn own_mac_bytes<S: Suite>(alloc: Global, suite: &S, file: &PpkFile) -> Result<Bytes, NoMemory>
+    ensures { IfOk result (λ mac. mac ≡ own_mac_of (S.meanings suite.now) file.now) }
+{
+    match own_mac(alloc, suite, file) {
+        Ok(mac) => mac_bytes(alloc, &mac),
+        Err(NoMemory) => Err(NoMemory),
+    }
 }
 
 /// The MAC of a file that isn't sealed.

@@ -16,7 +16,7 @@ use picky_ppk_parts::{
 use picky_putty_public::is_hardware;
 use picky_sshkey::{SshBasePrivateKey, SshPrivateKey};
 use picky_sshpub::SshBasePublicKey;
-use picky_wire::{Bytes, NoMemory, Text, TryClone};
+use picky_wire::{Bytes, NoMemory, Text, TryClone, both};
 use std::alloc::Global;
 
 /// A public key's blob, which isn't read.
@@ -142,13 +142,17 @@ impl PuttyBasePrivateKey {
 
 impl TryClone for PuttyBasePrivateKey {
     fn try_clone(&self, alloc: Global) -> Result<PuttyBasePrivateKey, NoMemory> {
-        let public_key = self.public_key.try_clone(alloc)?;
-        let private_bytes = self.private_bytes.try_clone(alloc)?;
-        Ok(PuttyBasePrivateKey {
-            algorithm: self.algorithm,
-            public_key,
-            private_bytes,
-        })
+        match both(
+            self.public_key.try_clone(alloc),
+            self.private_bytes.try_clone(alloc),
+        ) {
+            Ok((public_key, private_bytes)) => Ok(PuttyBasePrivateKey {
+                algorithm: self.algorithm,
+                public_key,
+                private_bytes,
+            }),
+            Err(NoMemory) => Err(NoMemory),
+        }
     }
 }
 
@@ -191,8 +195,9 @@ impl PuttyPrivateKey {
 
 impl TryClone for PuttyPrivateKey {
     fn try_clone(&self, alloc: Global) -> Result<PuttyPrivateKey, NoMemory> {
-        let base = self.base.try_clone(alloc)?;
-        let comment = self.comment.try_clone(alloc)?;
-        Ok(PuttyPrivateKey { base, comment })
+        match both(self.base.try_clone(alloc), self.comment.try_clone(alloc)) {
+            Ok((base, comment)) => Ok(PuttyPrivateKey { base, comment }),
+            Err(NoMemory) => Err(NoMemory),
+        }
     }
 }
