@@ -5,7 +5,7 @@ ghost use Rattle.picky_key_text.specs.Key.{public_key as public_key_of};
 
 use picky_sshkey::SshBasePrivateKey;
 use picky_sshpub::{SshBasePublicKey, SshPublicKey};
-use picky_wire::{NoMemory, Text, TryClone};
+use picky_wire::{NoMemory, Text, TryClone, both};
 use std::alloc::Global;
 
 /// A key that a text means.
@@ -39,9 +39,10 @@ impl TryClone for Key {
 
 impl TryClone for Meaning {
     fn try_clone(&self, alloc: Global) -> Result<Meaning, NoMemory> {
-        let key = self.key.try_clone(alloc)?;
-        let comment = self.comment.try_clone(alloc)?;
-        Ok(Meaning { key, comment })
+        match both(self.key.try_clone(alloc), self.comment.try_clone(alloc)) {
+            Ok((key, comment)) => Ok(Meaning { key, comment }),
+            Err(NoMemory) => Err(NoMemory),
+        }
     }
 }
 
@@ -52,8 +53,12 @@ pub fn public_key(alloc: Global, meaning: Meaning) -> Result<SshPublicKey, NoMem
     let Meaning { key, comment } = meaning;
     match key {
         Key::Private(key) => {
-            let inner_key = key.base_public_key(alloc)?;
-            Ok(SshPublicKey { inner_key, comment })
+            let public_part = key.base_public_key(alloc);
+            drop(key);
+            match public_part {
+                Ok(inner_key) => Ok(SshPublicKey { inner_key, comment }),
+                Err(NoMemory) => Err(NoMemory),
+            }
         }
         Key::Public(inner_key) => Ok(SshPublicKey { inner_key, comment }),
     }
