@@ -20,14 +20,49 @@ use Rattle.picky_sshkey_blob.specs.Blob.{fields_of, secret, fields_spelled, secr
 pub fields_spell : (key : SshBasePrivateKey) → IsPrivateKey key
     → (fields_of (kind_of key)).piece key (fields_spelled key)
 unfolding rsa_fields ec_fields ed_fields sk_ecdsa_fields sk_ed_fields ed_key ed_secret fields_spelled
-fields_spell (keys.Rsa n e d iqmp p q) is =
-    (n, _, _, mpint_spells n is.0.mpint,
-    (e, _, _, mpint_spells e is.1.mpint,
-    (d, _, _, mpint_spells d is.2.mpint,
-    (iqmp, _, _, mpint_spells iqmp is.3.mpint,
-    (p, _, _, mpint_spells p is.4.mpint,
-    (q, _, _, mpint_spells q is.5.mpint,
-    (refl, refl), refl), refl), refl), refl), refl), refl)
+fields_spell (keys.Rsa n e d iqmp p q) is = (
+  n,
+  _,
+  _,
+  mpint_spells n is.0.mpint,
+  (
+    e,
+    _,
+    _,
+    mpint_spells e is.1.mpint,
+    (
+      d,
+      _,
+      _,
+      mpint_spells d is.2.mpint,
+      (
+        iqmp,
+        _,
+        _,
+        mpint_spells iqmp is.3.mpint,
+        (
+          p,
+          _,
+          _,
+          mpint_spells p is.4.mpint,
+          (
+            q,
+            _,
+            _,
+            mpint_spells q is.5.mpint,
+            (refl, refl),
+            refl,
+          ),
+          refl,
+        ),
+        refl,
+      ),
+      refl,
+    ),
+    refl,
+  ),
+  refl,
+)
 fields_spell (keys.Ec curve point number) is = (
   curve_identifier curve,
   _,
