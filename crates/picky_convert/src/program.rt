@@ -6,6 +6,7 @@ ghost use Rattle.std.specs.Str.{IsUtf8};
 ghost use Rattle.picky_keys.specs.declared.algorithm.SignatureAlgorithm.{SignatureAlgorithm as Algorithm};
 ghost use Rattle.picky_keys.specs.declared.public_key.PublicKey.{PublicKey};
 ghost use Rattle.picky_wire.specs.Count.{Rose};
+ghost use Rattle.picky_wire.specs.Puts.{Puts};
 ghost use Rattle.picky_wire.specs.Takes.{Calm};
 ghost use Rattle.picky_convert.specs.Command.{Names, reads_source as reads_source_of};
 ghost use Rattle.picky_conversion.specs.Made.{Writes};
@@ -222,11 +223,21 @@ fn attempt<S: Suite, G: Signer, I: Source, O: Sink>(
         Err(NoMemory) => return Status::NoMemory,
     };
     match take_text(alloc, command, given, suite, signer, source) {
-        Ok(text) => match write_all(out, text.as_bytes()) {
+        Ok(text) => match put(out, text.as_str()) {
             Ok(()) => Status::Done,
-            Err(_) => Status::WriteFault,
+            Err(fault) => fault,
         },
         Err(status) => status,
+    }
+}
+
+/// Writes the text, or a front of it up to a fault. Refuses: `WriteFault`.
+fn put<O: Sink>(out: &mut O, text: &str) -> Result<(), Status>
+    ensures { Puts O.tells O.written O.faults Status.WriteFault text.now result out.old out.new }
+{
+    match write_all(out, text.as_bytes()) {
+        Ok(()) => Ok(()),
+        Err(_) => Err(Status::WriteFault),
     }
 }
 
