@@ -1,5 +1,6 @@
 //! Of two faults in a certificate the one that is tried first, and why a line is refused whatever its bytes.
 
+use crate::answers::ends_in;
 use crate::cert_conversions::converted;
 use crate::cert_refusals::{is_fault, is_refused, is_unread};
 use picky_cert::CertPart;
@@ -223,20 +224,10 @@ static FIRST_WORDS: [(&str, &str); 4] = [
     ),
 ];
 
-/// It is the refusal of a public key's line for its type.
-fn names_no_type(e: &ConvertError) -> bool {
-    match e {
-        ConvertError::Input(ReadError::Public(e)) => *e == SshPublicKeyError::UnknownKeyType,
-        _ => false,
-    }
-}
-
-/// So the conversion refuses the line.
+/// The conversion refuses the line as a public key's, for its type.
 fn is_of_no_type(alloc: Global, line: &str) -> bool {
-    match converted(alloc, line, KeyTarget::OpenSshPublic) {
-        Err(e) => names_no_type(&e),
-        Ok(_) => false,
-    }
+    let why = ConvertError::Input(ReadError::Public(SshPublicKeyError::UnknownKeyType));
+    ends_in(Some(why), converted(alloc, line, KeyTarget::OpenSshPublic))
 }
 
 #[test]

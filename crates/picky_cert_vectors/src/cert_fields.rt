@@ -1,12 +1,13 @@
 //! Certificates of `ssh-keygen`: what each says, seen in its bytes and copied from them, and written again.
 
+use crate::answers::{gives, gives_text};
 use picky_cert::{CertView, SshCertificate};
 use picky_cert_parts::{SshCriticalOption, SshExtension};
 use picky_cert_rows::{CertRow, Grant, ROW_COUNT, cert_row};
-use picky_sshpub::SshPublicKey;
 use picky_text::decode;
 use picky_wire::{Bytes, Text};
 use std::alloc::Global;
+use std::mem::ManuallyDrop;
 use std::test::Fail;
 
 fn are_texts(texts: &[Text], wanted: &[&str]) -> bool {
@@ -56,46 +57,40 @@ fn has_grants(cert: &SshCertificate, row: &CertRow) -> bool {
         && cert.comment.as_str() == row.comment
 }
 
-/// The key has no comment, and is written as these two words.
-fn is_key(alloc: Global, key: &SshPublicKey, words: &str) -> bool {
-    match key.to_string(alloc) {
-        Ok(text) => text.as_str().strip_suffix(" \r\n") == Some(words),
-        Err(_) => false,
-    }
-}
-
+/// The keys have no comments, and each is written as its two words.
 fn has_keys(alloc: Global, cert: &SshCertificate, row: &CertRow) -> bool {
-    is_key(alloc, &cert.public_key, row.public_key)
-        && is_key(alloc, &cert.signature_key, row.issuer)
+    gives_text(cert.public_key.to_string(alloc), row.public_key, " \r\n")
+        && gives_text(cert.signature_key.to_string(alloc), row.issuer, " \r\n")
 }
 
 /// The line is written for the certificate, and CR LF after it.
 pub fn prints(alloc: Global, cert: &SshCertificate, line: &str) -> bool {
-    match cert.to_string(alloc) {
-        Ok(text) => text.as_str().strip_suffix("\r\n") == Some(line),
-        Err(_) => false,
-    }
+    gives_text(cert.to_string(alloc), line, "\r\n")
+}
+
+/// The certificate of the line.
+pub fn cert_of(alloc: Global, line: &str) -> Result<SshCertificate, Fail> {
+    Ok(SshCertificate::from_str(alloc, line)?)
 }
 
 /// The row's line says what the row says, and is written again.
-fn is_read(alloc: Global, row: &CertRow) -> bool {
-    match SshCertificate::from_str(alloc, row.line) {
-        Ok(cert) => {
-            has_terms(&cert, row)
-                && has_grants(&cert, row)
-                && has_keys(alloc, &cert, row)
-                && prints(alloc, &cert, row.line)
-        }
-        Err(_) => false,
-    }
+fn is_read(alloc: Global, row: &CertRow) -> Result<bool, Fail> {
+    let cert = ManuallyDrop::new(cert_of(alloc, row.line)?);
+    Ok(
+        has_terms(&cert, row)
+            && has_grants(&cert, row)
+            && has_keys(alloc, &cert, row)
+            && prints(alloc, &cert, row.line),
+    )
 }
 
 #[test]
-fn reads_the_certificates_of_ssh_keygen(rt: HostRuntime) {
+fn reads_the_certificates_of_ssh_keygen(rt: HostRuntime) -> Result<(), Fail> {
     for number in 0..ROW_COUNT {
         let row = cert_row(number);
-        assert!(rt; is_read(rt.alloc(), row), "{}", row.name);
+        assert!(rt; is_read(rt.alloc(), row)?, "{}", row.name);
     }
+    Ok(())
 }
 
 /// The second word of a line.
@@ -109,22 +104,16 @@ fn body_of(line: &str) -> &str {
     }
 }
 
-/// The bytes that it stands for, where it is base64.
-fn blob_in(alloc: Global, line: &str) -> Option<Bytes> {
-    match decode(alloc, body_of(line).as_bytes()) {
-        Ok(bytes) => Bytes::new(alloc, bytes.as_slice()).ok(),
-        Err(_) => None,
-    }
-}
-
 /// The bytes that it stands for.
 pub fn blob_of(alloc: Global, line: &str) -> Result<Bytes, Fail> {
-    Ok(blob_in(alloc, line).ok_or("no base64")?)
+    let bytes = ManuallyDrop::new(decode(alloc, body_of(line).as_bytes())?);
+    Ok(Bytes::new(alloc, bytes.as_slice())?)
 }
 
 /// The bytes are signed for the certificate.
 fn signs(alloc: Global, cert: &SshCertificate, bytes: &[u8]) -> bool {
-    match cert.signed_bytes(alloc) {
+    let signed = ManuallyDrop::new(cert.signed_bytes(alloc));
+    match &*signed {
         Ok(signed) => signed.as_slice() == bytes,
         Err(_) => false,
     }
@@ -134,35 +123,28 @@ fn signs(alloc: Global, cert: &SshCertificate, bytes: &[u8]) -> bool {
 fn shows(alloc: Global, blob: &Bytes, cert: &SshCertificate, signed_len: usize) -> bool {
     match CertView::read(blob.as_slice()) {
         Ok((view, len)) => {
-            let is_whole = len == blob.as_slice().len() && view.signed.bytes.len() == signed_len;
-            match view.to_certificate(alloc) {
-                Ok(copy) => is_whole && signs(alloc, cert, view.signed.bytes) && copy == *cert,
-                Err(_) => false,
-            }
+            len == blob.as_slice().len()
+                && view.signed.bytes.len() == signed_len
+                && signs(alloc, cert, view.signed.bytes)
+                && gives(view.to_certificate(alloc), cert)
         }
         Err(_) => false,
     }
 }
 
-/// The certificate of the row's line without its comment.
-fn without_comment(alloc: Global, row: &CertRow) -> Option<SshCertificate> {
-    match row.line.strip_suffix(row.comment) {
-        Some(line) => SshCertificate::from_str(alloc, line).ok(),
-        None => None,
-    }
-}
-
-fn is_seen(alloc: Global, row: &CertRow) -> bool {
-    match (blob_in(alloc, row.line), without_comment(alloc, row)) {
-        (Some(blob), Some(cert)) => shows(alloc, &blob, &cert, row.signed_len),
-        _ => false,
-    }
+/// The bytes of the row's line show its certificate without its comment.
+fn is_seen(alloc: Global, row: &CertRow) -> Result<bool, Fail> {
+    let line = row.line.strip_suffix(row.comment).ok_or("another comment")?;
+    let cert = ManuallyDrop::new(cert_of(alloc, line)?);
+    let blob = ManuallyDrop::new(blob_of(alloc, row.line)?);
+    Ok(shows(alloc, &blob, &cert, row.signed_len))
 }
 
 #[test]
-fn sees_the_certificates_of_ssh_keygen(rt: HostRuntime) {
+fn sees_the_certificates_of_ssh_keygen(rt: HostRuntime) -> Result<(), Fail> {
     for number in 0..ROW_COUNT {
         let row = cert_row(number);
-        assert!(rt; is_seen(rt.alloc(), row), "{}", row.name);
+        assert!(rt; is_seen(rt.alloc(), row)?, "{}", row.name);
     }
+    Ok(())
 }

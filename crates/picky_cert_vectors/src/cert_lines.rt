@@ -1,7 +1,7 @@
 //! Certificates in other spellings, and what is written for them.
 
-use crate::cert_fields::{blob_of, prints};
-use picky_cert::{CertView, SshCertificate};
+use crate::cert_fields::{blob_of, cert_of, prints};
+use picky_cert::CertView;
 use picky_wire::Bytes;
 use std::alloc::Global;
 use std::mem::ManuallyDrop;
@@ -98,18 +98,17 @@ static SPELLINGS: [(&str, &str, &str); 14] = [
 ];
 
 /// The line is read, and written so.
-fn is_written(alloc: Global, line: &str, written: &str) -> bool {
-    match SshCertificate::from_str(alloc, line) {
-        Ok(cert) => prints(alloc, &cert, written),
-        Err(_) => false,
-    }
+fn is_written(alloc: Global, line: &str, written: &str) -> Result<bool, Fail> {
+    let cert = ManuallyDrop::new(cert_of(alloc, line)?);
+    Ok(prints(alloc, &cert, written))
 }
 
 #[test]
-fn writes_the_one_spelling(rt: HostRuntime) {
+fn writes_the_one_spelling(rt: HostRuntime) -> Result<(), Fail> {
     for (name, line, written) in &SPELLINGS {
-        assert!(rt; is_written(rt.alloc(), *line, *written), "{name}");
+        assert!(rt; is_written(rt.alloc(), *line, *written)?, "{name}");
     }
+    Ok(())
 }
 
 // As ZERO_LINE, with s(s(b"x@y") + s(s(b"1"))).
@@ -126,7 +125,7 @@ fn has_extensions(blob: &Bytes, extensions: &[u8]) -> bool {
 
 #[test]
 fn keeps_an_extension_that_is_not_known(rt: HostRuntime) -> Result<(), Fail> {
-    assert!(rt; is_written(rt.alloc(), OTHER_LINE, OTHER_LINE));
+    assert!(rt; is_written(rt.alloc(), OTHER_LINE, OTHER_LINE)?);
     let blob = ManuallyDrop::new(blob_of(rt.alloc(), OTHER_LINE)?);
     assert!(rt; has_extensions(&blob, b"\0\0\0\x03x@y\0\0\0\x05\0\0\0\x011"));
     Ok(())

@@ -1,10 +1,12 @@
 //! How a certificate is written and read under other fields.
 
-use crate::cert_fields::{blob_of, prints};
+use crate::answers::gives;
+use crate::cert_fields::{blob_of, cert_of, prints};
+use crate::cert_parts::extension_of;
 use picky_cert::{CertView, SshCertificate};
-use picky_cert_parts::{SshCertType, SshExtension, SshExtensionType};
+use picky_cert_parts::{SshCertType, SshExtension};
 use picky_cert_rows::ZERO_LINE;
-use picky_wire::{Bytes, List, Text};
+use picky_wire::{List, Text};
 use std::alloc::Global;
 use std::mem::ManuallyDrop;
 use std::test::Fail;
@@ -13,92 +15,53 @@ use std::test::Fail;
 const NAMED_LINE: &str =
     "ssh-ed25519-cert-v01@openssh.com AAAAIHNzaC1lZDI1NTE5LWNlcnQtdjAxQG9wZW5zc2guY29tAAAAIAAAAAAAAAAAAAAAAAAAAAAAAAAAAAAAAAAAAAAAAAAAAAAAIAAAAAAAAAAAAAAAAAAAAAAAAAAAAAAAAAAAAAAAAAAAAAAAAAAAAAAAAAACAAAABXBpY2t5AAAAKwAAABFmaXJzdC5leGFtcGxlLmNvbQAAABJzZWNvbmQuZXhhbXBsZS5jb20AAAAAAAAAAAAAAAAAAAAAAAAAAAAAAAAAAAAAAAAAMwAAAAtzc2gtZWQyNTUxOQAAACAAAAAAAAAAAAAAAAAAAAAAAAAAAAAAAAAAAAAAAAAAAAAAAFMAAAALc3NoLWVkMjU1MTkAAABAAAAAAAAAAAAAAAAAAAAAAAAAAAAAAAAAAAAAAAAAAAAAAAAAAAAAAAAAAAAAAAAAAAAAAAAAAAAAAAAAAAAAAA== with a trailing space ";
 
-/// A key id, principals and a comment.
-#[derive(Drop)]
-struct Names {
-    key_id: Text,
-    principals: List<Text>,
-    comment: Text,
+/// Puts the value in the other's place.
+fn put<T: Drop>(place: &mut T, value: T) {
+    *place = value;
 }
 
 fn two_principals(alloc: Global) -> Result<List<Text>, Fail> {
-    let mut principals = List::new(alloc);
+    let mut principals = ManuallyDrop::new(List::new(alloc));
     for name in ["first.example.com", "second.example.com"] {
         principals.push(Text::new(alloc, name)?)?;
     }
-    Ok(principals)
-}
-
-fn make_names(alloc: Global, comment: &str) -> Result<Names, Fail> {
-    let key_id = Text::new(alloc, "picky")?;
-    let comment = Text::new(alloc, comment)?;
-    Ok(Names {
-        key_id,
-        principals: two_principals(alloc)?,
-        comment,
-    })
-}
-
-fn with_names(cert: SshCertificate, names: Names) -> SshCertificate {
-    let Names {
-        key_id,
-        principals,
-        comment,
-    } = names;
-    SshCertificate {
-        key_id,
-        valid_principals: principals,
-        comment,
-        ..cert
-    }
+    Ok(ManuallyDrop::into_inner(principals))
 }
 
 /// The zero certificate under other names.
-fn named(alloc: Global, comment: &str) -> Result<SshCertificate, Fail> {
-    let names = make_names(alloc, comment)?;
-    match SshCertificate::from_str(alloc, ZERO_LINE) {
-        Ok(cert) => Ok(with_names(cert, names)),
-        Err(e) => Err(Fail::from(e)),
-    }
+fn named(alloc: Global, comment: &str) -> Result<ManuallyDrop<SshCertificate>, Fail> {
+    let mut cert = ManuallyDrop::new(cert_of(alloc, ZERO_LINE)?);
+    put(&mut cert.key_id, Text::new(alloc, "picky")?);
+    put(&mut cert.valid_principals, two_principals(alloc)?);
+    put(&mut cert.comment, Text::new(alloc, comment)?);
+    Ok(cert)
 }
 
-/// The line is read as the certificate.
-fn reads(alloc: Global, line: &str, cert: &SshCertificate) -> bool {
-    match SshCertificate::from_str(alloc, line) {
-        Ok(read) => read == *cert,
-        Err(_) => false,
-    }
-}
-
-/// The zero certificate under names and this comment is printed as the line.
-fn is_printed(alloc: Global, comment: &str, line: &str) -> Result<bool, Fail> {
-    let cert = ManuallyDrop::new(named(alloc, comment)?);
-    Ok(prints(alloc, &cert, line))
-}
-
-/// It is read from the line.
-fn is_named(alloc: Global, comment: &str, line: &str) -> Result<bool, Fail> {
-    let cert = ManuallyDrop::new(named(alloc, comment)?);
-    Ok(reads(alloc, line, &cert))
-}
-
-/// Of the bytes' certificate the blocks of its principals and of its extensions are so long.
-fn has_blocks(blob: &Bytes, principals_len: usize, extensions_len: usize) -> bool {
+/// In the line's bytes the blocks of the principals and of the extensions are so long.
+fn has_blocks(
+    alloc: Global,
+    line: &str,
+    principals_len: usize,
+    extensions_len: usize,
+) -> Result<bool, Fail> {
+    let blob = ManuallyDrop::new(blob_of(alloc, line)?);
     match CertView::read(blob.as_slice()) {
-        Ok((view, _)) => {
+        Ok((view, _)) => Ok(
             view.valid_principals.bytes.len() == principals_len
-                && view.extensions.bytes.len() == extensions_len
-        }
-        Err(_) => false,
+                && view.extensions.bytes.len() == extensions_len,
+        ),
+        Err(_) => Ok(false),
     }
 }
 
 #[test]
 fn reads_a_comment_without_the_space_at_its_end(rt: HostRuntime) -> Result<(), Fail> {
     let alloc = rt.alloc();
-    assert!(rt; is_printed(alloc, "with a trailing space ", NAMED_LINE)?);
-    assert!(rt; is_named(alloc, "with a trailing space", NAMED_LINE)?);
-    assert!(rt; has_blocks(&blob_of(alloc, NAMED_LINE)?, 43, 0));
+    let spaced = named(alloc, "with a trailing space ")?;
+    assert!(rt; prints(alloc, &spaced, NAMED_LINE));
+    let read = named(alloc, "with a trailing space")?;
+    assert!(rt; gives(SshCertificate::from_str(alloc, NAMED_LINE), &*read));
+    assert!(rt; has_blocks(alloc, NAMED_LINE, 43, 0)?);
     Ok(())
 }
 
@@ -107,7 +70,7 @@ const PERMITS_LINE: &str =
     "ssh-ed25519-cert-v01@openssh.com AAAAIHNzaC1lZDI1NTE5LWNlcnQtdjAxQG9wZW5zc2guY29tAAAAIAAAAAAAAAAAAAAAAAAAAAAAAAAAAAAAAAAAAAAAAAAAAAAAIAAAAAAAAAAAAAAAAAAAAAAAAAAAAAAAAAAAAAAAAAAAAAAAAAAAAAAAAAABAAAAAAAAAAAAAAAAAAAAAAAAAAAAAAAAAAAAAAAAAIIAAAAVcGVybWl0LVgxMS1mb3J3YXJkaW5nAAAAAAAAABdwZXJtaXQtYWdlbnQtZm9yd2FyZGluZwAAAAAAAAAWcGVybWl0LXBvcnQtZm9yd2FyZGluZwAAAAAAAAAKcGVybWl0LXB0eQAAAAAAAAAOcGVybWl0LXVzZXItcmMAAAAAAAAAAAAAADMAAAALc3NoLWVkMjU1MTkAAAAgAAAAAAAAAAAAAAAAAAAAAAAAAAAAAAAAAAAAAAAAAAAAAABTAAAAC3NzaC1lZDI1NTE5AAAAQAAAAAAAAAAAAAAAAAAAAAAAAAAAAAAAAAAAAAAAAAAAAAAAAAAAAAAAAAAAAAAAAAAAAAAAAAAAAAAAAAAAAAA= host";
 
 fn five_permits(alloc: Global) -> Result<List<SshExtension>, Fail> {
-    let mut permits = List::new(alloc);
+    let mut permits = ManuallyDrop::new(List::new(alloc));
     for name in [
         "permit-X11-forwarding",
         "permit-agent-forwarding",
@@ -115,40 +78,22 @@ fn five_permits(alloc: Global) -> Result<List<SshExtension>, Fail> {
         "permit-pty",
         "permit-user-rc",
     ] {
-        permits.push(permit(alloc, name)?)?;
+        permits.push(extension_of(alloc, name, b"")?)?;
     }
-    Ok(permits)
+    Ok(ManuallyDrop::into_inner(permits))
 }
 
-fn permit(alloc: Global, name: &str) -> Result<SshExtension, Fail> {
-    let payload = Bytes::new(alloc, b"")?;
-    match SshExtensionType::try_from_name(alloc, name) {
-        Ok(extension_type) => Ok(SshExtension::new(extension_type, payload)),
-        Err(e) => Err(Fail::from(e)),
-    }
-}
-
-/// The zero certificate as a user's, with five permits.
-fn permitted(alloc: Global) -> Result<SshCertificate, Fail> {
-    let extensions = five_permits(alloc)?;
-    match SshCertificate::from_str(alloc, ZERO_LINE) {
-        Ok(cert) => Ok(SshCertificate {
-            cert_type: SshCertType::Client,
-            extensions,
-            ..cert
-        }),
-        Err(e) => Err(Fail::from(e)),
-    }
-}
-
+/// The zero certificate as a user's, with five permits, is written as the line and read from it.
 fn is_permitted(alloc: Global, line: &str) -> Result<bool, Fail> {
-    let cert = ManuallyDrop::new(permitted(alloc)?);
-    Ok(prints(alloc, &cert, line) && reads(alloc, line, &cert))
+    let mut cert = ManuallyDrop::new(cert_of(alloc, ZERO_LINE)?);
+    put(&mut cert.cert_type, SshCertType::Client);
+    put(&mut cert.extensions, five_permits(alloc)?);
+    Ok(prints(alloc, &cert, line) && gives(SshCertificate::from_str(alloc, line), &*cert))
 }
 
 #[test]
 fn writes_and_reads_the_permits_of_a_user(rt: HostRuntime) -> Result<(), Fail> {
     assert!(rt; is_permitted(rt.alloc(), PERMITS_LINE)?);
-    assert!(rt; has_blocks(&blob_of(rt.alloc(), PERMITS_LINE)?, 0, 130));
+    assert!(rt; has_blocks(rt.alloc(), PERMITS_LINE, 0, 130)?);
     Ok(())
 }

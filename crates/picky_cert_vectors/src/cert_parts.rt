@@ -1,15 +1,17 @@
 //! Parts of certificates by themselves: told by their names, and read, written and copied.
 
+use crate::answers::{ends_in, gives};
 use picky_cert_parts::{
     SshCertKeyType, SshCertType, SshCertificateError, SshCriticalOption, SshCriticalOptionError,
     SshCriticalOptionType, SshExtension, SshExtensionType, SshSignature, SshSignatureBlob,
     SshSignatureError, SshSignatureFormat,
 };
 use picky_wire::{
-    Bytes, MemorySink, SizeError, SliceSource, SshComplexTypeDecode, SshComplexTypeEncode,
-    SshElement, Text, TryClone,
+    Bytes, MemorySink, NoMemory, SizeError, SliceSource, SshComplexTypeDecode,
+    SshComplexTypeEncode, SshElement, Text, TryClone,
 };
 use std::alloc::Global;
+use std::mem::ManuallyDrop;
 use std::test::Fail;
 
 // ssh -Q HostKeyAlgorithms | grep cert
@@ -73,87 +75,58 @@ static FORMATS: [(&str, SshSignatureFormat); 9] = [
     ("rsa-sha2-512", SshSignatureFormat::RsaSha512),
 ];
 
-fn is_key_type(alloc: Global, name: &str, key_type: SshCertKeyType) -> bool {
-    match SshCertKeyType::try_from_name(alloc, name) {
-        Ok(told) => told == key_type && told.as_str() == name,
-        Err(_) => false,
-    }
-}
-
-fn is_option_type(alloc: Global, name: &str, option_type: SshCriticalOptionType) -> bool {
-    match SshCriticalOptionType::try_from_name(alloc, name) {
-        Ok(told) => told == option_type && told.as_str() == name,
-        Err(_) => false,
-    }
-}
-
-fn is_format(alloc: Global, name: &str, format: SshSignatureFormat) -> bool {
-    match SshSignatureFormat::new(alloc, name) {
-        Ok(told) => told == format && told.as_str() == name,
-        Err(_) => false,
-    }
-}
-
 /// No part but an extension has the name, and each says so with it.
 fn is_unknown(alloc: Global, name: &str) -> Result<bool, SizeError> {
     let key_type = SshCertificateError::InvalidCertificateKeyType(Text::new(alloc, name)?);
+    let is_type_so = ends_in(Some(key_type), SshCertKeyType::try_from_name(alloc, name));
     let option = SshCriticalOptionError::UnsupportedCriticalOptionType(Text::new(alloc, name)?);
+    let is_option_so = ends_in(
+        Some(option),
+        SshCriticalOptionType::try_from_name(alloc, name),
+    );
     let format = SshSignatureError::UnsupportedSignatureFormat(Text::new(alloc, name)?);
-    Ok(
-        SshCertKeyType::try_from_name(alloc, name).err() == Some(key_type)
-            && SshCriticalOptionType::try_from_name(alloc, name).err() == Some(option)
-            && SshSignatureFormat::new(alloc, name).err() == Some(format),
-    )
+    let is_format_so = ends_in(Some(format), SshSignatureFormat::new(alloc, name));
+    Ok(is_type_so && is_option_so && is_format_so)
 }
 
 #[test]
 fn tells_parts_by_their_names(rt: HostRuntime) -> Result<(), Fail> {
+    let alloc = rt.alloc();
     for (name, key_type) in &KEY_TYPES {
-        assert!(rt; is_key_type(rt.alloc(), *name, *key_type), "{name}");
+        let is_told = gives(SshCertKeyType::try_from_name(alloc, *name), key_type);
+        assert!(rt; is_told && key_type.as_str() == *name, "{name}");
     }
     for (name, option_type) in &OPTION_TYPES {
-        assert!(rt; is_option_type(rt.alloc(), *name, *option_type), "{name}");
+        let is_told = gives(
+            SshCriticalOptionType::try_from_name(alloc, *name),
+            option_type,
+        );
+        assert!(rt; is_told && option_type.as_str() == *name, "{name}");
     }
     for (name, format) in &FORMATS {
-        assert!(rt; is_format(rt.alloc(), *name, *format), "{name}");
+        let is_told = gives(SshSignatureFormat::new(alloc, *name), format);
+        assert!(rt; is_told && format.as_str() == *name, "{name}");
     }
-    assert!(rt; is_unknown(rt.alloc(), "x@y")?);
+    assert!(rt; is_unknown(alloc, "x@y")?);
     Ok(())
 }
 
-/// The value is written as the bytes.
-fn is_written<T: SshComplexTypeEncode>(alloc: Global, value: &T, bytes: &[u8]) -> bool {
-    match MemorySink::new(alloc, 100, 3, &[]) {
-        Ok(mut sink) => {
-            let is_done = value.encode(&mut sink).is_ok();
-            is_done && sink.written() == bytes
-        }
-        Err(_) => false,
-    }
-}
-
-/// It is read from the bytes, to their end.
-fn is_read<T: SshComplexTypeDecode + Drop + PartialEq>(
+/// The value is written as the bytes, read from them to their end, and copied.
+fn is_part<T: SshElement + TryClone + PartialEq>(
     alloc: Global,
-    value: &T,
+    value: T,
     bytes: &[u8],
-) -> bool {
+) -> Result<bool, NoMemory> {
+    let value = ManuallyDrop::new(value);
+    let mut sink = ManuallyDrop::new(MemorySink::new(alloc, 100, 3, &[])?);
     let mut source = SliceSource::new(bytes);
-    match T::decode(alloc, &mut source) {
-        Ok(read) => read == *value && source.rest().is_empty(),
-        Err(_) => false,
-    }
-}
-
-fn is_copied<T: TryClone + Drop + PartialEq>(alloc: Global, value: &T) -> bool {
-    match value.try_clone(alloc) {
-        Ok(copy) => copy == *value,
-        Err(_) => false,
-    }
-}
-
-fn is_part<T: SshElement + TryClone + PartialEq>(alloc: Global, value: &T, bytes: &[u8]) -> bool {
-    is_written(alloc, value, bytes) && is_read(alloc, value, bytes) && is_copied(alloc, value)
+    Ok(
+        value.encode(&mut *sink).is_ok()
+            && sink.written() == bytes
+            && gives(T::decode(alloc, &mut source), &*value)
+            && source.rest().is_empty()
+            && gives(value.try_clone(alloc), &*value),
+    )
 }
 
 fn option_part(alloc: Global) -> Result<SshCriticalOption, Fail> {
@@ -164,13 +137,11 @@ fn option_part(alloc: Global) -> Result<SshCriticalOption, Fail> {
     })
 }
 
-/// An extension that isn't known.
-fn extension_part(alloc: Global) -> Result<SshExtension, Fail> {
-    let payload = Bytes::new(alloc, b"\0\0\0\x011")?;
-    match SshExtensionType::try_from_name(alloc, "x@y") {
-        Ok(extension_type) => Ok(SshExtension::new(extension_type, payload)),
-        Err(e) => Err(Fail::from(e)),
-    }
+/// The extension of this name and data.
+pub fn extension_of(alloc: Global, name: &str, payload: &[u8]) -> Result<SshExtension, Fail> {
+    let payload = ManuallyDrop::new(Bytes::new(alloc, payload)?);
+    let extension_type = SshExtensionType::try_from_name(alloc, name)?;
+    Ok(SshExtension::new(extension_type, ManuallyDrop::into_inner(payload)))
 }
 
 fn signature_part(alloc: Global) -> Result<SshSignature, Fail> {
@@ -207,11 +178,13 @@ const COUNTED: &[u8] =
 #[test]
 fn reads_writes_and_copies_parts(rt: HostRuntime) -> Result<(), Fail> {
     let alloc = rt.alloc();
-    assert!(rt; is_part(alloc, &SshCertType::Client, b"\0\0\0\x01"));
-    assert!(rt; is_part(alloc, &SshCertType::Host, b"\0\0\0\x02"));
-    assert!(rt; is_part(alloc, &option_part(alloc)?, OPTION));
-    assert!(rt; is_part(alloc, &extension_part(alloc)?, EXTENSION));
-    assert!(rt; is_part(alloc, &signature_part(alloc)?, SIGNATURE));
-    assert!(rt; is_part(alloc, &counted_part(alloc)?, COUNTED));
+    // "x@y" names no extension that is known.
+    let data = b"\0\0\0\x011";
+    assert!(rt; is_part(alloc, SshCertType::Client, b"\0\0\0\x01")?);
+    assert!(rt; is_part(alloc, SshCertType::Host, b"\0\0\0\x02")?);
+    assert!(rt; is_part(alloc, option_part(alloc)?, OPTION)?);
+    assert!(rt; is_part(alloc, extension_of(alloc, "x@y", data)?, EXTENSION)?);
+    assert!(rt; is_part(alloc, signature_part(alloc)?, SIGNATURE)?);
+    assert!(rt; is_part(alloc, counted_part(alloc)?, COUNTED)?);
     Ok(())
 }

@@ -3,63 +3,53 @@
 use crate::cert_conversions::converted;
 use crate::cert_fields::blob_of;
 use picky_cert::{CertPart, CertView, SshCertificate};
+use picky_cert_parts::SshCertificateError;
 use picky_cert_rows::{CertFault, FAULTS, ZERO_LINE};
 use picky_key_text::ReadError;
 use picky_target::{ConvertError, KeyTarget};
-use picky_wire::Bytes;
-use std::alloc::Global;
+use std::alloc::{AllocError, Global};
 use std::mem::ManuallyDrop;
 use std::test::Fail;
 
-/// The error for the line, as `{:?}` prints it, and nothing where there is none.
-fn refusal(alloc: Global, line: &str) -> Result<String, Fail> {
-    match SshCertificate::from_str(alloc, line) {
-        Ok(_) => Ok(String::new(alloc)),
-        Err(e) => Ok(format!(in alloc; "{e:?}")?),
-    }
-}
-
-/// The call refuses the line so.
-pub fn is_refused(alloc: Global, line: &str, why: &str) -> Result<bool, Fail> {
-    let printed = ManuallyDrop::new(refusal(alloc, line)?);
+/// `{:?}` prints the error so.
+fn is_said(alloc: Global, e: &SshCertificateError, why: &str) -> Result<bool, AllocError> {
+    let printed = ManuallyDrop::new(format!(in alloc; "{e:?}")?);
     Ok(printed.as_str() == why)
 }
 
-/// It is a certificate's refusal, which is printed so.
-fn is_said(alloc: Global, e: &ConvertError, why: &str) -> Result<bool, Fail> {
-    match e {
-        ConvertError::Input(ReadError::Certificate(e)) => {
-            Ok(format!(in alloc; "{e:?}")?.as_str() == why)
-        }
-        _ => Ok(false),
-    }
-}
-
-/// And so does the conversion.
-pub fn is_unread(alloc: Global, line: &str, why: &str) -> Result<bool, Fail> {
-    match converted(alloc, line, KeyTarget::OpenSshPublic) {
-        Err(e) => is_said(alloc, &e, why),
+/// The call refuses the line so.
+pub fn is_refused(alloc: Global, line: &str, why: &str) -> Result<bool, AllocError> {
+    let read = ManuallyDrop::new(SshCertificate::from_str(alloc, line));
+    match &*read {
+        Err(e) => is_said(alloc, e, why),
         Ok(_) => Ok(false),
     }
 }
 
-/// The bytes are stuck at the part.
-fn is_stuck(blob: &Bytes, part: CertPart) -> bool {
-    CertView::stuck_at(blob.as_slice()) == Some(part)
+/// And so does the conversion.
+pub fn is_unread(alloc: Global, line: &str, why: &str) -> Result<bool, AllocError> {
+    let text = ManuallyDrop::new(converted(alloc, line, KeyTarget::OpenSshPublic));
+    match &*text {
+        Err(ConvertError::Input(ReadError::Certificate(e))) => is_said(alloc, e, why),
+        Err(_) | Ok(_) => Ok(false),
+    }
 }
 
-/// A line of the row's bytes.
-fn line_of(alloc: Global, row: &CertFault) -> Result<String, Fail> {
-    Ok(format!(in alloc; "ssh-ed25519-cert-v01@openssh.com {} host\n", row.body)?)
+/// Each call refuses the line so, and its bytes are stuck at the part.
+fn is_bad(alloc: Global, line: &str, part: CertPart, why: &str) -> Result<bool, Fail> {
+    let blob = ManuallyDrop::new(blob_of(alloc, line)?);
+    Ok(
+        is_refused(alloc, line, why)?
+            && is_unread(alloc, line, why)?
+            && CertView::stuck_at(blob.as_slice()) == Some(part),
+    )
 }
 
-/// Each call refuses the row's bytes so.
+/// So is a line of the row's bytes.
 pub fn is_fault(alloc: Global, row: &CertFault) -> Result<bool, Fail> {
-    let line = line_of(alloc, row)?;
-    let blob = blob_of(alloc, line.as_str())?;
-    let is_so = is_refused(alloc, line.as_str(), row.why)?
-        && is_unread(alloc, line.as_str(), row.why)?;
-    Ok(is_so && is_stuck(&blob, row.part))
+    let line = format!(in alloc; "ssh-ed25519-cert-v01@openssh.com {} host\n", row.body)?;
+    let line = ManuallyDrop::new(line);
+    is_bad(alloc, line.as_str(), row.part, row.why)
 }
 
 #[test]
@@ -157,9 +147,7 @@ static CUTS: [(usize, CertPart, &str); 16] = [
 /// The first so many bytes of the zero certificate's line are refused so.
 fn is_cut(alloc: Global, len: usize, part: CertPart, why: &str) -> Result<bool, Fail> {
     let line = ZERO_LINE.get(..len).ok_or("a shorter line")?;
-    let blob = blob_of(alloc, line)?;
-    let is_so = is_refused(alloc, line, why)? && is_unread(alloc, line, why)?;
-    Ok(is_so && is_stuck(&blob, part))
+    is_bad(alloc, line, part, why)
 }
 
 #[test]

@@ -1,66 +1,55 @@
 //! Certificates from a source and to a sink, which may fail, and copies of them.
 
+use crate::answers::{ends_in, gives};
+use crate::cert_fields::cert_of;
 use picky_cert::SshCertificate;
 use picky_cert_parts::SshCertificateError;
 use picky_cert_rows::{ROW_COUNT, ZERO_LINE, cert_row};
-use picky_wire::{IoKind, MemorySink, MemorySource, SliceSource, SshComplexTypeDecode, TryClone};
+use picky_wire::{
+    IoKind, MemorySink, MemorySource, NoMemory, SliceSource, SshComplexTypeDecode, TryClone,
+};
 use std::alloc::Global;
 use std::mem::ManuallyDrop;
 use std::test::Fail;
 
 /// The certificate is written to a sink as it is printed.
-fn is_encoded(alloc: Global, cert: &SshCertificate, line: &str) -> bool {
-    match MemorySink::new(alloc, 9999, 7, &[]) {
-        Ok(mut sink) => {
-            let is_written = cert.encode(alloc, &mut sink).is_ok();
-            is_written && sink.written().strip_suffix(b"\r\n") == Some(line.as_bytes())
-        }
-        Err(_) => false,
-    }
+fn is_encoded(alloc: Global, cert: &SshCertificate, line: &str) -> Result<bool, NoMemory> {
+    let mut sink = ManuallyDrop::new(MemorySink::new(alloc, 9999, 7, &[])?);
+    Ok(
+        ends_in(None, cert.encode(alloc, &mut *sink))
+            && sink.written().strip_suffix(b"\r\n") == Some(line.as_bytes()),
+    )
 }
 
 /// The line is taken from a source that gives it by 7 bytes, as the certificate.
-fn is_taken(alloc: Global, cert: &SshCertificate, line: &str) -> bool {
-    match MemorySource::new(alloc, line.as_bytes(), 7, &[]) {
-        Ok(mut source) => match SshCertificate::decode(alloc, &mut source) {
-            Ok(taken) => taken == *cert,
-            Err(_) => false,
-        },
-        Err(_) => false,
-    }
+fn is_taken(alloc: Global, cert: &SshCertificate, line: &str) -> Result<bool, NoMemory> {
+    let mut source = ManuallyDrop::new(MemorySource::new(alloc, line.as_bytes(), 7, &[])?);
+    Ok(gives(SshCertificate::decode(alloc, &mut *source), cert))
 }
 
-fn is_copied(alloc: Global, cert: &SshCertificate) -> bool {
-    match cert.try_clone(alloc) {
-        Ok(copy) => copy == *cert,
-        Err(_) => false,
-    }
-}
-
-fn is_kept(alloc: Global, line: &str) -> bool {
-    match SshCertificate::from_str(alloc, line) {
-        Ok(cert) => {
-            is_encoded(alloc, &cert, line)
-                && is_taken(alloc, &cert, line)
-                && is_copied(alloc, &cert)
-        }
-        Err(_) => false,
-    }
+/// So it is, and its copy is the same.
+fn is_kept(alloc: Global, line: &str) -> Result<bool, Fail> {
+    let cert = ManuallyDrop::new(cert_of(alloc, line)?);
+    Ok(
+        is_encoded(alloc, &cert, line)?
+            && is_taken(alloc, &cert, line)?
+            && gives(cert.try_clone(alloc), &*cert),
+    )
 }
 
 #[test]
-fn takes_writes_and_copies_certificates(rt: HostRuntime) {
+fn takes_writes_and_copies_certificates(rt: HostRuntime) -> Result<(), Fail> {
     for number in 0..ROW_COUNT {
         let row = cert_row(number);
-        assert!(rt; is_kept(rt.alloc(), row.line), "{}", row.name);
+        assert!(rt; is_kept(rt.alloc(), row.line)?, "{}", row.name);
     }
+    Ok(())
 }
 
 /// The bytes begin with a line that is read or refused so, and this is left.
 fn leaves(alloc: Global, bytes: &[u8], why: Option<SshCertificateError>, left: &[u8]) -> bool {
     let mut source = SliceSource::new(bytes);
-    let read = SshCertificate::decode(alloc, &mut source).err();
-    read == why && source.rest() == left
+    ends_in(why, SshCertificate::decode(alloc, &mut source)) && source.rest() == left
 }
 
 #[test]
@@ -74,22 +63,18 @@ fn takes_one_certificate_of_a_source(rt: HostRuntime) -> Result<(), Fail> {
 }
 
 /// Where the call of a source fails, so does the reading of the line.
-fn fails_to_read(alloc: Global, call: u64) -> Result<bool, Fail> {
-    let mut source = MemorySource::new(alloc, ZERO_LINE.as_bytes(), 7, &[call])?;
-    let why = SshCertificate::decode(alloc, &mut source).err();
-    Ok(why == Some(SshCertificateError::CertificateProcessingError(IoKind::ReadFault)))
+fn fails_to_read(alloc: Global, call: u64) -> Result<bool, NoMemory> {
+    let mut source = ManuallyDrop::new(MemorySource::new(alloc, ZERO_LINE.as_bytes(), 7, &[call])?);
+    let why = SshCertificateError::CertificateProcessingError(IoKind::ReadFault);
+    Ok(ends_in(Some(why), SshCertificate::decode(alloc, &mut *source)))
 }
 
 /// And where that of a sink fails, its writing.
 fn fails_to_write(alloc: Global, call: u64) -> Result<bool, Fail> {
-    let mut sink = MemorySink::new(alloc, 999, 7, &[call])?;
-    match SshCertificate::from_str(alloc, ZERO_LINE) {
-        Ok(cert) => {
-            let why = cert.encode(alloc, &mut sink).err();
-            Ok(why == Some(SshCertificateError::CertificateProcessingError(IoKind::WriteFault)))
-        }
-        Err(e) => Err(Fail::from(e)),
-    }
+    let mut sink = ManuallyDrop::new(MemorySink::new(alloc, 999, 7, &[call])?);
+    let cert = ManuallyDrop::new(cert_of(alloc, ZERO_LINE)?);
+    let why = SshCertificateError::CertificateProcessingError(IoKind::WriteFault);
+    Ok(ends_in(Some(why), cert.encode(alloc, &mut *sink)))
 }
 
 #[test]

@@ -2,6 +2,8 @@
 #![tactic(auto)]
 
 #[cfg(test)]
+mod answers;
+#[cfg(test)]
 mod cert_conversions;
 #[cfg(test)]
 mod cert_faults;

@@ -1,6 +1,6 @@
 //! A certificate whose keys, nonce and signature are zero bytes: where its parts stand, and at which a cut is stuck.
 
-use crate::cert_fields::{blob_of, prints};
+use crate::cert_fields::{blob_of, cert_of, prints};
 use picky_cert::{CertPart, CertView, SshCertificate};
 use picky_cert_parts::SshCertType;
 use picky_cert_rows::ZERO_LINE;
@@ -21,16 +21,11 @@ fn is_zero(cert: &SshCertificate) -> bool {
         && cert.comment.as_str() == "host"
 }
 
-fn is_read(alloc: Global) -> bool {
-    match SshCertificate::from_str(alloc, ZERO_LINE) {
-        Ok(cert) => is_zero(&cert) && prints(alloc, &cert, ZERO_LINE),
-        Err(_) => false,
-    }
-}
-
 #[test]
-fn reads_and_writes_the_zero_certificate(rt: HostRuntime) {
-    assert!(rt; is_read(rt.alloc()));
+fn reads_and_writes_the_zero_certificate(rt: HostRuntime) -> Result<(), Fail> {
+    let cert = ManuallyDrop::new(cert_of(rt.alloc(), ZERO_LINE)?);
+    assert!(rt; is_zero(&cert) && prints(rt.alloc(), &cert, ZERO_LINE));
+    Ok(())
 }
 
 // ---- where its parts stand
@@ -97,17 +92,12 @@ static ENDS: [(usize, CertPart); 14] = [
     (298, CertPart::Signature),
 ];
 
-/// The first so many bytes are stuck at the part.
-fn is_stuck(blob: &Bytes, len: usize, part: CertPart) -> bool {
-    let (front, _) = blob.as_slice().split_at(len.min(blob.as_slice().len()));
-    CertView::stuck_at(front) == Some(part)
-}
-
 /// From one place on to another each cut is stuck at the part.
 fn are_stuck(blob: &Bytes, from: usize, end: usize, part: CertPart) -> bool {
     let mut is_so = true;
     for len in from..end {
-        is_so = is_so && is_stuck(blob, len, part);
+        let (front, _) = blob.as_slice().split_at(len.min(blob.as_slice().len()));
+        is_so = is_so && CertView::stuck_at(front) == Some(part);
     }
     is_so
 }
