@@ -3,6 +3,8 @@
 #![tactic(auto)]
 
 #[cfg(test)]
+mod answers;
+#[cfg(test)]
 mod ppk_comments;
 #[cfg(test)]
 mod ppk_files;

@@ -1,8 +1,9 @@
 //! Why the key in a PuTTY private key file is refused, where the file itself isn't: of two faults the one that is tried
 //! first.
 
+use crate::answers::kept;
 use crate::ppk_files::{made_of, ppk_of};
-use crate::ppk_refusals::named;
+use crate::ppk_refusals::is_named;
 use picky_key_rows::{PRIVATE_ROWS, unsealed};
 use picky_ppk::Ppk;
 use std::alloc::{AllocError, Global};
@@ -143,42 +144,38 @@ static KEY_ROWS: [KeyRow; 13] = [
 
 /// The row's file, each block in one line.
 fn text_of(alloc: Global, row: &KeyRow) -> Result<String, AllocError> {
-    let head = format!(in alloc;
+    let head = ManuallyDrop::new(format!(in alloc;
         "PuTTY-User-Key-File-3: {}\nEncryption: none\nComment: \n",
         row.algorithm
-    )?;
-    let blob = format!(in alloc; "{head}Public-Lines: 1\n{}\n", row.blob)?;
+    )?);
+    let blob = ManuallyDrop::new(format!(in alloc;
+        "{}Public-Lines: 1\n{}\n",
+        head.as_str(),
+        row.blob
+    )?);
     format!(in alloc;
-        "{blob}Private-Lines: 1\n{}\nPrivate-MAC: {}\n",
-        row.private, row.mac
+        "{}Private-Lines: 1\n{}\nPrivate-MAC: {}\n",
+        blob.as_str(),
+        row.private,
+        row.mac
     )
 }
 
-fn row_ppk(alloc: Global, row: &KeyRow) -> Result<Ppk, Fail> {
-    let text = ManuallyDrop::new(text_of(alloc, row)?);
-    Ok(ppk_of(alloc, text.as_str())?)
+fn row_ppk(alloc: Global, row: &KeyRow) -> Result<ManuallyDrop<Ppk>, Fail> {
+    let text = kept(text_of(alloc, row))?;
+    kept(ppk_of(alloc, text.as_str()))
 }
 
-/// Why the private key isn't given.
-fn private_refusal(alloc: Global, ppk: &Ppk) -> Result<String, Fail> {
-    named(alloc, ppk.private_key(alloc))
-}
-
-/// Why OpenSSH's key isn't given.
-fn openssh_refusal(alloc: Global, ppk: &Ppk) -> Result<String, Fail> {
-    named(alloc, ppk.to_openssh_private_key(alloc, None, &[0; 16]))
-}
-
-/// Both are as the row says.
+/// Why the private key isn't given, and why OpenSSH's isn't, is as the row says.
 fn is_refused(alloc: Global, row: &KeyRow) -> Result<bool, Fail> {
-    let ppk = ManuallyDrop::new(row_ppk(alloc, row)?);
-    is_refused_for(alloc, &ppk, row.wanted)
-}
-
-fn is_refused_for(alloc: Global, ppk: &Ppk, wanted: &str) -> Result<bool, Fail> {
+    let ppk = row_ppk(alloc, row)?;
     Ok(
-        private_refusal(alloc, ppk)?.as_str() == wanted
-            && openssh_refusal(alloc, ppk)?.as_str() == wanted,
+        is_named(alloc, ppk.private_key(alloc), row.wanted)?
+            && is_named(
+                alloc,
+                ppk.to_openssh_private_key(alloc, None, &[0; 16]),
+                row.wanted,
+            )?,
     )
 }
 
@@ -190,32 +187,27 @@ fn refuses_keys_in_order(rt: HostRuntime) -> Result<(), Fail> {
     Ok(())
 }
 
-/// Why no file is made of the OpenSSH key.
-fn made_refusal(alloc: Global, text: &str) -> Result<String, Fail> {
+const SK_KEYS: &str = "NotSupported: SK keys";
+
+/// No file is made of the OpenSSH key.
+fn is_not_made(alloc: Global, text: &str) -> Result<bool, Fail> {
     let key = ManuallyDrop::new(unsealed(alloc, text)?);
-    named(alloc, made_of(alloc, &key))
+    is_named(alloc, made_of(alloc, &key), SK_KEYS)
 }
 
-/// Why no public key is given, of the row whose blob is that of a device's key.
-fn public_refusal(alloc: Global) -> Result<String, Fail> {
-    let ppk = ManuallyDrop::new(row_ppk(alloc, &KEY_ROWS[6])?);
-    public_refusal_of(alloc, &ppk)
-}
-
-fn public_refusal_of(alloc: Global, ppk: &Ppk) -> Result<String, Fail> {
-    named(alloc, ppk.public_key(alloc))
+/// No public key is given, of the row whose blob is that of a device's key.
+fn has_no_public(alloc: Global) -> Result<bool, Fail> {
+    let ppk = row_ppk(alloc, &KEY_ROWS[6])?;
+    is_named(alloc, ppk.public_key(alloc), SK_KEYS)
 }
 
 #[test]
 fn has_no_keys_of_devices(rt: HostRuntime) -> Result<(), Fail> {
-    let wanted = "NotSupported: SK keys";
     for row in &PRIVATE_ROWS {
         if row.is_on_device {
-            let why = ManuallyDrop::new(made_refusal(rt.alloc(), row.text)?);
-            assert_eq!(rt; why.as_str(), wanted, "{}", row.name);
+            assert!(rt; is_not_made(rt.alloc(), row.text)?, "{}", row.name);
         }
     }
-    let why = ManuallyDrop::new(public_refusal(rt.alloc())?);
-    assert_eq!(rt; why.as_str(), wanted);
+    assert!(rt; has_no_public(rt.alloc())?);
     Ok(())
 }

@@ -1,36 +1,45 @@
 //! Why PuTTY's private key files and the keys in them are refused: of two faults in one text the one that is tried first.
 
-use crate::ppk_files::{ppk_of, says};
+use crate::answers::{gives, kept};
+use crate::ppk_files::ppk_of;
 use picky_key_rows::ZERO_TEXT;
 use picky_ppk::PuttyError;
 use std::alloc::{AllocError, Global};
 use std::mem::ManuallyDrop;
 use std::test::Fail;
 
-/// The error's name, and the texts behind it; nothing where there is no error.
-pub fn named<T: Drop>(alloc: Global, answer: Result<T, PuttyError>) -> Result<String, Fail> {
-    match answer {
-        Ok(_) => Ok(String::new(alloc)),
-        Err(
-            PuttyError::InvalidInput {
-                context,
-                expected,
-                actual,
-            },
-        ) => Ok(in_words(
-            alloc,
-            [context.as_str(), expected.as_str(), actual.as_str()],
-        )?),
-        Err(PuttyError::NotSupported { feature }) => {
-            Ok(format!(in alloc; "NotSupported: {}", feature.as_str())?)
+/// The error's name, and the texts behind it.
+fn name_of(alloc: Global, why: &PuttyError) -> Result<String, AllocError> {
+    match why {
+        PuttyError::InvalidInput {
+            context,
+            expected,
+            actual,
+        } => {
+            let texts = [context.as_str(), expected.as_str(), actual.as_str()];
+            format!(in alloc; "{}: {}: {}", texts[0], texts[1], texts[2])
         }
-        Err(e) => Ok(format!(in alloc; "{e:?}")?),
+        PuttyError::NotSupported { feature } => {
+            format!(in alloc; "NotSupported: {}", feature.as_str())
+        }
+        e => format!(in alloc; "{e:?}"),
     }
 }
 
-fn in_words(alloc: Global, texts: [&str; 3]) -> Result<String, AllocError> {
-    let [context, expected, actual] = texts;
-    format!(in alloc; "{context}: {expected}: {actual}")
+/// The answer's error has this name with its texts; there is no error where the name is empty.
+pub fn is_named<T: Drop>(
+    alloc: Global,
+    answer: Result<T, PuttyError>,
+    wanted: &str,
+) -> Result<bool, Fail> {
+    let answer = ManuallyDrop::new(answer);
+    match &*answer {
+        Ok(_) => Ok(wanted.is_empty()),
+        Err(why) => {
+            let name = kept(name_of(alloc, why))?;
+            Ok(name.as_str() == wanted)
+        }
+    }
 }
 
 // The order is that of the lines, and in a line: whether it is there, `: `, the key, the value or the count, the block.
@@ -150,23 +159,22 @@ const HEAD: &str = "FIRST\nEncryption: none\nComment: hello\n";
 const SEALED: &str = "FIRST\nEncryption: aes256-cbc\nComment: hello\nPublic-Lines: 0\n";
 
 /// The text with whole lines in place of `SEALED`, `HEAD` and `FIRST`.
-fn spelled(alloc: Global, short: &str) -> Result<String, Fail> {
+fn spelled(alloc: Global, short: &str) -> Result<String, AllocError> {
     let text = ManuallyDrop::new(short.replace(alloc, "SEALED", SEALED)?);
     let text = ManuallyDrop::new(text.replace(alloc, "HEAD", HEAD)?);
-    Ok(text.replace(alloc, "FIRST", FIRST)?)
+    text.replace(alloc, "FIRST", FIRST)
 }
 
-/// Why the text isn't read.
-fn text_refusal(alloc: Global, short: &str) -> Result<String, Fail> {
-    let text = ManuallyDrop::new(spelled(alloc, short)?);
-    named(alloc, ppk_of(alloc, text.as_str()))
+/// The text isn't read, for this.
+fn is_refused(alloc: Global, short: &str, wanted: &str) -> Result<bool, Fail> {
+    let text = kept(spelled(alloc, short))?;
+    is_named(alloc, ppk_of(alloc, text.as_str()), wanted)
 }
 
 #[test]
 fn refuses_files_by_line(rt: HostRuntime) -> Result<(), Fail> {
     for (name, short, wanted) in &TEXTS {
-        let why = ManuallyDrop::new(text_refusal(rt.alloc(), *short)?);
-        assert_eq!(rt; why.as_str(), *wanted, "{name}");
+        assert!(rt; is_refused(rt.alloc(), *short, *wanted)?, "{name}");
     }
     Ok(())
 }
@@ -184,17 +192,17 @@ static SPELLINGS: [(&str, &str, &str); 5] = [
     ("a plus and a zero", "Public-Lines: 2", "Public-Lines: +02"),
 ];
 
-/// The text is read as the file of `ZERO_TEXT`.
-fn is_zero(alloc: Global, text: &str) -> Result<bool, Fail> {
-    let ppk = ManuallyDrop::new(ppk_of(alloc, ZERO_TEXT)?);
-    says(alloc, text, &ppk)
+/// `ZERO_TEXT` is read as the same file with this change.
+fn is_zero(alloc: Global, from: &str, to: &str) -> Result<bool, Fail> {
+    let ppk = kept(ppk_of(alloc, ZERO_TEXT))?;
+    let text = kept(ZERO_TEXT.replace(alloc, from, to))?;
+    gives(ppk_of(alloc, text.as_str()), &*ppk)
 }
 
 #[test]
 fn reads_other_spellings_of_a_file(rt: HostRuntime) -> Result<(), Fail> {
     for (name, from, to) in &SPELLINGS {
-        let text = ManuallyDrop::new(ZERO_TEXT.replace(rt.alloc(), *from, *to)?);
-        assert!(rt; is_zero(rt.alloc(), text.as_str())?, "{name}");
+        assert!(rt; is_zero(rt.alloc(), *from, *to)?, "{name}");
     }
     Ok(())
 }

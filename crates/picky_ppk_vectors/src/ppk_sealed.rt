@@ -1,7 +1,7 @@
 //! Sealed PuTTY private key files: PuTTYgen's, read and written, and those of the suite for tests, whose cipher is a toy.
 
-use crate::ppk_files::{is_kept, is_written, p256_ppk, ppk_of, row_ppk};
-use crate::ppk_views::is_copied;
+use crate::answers::{gives, is_text, kept};
+use crate::ppk_files::{is_kept, p256_ppk, ppk_of, row_ppk};
 use picky_key_rows::{
     CONFIG, PASS, PPK_ROWS, PpkRow, SEALED_V2, SEALED_V3, TOY_V2, TOY_V3, hex_of,
 };
@@ -24,7 +24,7 @@ pub const PADDING: &[u8] = b"twelve bytes or more";
 
 /// The text with CR LF, as version 2 has it.
 fn is_kept_with_crlf(alloc: Global, text: &str) -> Result<bool, Fail> {
-    let with_crlf = ManuallyDrop::new(text.replace(alloc, "\n", "\r\n")?);
+    let with_crlf = kept(text.replace(alloc, "\n", "\r\n"))?;
     is_kept(alloc, with_crlf.as_str())
 }
 
@@ -47,16 +47,13 @@ fn is_sealed_row(ppk: &Ppk, version: PpkVersion) -> bool {
 
 /// Its public key is shown.
 fn shows_public(alloc: Global, ppk: &Ppk) -> Result<bool, Fail> {
-    let open = ManuallyDrop::new(p256_ppk(alloc, PpkVersion::V3)?);
-    is_same_public(alloc, ppk, &open)
-}
-
-fn is_same_public(alloc: Global, ppk: &Ppk, open: &Ppk) -> Result<bool, Fail> {
-    Ok(ppk.public_key(alloc)? == open.public_key(alloc)?)
+    let open = p256_ppk(alloc, PpkVersion::V3)?;
+    let wanted = kept(open.public_key(alloc))?;
+    gives(ppk.public_key(alloc), &*wanted)
 }
 
 /// What Argon2 is run with in the sealed files of version 3, but for the salt.
-fn params(alloc: Global, salt: &[u8]) -> Result<Argon2Params, Fail> {
+fn params(alloc: Global, salt: &[u8]) -> Result<Argon2Params, SizeError> {
     let salt = Bytes::new(alloc, salt)?;
     Ok(Argon2Params {
         flavor: Argon2Flavour::Argon2id,
@@ -71,19 +68,20 @@ fn params(alloc: Global, salt: &[u8]) -> Result<Argon2Params, Fail> {
 const SEALED_SALT: &[u8] = b"\xc5\x63\x9f\x04\xb9\xab\xb4\x49\x97\x9f\xef\x76\x43\x3e\xd2\xc8";
 
 /// The file's are a copy of these.
-fn has_params(alloc: Global, ppk: &Ppk) -> Result<bool, Fail> {
-    let params = ManuallyDrop::new(params(alloc, SEALED_SALT)?);
-    Ok(ppk.argon2_params() == Some(&params.try_clone(alloc)?))
+fn shows_params(alloc: Global) -> Result<bool, Fail> {
+    let ppk = kept(ppk_of(alloc, SEALED_V3))?;
+    let params = kept(params(alloc, SEALED_SALT))?;
+    let copy = kept(params.try_clone(alloc))?;
+    Ok(ppk.argon2_params() == Some(&*copy))
 }
 
 fn is_shown(alloc: Global, text: &str, version: PpkVersion) -> Result<bool, Fail> {
-    let ppk = ManuallyDrop::new(ppk_of(alloc, text)?);
-    Ok(is_sealed_row(&ppk, version) && shows_public(alloc, &ppk)? && is_copied(alloc, &ppk)?)
-}
-
-fn shows_params(alloc: Global) -> Result<bool, Fail> {
-    let ppk = ManuallyDrop::new(ppk_of(alloc, SEALED_V3)?);
-    has_params(alloc, &ppk)
+    let ppk = kept(ppk_of(alloc, text))?;
+    Ok(
+        is_sealed_row(&ppk, version)
+            && shows_public(alloc, &ppk)?
+            && gives(ppk.try_clone(alloc), &*ppk)?,
+    )
 }
 
 #[test]
@@ -95,30 +93,16 @@ fn shows_the_fields_of_a_sealed_file(rt: HostRuntime) -> Result<(), Fail> {
 }
 
 /// The file sealed by the suite for tests.
-pub fn sealed_of(alloc: Global, ppk: &Ppk) -> Result<Ppk, Fail> {
-    let mut suite = MemorySuite::new(alloc, &[])?;
+fn sealed_of(alloc: Global, ppk: &Ppk) -> Result<ManuallyDrop<Ppk>, Fail> {
+    let mut suite = kept(MemorySuite::new(alloc, &[]))?;
     let padding = &PADDING[..ppk.padding_len()];
-    Ok(ppk.encrypt(alloc, &mut suite, PASS, CONFIG, SALT, padding)?)
+    kept(ppk.encrypt(alloc, &mut *suite, PASS, CONFIG, SALT, padding))
 }
 
 /// The sealed file is opened as the other.
 fn opens_to(alloc: Global, sealed: &Ppk, ppk: &Ppk) -> Result<bool, Fail> {
-    let mut suite = MemorySuite::new(alloc, &[])?;
-    Ok(sealed.decrypt(alloc, &mut suite, PASS)? == *ppk)
-}
-
-/// The file is sealed as the text, and opened again.
-fn is_sealed_as(alloc: Global, ppk: &Ppk, text: &str) -> Result<bool, Fail> {
-    let sealed = ManuallyDrop::new(sealed_of(alloc, ppk)?);
-    is_written_and_opens(alloc, &sealed, ppk, text)
-}
-
-fn is_written_and_opens(alloc: Global, sealed: &Ppk, ppk: &Ppk, text: &str) -> Result<bool, Fail> {
-    Ok(
-        is_written(alloc, sealed, text)?
-            && opens_to(alloc, sealed, ppk)?
-            && is_drafted(alloc, sealed, ppk)?,
-    )
+    let mut suite = kept(MemorySuite::new(alloc, &[]))?;
+    gives(sealed.decrypt(alloc, &mut *suite, PASS), ppk)
 }
 
 /// The file's draft has the sealed file's fields, but for its private bytes and its MAC.
@@ -127,7 +111,7 @@ fn is_drafted(alloc: Global, sealed: &Ppk, ppk: &Ppk) -> Result<bool, Fail> {
     if ppk.file().private_bytes.as_slice().len() > 1000 {
         return Ok(false);
     }
-    let draft = ManuallyDrop::new(file_draft(alloc, ppk.file(), CONFIG, SALT, padding)?);
+    let draft = kept(file_draft(alloc, ppk.file(), CONFIG, SALT, padding))?;
     Ok(is_draft(&draft, sealed.file(), ppk.file()))
 }
 
@@ -142,36 +126,29 @@ fn is_draft(draft: &PpkFile, sealed: &PpkFile, open: &PpkFile) -> bool {
         && draft.mac.as_slice().is_empty()
 }
 
-fn seals_version_3(alloc: Global) -> Result<bool, Fail> {
-    let ppk = ManuallyDrop::new(p256_ppk(alloc, PpkVersion::V3)?);
-    is_sealed_as(alloc, &ppk, TOY_V3)
-}
-
-fn seals_version_2(alloc: Global) -> Result<bool, Fail> {
-    let text = ManuallyDrop::new(TOY_V2.replace(alloc, "\n", "\r\n")?);
-    seals_as(alloc, text.as_str())
-}
-
-fn seals_as(alloc: Global, text: &str) -> Result<bool, Fail> {
-    let ppk = ManuallyDrop::new(p256_ppk(alloc, PpkVersion::V2)?);
-    is_sealed_as(alloc, &ppk, text)
+/// The file of the P-256 key is sealed as the text, and opened again.
+fn seals_as(alloc: Global, version: PpkVersion, text: &str) -> Result<bool, Fail> {
+    let ppk = p256_ppk(alloc, version)?;
+    let sealed = sealed_of(alloc, &ppk)?;
+    Ok(
+        is_text(sealed.to_string(alloc), text)?
+            && opens_to(alloc, &sealed, &ppk)?
+            && is_drafted(alloc, &sealed, &ppk)?,
+    )
 }
 
 #[test]
 fn seals_and_opens_as_python_does(rt: HostRuntime) -> Result<(), Fail> {
-    assert!(rt; seals_version_3(rt.alloc())?);
-    assert!(rt; seals_version_2(rt.alloc())?);
+    assert!(rt; seals_as(rt.alloc(), PpkVersion::V3, TOY_V3)?);
+    let with_crlf = kept(TOY_V2.replace(rt.alloc(), "\n", "\r\n"))?;
+    assert!(rt; seals_as(rt.alloc(), PpkVersion::V2, with_crlf.as_str())?);
     Ok(())
 }
 
 fn comes_back(alloc: Global, row: &PpkRow, version: PpkVersion) -> Result<bool, Fail> {
-    let ppk = ManuallyDrop::new(row_ppk(alloc, row, version)?);
-    is_opened_again(alloc, &ppk)
-}
-
-fn is_opened_again(alloc: Global, ppk: &Ppk) -> Result<bool, Fail> {
-    let sealed = ManuallyDrop::new(sealed_of(alloc, ppk)?);
-    opens_to(alloc, &sealed, ppk)
+    let ppk = row_ppk(alloc, row, version)?;
+    let sealed = sealed_of(alloc, &ppk)?;
+    opens_to(alloc, &sealed, &ppk)
 }
 
 #[test]
@@ -200,34 +177,33 @@ const FIRST: &[u8; 16] = b"\xb7\x02\x5c\xa1\x09\xf4\x47\x7b\x30\x33\x1d\xba\x93\
 
 const SECOND: &[u8; 16] = b"\x4b\x78\xa4\xbf\x6e\x60\xed\xcb\xad\xa3\xc6\xbf\x6d\xff\x2f\x81";
 
-/// The file sealed with what the generator gives.
-fn drawn_of(alloc: Global, ppk: &Ppk) -> Result<Ppk, Fail> {
-    let mut suite = MemorySuite::new(alloc, &[])?;
-    let mut rng = Pcg32::new(42, 54);
-    Ok(ppk.encrypt_with_rng(alloc, &mut suite, PASS, CONFIG, &mut rng)?)
-}
-
 /// The file sealed with a salt, and a padding from these bytes.
-fn sealed_with(alloc: Global, ppk: &Ppk, salt: &[u8; 16], bytes: &[u8; 16]) -> Result<Ppk, Fail> {
-    let mut suite = MemorySuite::new(alloc, &[])?;
+fn sealed_with(
+    alloc: Global,
+    ppk: &Ppk,
+    salt: &[u8; 16],
+    bytes: &[u8; 16],
+) -> Result<ManuallyDrop<Ppk>, Fail> {
+    let mut suite = kept(MemorySuite::new(alloc, &[]))?;
     let padding = &bytes[..ppk.padding_len()];
-    Ok(ppk.encrypt(alloc, &mut suite, PASS, CONFIG, salt, padding)?)
+    kept(ppk.encrypt(alloc, &mut *suite, PASS, CONFIG, salt, padding))
 }
 
 /// The generator gives this salt, and a padding from these bytes.
-fn draws(alloc: Global, ppk: &Ppk, salt: &[u8; 16], bytes: &[u8; 16]) -> Result<bool, Fail> {
-    let drawn = drawn_of(alloc, ppk)?;
-    Ok(sealed_with(alloc, ppk, salt, bytes)? == drawn)
-}
-
-fn draws_in(
+fn draws(
     alloc: Global,
     version: PpkVersion,
     salt: &[u8; 16],
     bytes: &[u8; 16],
 ) -> Result<bool, Fail> {
-    let ppk = ManuallyDrop::new(p256_ppk(alloc, version)?);
-    draws(alloc, &ppk, salt, bytes)
+    let ppk = p256_ppk(alloc, version)?;
+    let sealed = sealed_with(alloc, &ppk, salt, bytes)?;
+    let mut suite = kept(MemorySuite::new(alloc, &[]))?;
+    let mut rng = Pcg32::new(42, 54);
+    gives(
+        ppk.encrypt_with_rng(alloc, &mut *suite, PASS, CONFIG, &mut rng),
+        &*sealed,
+    )
 }
 
 // The first twelve bytes of FIRST, and then its last four: for whole blocks between them the generator isn't asked.
@@ -241,11 +217,11 @@ fn filled(alloc: Global, message: &[u8], rng: &mut Pcg32) -> Result<Bytes, SizeE
     make_padding(message, rng)
 }
 
-fn fills_blocks(alloc: Global) -> Result<bool, SizeError> {
+fn fills_blocks(alloc: Global) -> Result<bool, Fail> {
     let mut rng = Pcg32::new(42, 54);
-    let first = ManuallyDrop::new(filled(alloc, b"four", &mut rng)?);
-    let whole = ManuallyDrop::new(filled(alloc, SALT, &mut rng)?);
-    let next = ManuallyDrop::new(filled(alloc, b"twelve bytes", &mut rng)?);
+    let first = kept(filled(alloc, b"four", &mut rng))?;
+    let whole = kept(filled(alloc, SALT, &mut rng))?;
+    let next = kept(filled(alloc, b"twelve bytes", &mut rng))?;
     Ok(
         first.as_slice() == FILLED.as_slice()
             && whole.as_slice() == SALT
@@ -256,50 +232,50 @@ fn fills_blocks(alloc: Global) -> Result<bool, SizeError> {
 // Version 2 has no salt.
 #[test]
 fn draws_a_salt_and_then_a_padding(rt: HostRuntime) -> Result<(), Fail> {
-    assert!(rt; draws_in(rt.alloc(), PpkVersion::V3, FIRST, SECOND)?);
-    assert!(rt; draws_in(rt.alloc(), PpkVersion::V2, SECOND, FIRST)?);
+    assert!(rt; draws(rt.alloc(), PpkVersion::V3, FIRST, SECOND)?);
+    assert!(rt; draws(rt.alloc(), PpkVersion::V2, SECOND, FIRST)?);
     assert!(rt; fills_blocks(rt.alloc())?);
     Ok(())
+}
+
+/// The bytes are these in hex.
+fn is_hex(alloc: Global, bytes: &[u8], hex: &str) -> Result<bool, Fail> {
+    let text = kept(hex_of(alloc, bytes))?;
+    Ok(text.as_str() == hex)
 }
 
 // printf '\0\0\0\0pass' | sha1sum; printf '\0\0\0\1pass' | sha1sum; the first 64 digits of both together. With this key
 // `openssl enc -d -aes-256-cbc -nopad -K $key -iv 0` gives for SEALED_V2's private bytes those of the P-256 key.
 #[test]
 fn derives_the_key_of_puttygen_in_version_2(rt: HostRuntime) -> Result<(), Fail> {
-    let material = KeyMaterialV2::derive("pass");
-    let key = ManuallyDrop::new(hex_of(rt.alloc(), material.key())?);
-    assert_eq!(rt;
-        key.as_str(),
-        "a29e49726b1ebcf350e0d5af740ff41d2143228a4308cd1349407aca6755db79"
-    );
-    assert_eq!(rt; KeyMaterialV2::iv(), [0; 16]);
+    let material = ManuallyDrop::new(KeyMaterialV2::derive("pass"));
+    let wanted = "a29e49726b1ebcf350e0d5af740ff41d2143228a4308cd1349407aca6755db79";
+    assert!(rt; is_hex(rt.alloc(), material.key(), wanted)?);
+    assert!(rt; KeyMaterialV2::iv() == [0; 16]);
     Ok(())
 }
 
-fn material(alloc: Global) -> Result<KeyMaterialV3, Fail> {
-    let mut suite = MemorySuite::new(alloc, &[])?;
-    let params = ManuallyDrop::new(params(alloc, SALT)?);
-    Ok(KeyMaterialV3::derive(&mut suite, &params, PASS)?)
-}
-
-/// The three keys, one after another.
-fn in_hex(alloc: Global, material: &KeyMaterialV3) -> Result<String, Fail> {
-    let key = hex_of(alloc, material.key())?;
-    let iv = hex_of(alloc, material.iv())?;
-    let mac_key = hex_of(alloc, material.hmac_key())?;
-    Ok(format!(in alloc; "{key} {iv} {mac_key}")?)
-}
-
 // Of D in picky_key_rows::ppk_texts: D[:32].hex(), D[32:48].hex(), D[48:80].hex()
+const KEY: &str = "506a4b2573d1c741c0ce4c93734f6a225ea38d53097044fb95e702a25e550562";
+
+const IV: &str = "bae6cc3eb5b515c9d85b84d4fde59cd2";
+
+const MAC_KEY: &str = "d73fe4b3caa3ab43d0f2dadb6622cd59c146a513b91ec4542b7af1c81de0760a";
+
+/// The three keys are these.
+fn cuts_keys(alloc: Global) -> Result<bool, Fail> {
+    let mut suite = kept(MemorySuite::new(alloc, &[]))?;
+    let params = kept(params(alloc, SALT))?;
+    let material = kept(KeyMaterialV3::derive(&mut *suite, &params, PASS))?;
+    Ok(
+        is_hex(alloc, material.key(), KEY)?
+            && is_hex(alloc, material.iv(), IV)?
+            && is_hex(alloc, material.hmac_key(), MAC_KEY)?,
+    )
+}
+
 #[test]
 fn cuts_the_keys_of_version_3(rt: HostRuntime) -> Result<(), Fail> {
-    let material = ManuallyDrop::new(material(rt.alloc())?);
-    let keys = ManuallyDrop::new(in_hex(rt.alloc(), &material)?);
-    assert_eq!(rt;
-        keys.as_str(),
-        "506a4b2573d1c741c0ce4c93734f6a225ea38d53097044fb95e702a25e550562 \
-         bae6cc3eb5b515c9d85b84d4fde59cd2 \
-         d73fe4b3caa3ab43d0f2dadb6622cd59c146a513b91ec4542b7af1c81de0760a"
-    );
+    assert!(rt; cuts_keys(rt.alloc())?);
     Ok(())
 }

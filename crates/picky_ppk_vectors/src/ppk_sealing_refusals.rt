@@ -1,38 +1,26 @@
 //! Why PuTTY's private key files aren't sealed or opened, and what a sealed one doesn't give: of two faults the one that
 //! is tried first, and whether the suite was asked.
 
+use crate::answers::{kept, refuses};
 use crate::ppk_files::{p256_ppk, ppk_of};
-use crate::ppk_refusals::named;
+use crate::ppk_refusals::is_named;
 use crate::ppk_sealed::{PADDING, SALT};
 use picky_key_rows::{CONFIG, PASS, SEALED_V2, SEALED_V3, TOY_V2, TOY_V3};
 use picky_ppk::{Ppk, PpkEncryptionConfig, PpkVersion, PuttyError};
 use picky_suite::{MemorySuite, PlainSuite};
 use rand_pcg::Pcg32;
-use std::alloc::Global;
+use std::alloc::{AllocError, Global};
 use std::mem::ManuallyDrop;
 use std::test::Fail;
 
 /// A file that is sealed doesn't give its key, and isn't changed.
 fn is_closed(alloc: Global, ppk: &Ppk) -> bool {
-    let encrypted = Some(PuttyError::Encrypted);
-    ppk.private_key(alloc).err() == encrypted
-        && ppk.to_openssh_private_key(alloc, None, &[0; 16]).err() == encrypted
-}
-
-fn is_unchanged(alloc: Global, ppk: &Ppk) -> bool {
     let suite = PlainSuite::new();
-    let encrypted = Some(PuttyError::Encrypted);
-    ppk.with_comment(alloc, &suite, "another").err() == encrypted
-        && ppk.to_version(alloc, &suite, ppk.version()).err() == encrypted
-}
-
-/// Nor is it sealed again, whatever the suite and the numbers are.
-fn is_unsealable(alloc: Global, ppk: &Ppk) -> bool {
-    let mut suite = PlainSuite::new();
-    let encrypted = Some(PuttyError::AlreadyEncrypted);
-    resealed(alloc, &mut suite, ppk).err() == encrypted
-        && resealed_by_rng(alloc, &mut suite, ppk).err() == encrypted
-        && suite == PlainSuite::new()
+    let wanted = ManuallyDrop::new(PuttyError::Encrypted);
+    refuses(ppk.private_key(alloc), &*wanted)
+        && refuses(ppk.to_openssh_private_key(alloc, None, &[0; 16]), &*wanted)
+        && refuses(ppk.with_comment(alloc, &suite, "another"), &*wanted)
+        && refuses(ppk.to_version(alloc, &suite, ppk.version()), &*wanted)
 }
 
 /// Numbers with which Argon2 can't be run.
@@ -51,10 +39,19 @@ fn resealed_by_rng(alloc: Global, suite: &mut PlainSuite, ppk: &Ppk) -> Result<P
     ppk.encrypt_with_rng(alloc, suite, PASS, NO_MEMORY, &mut rng)
 }
 
-/// So it is with the text's file.
+/// The file isn't sealed for this reason, whatever the suite and the numbers are, and no suite is asked.
+fn is_unsealable(alloc: Global, ppk: &Ppk, wanted: PuttyError) -> bool {
+    let wanted = ManuallyDrop::new(wanted);
+    let mut suite = PlainSuite::new();
+    refuses(resealed(alloc, &mut suite, ppk), &*wanted)
+        && refuses(resealed_by_rng(alloc, &mut suite, ppk), &*wanted)
+        && suite == PlainSuite::new()
+}
+
+/// So it is with the text's file, which isn't sealed again.
 fn keeps(alloc: Global, text: &str) -> Result<bool, Fail> {
-    let ppk = ManuallyDrop::new(ppk_of(alloc, text)?);
-    Ok(is_closed(alloc, &ppk) && is_unchanged(alloc, &ppk) && is_unsealable(alloc, &ppk))
+    let ppk = kept(ppk_of(alloc, text))?;
+    Ok(is_closed(alloc, &ppk) && is_unsealable(alloc, &ppk, PuttyError::AlreadyEncrypted))
 }
 
 #[test]
@@ -146,57 +143,49 @@ static SEALED_ROWS: [SealedRow; 7] = [
 ];
 
 /// The row's file.
-fn sealed_text(alloc: Global, row: &SealedRow) -> Result<String, Fail> {
+fn sealed_text(alloc: Global, row: &SealedRow) -> Result<String, AllocError> {
     let text = ManuallyDrop::new(TOY_V3.replace(alloc, "Memory: 8", row.memory)?);
     let text = ManuallyDrop::new(text.replace(alloc, WHOLE, row.private)?);
-    Ok(text.replace(alloc, MAC, row.mac)?)
+    text.replace(alloc, MAC, row.mac)
 }
 
-fn row_sealed(alloc: Global, row: &SealedRow) -> Result<Ppk, Fail> {
-    let text = ManuallyDrop::new(sealed_text(alloc, row)?);
-    Ok(ppk_of(alloc, text.as_str())?)
+/// For this the file isn't opened by the suite for tests.
+fn is_held_by_memory(alloc: Global, ppk: &Ppk, pass: &str, wanted: &str) -> Result<bool, Fail> {
+    let mut suite = kept(MemorySuite::new(alloc, &[]))?;
+    is_named(alloc, ppk.decrypt(alloc, &mut *suite, pass), wanted)
 }
 
-/// Why the file isn't opened by the suite for tests.
-fn memory_refusal(alloc: Global, ppk: &Ppk, pass: &str) -> Result<String, Fail> {
-    let mut suite = MemorySuite::new(alloc, &[])?;
-    named(alloc, ppk.decrypt(alloc, &mut suite, pass))
-}
-
-/// Why it isn't opened by a suite that has no call.
-fn plain_refusal(alloc: Global, ppk: &Ppk) -> Result<String, Fail> {
+/// For this it isn't opened by a suite that has no call.
+fn is_held_by_plain(alloc: Global, ppk: &Ppk, wanted: &str) -> Result<bool, Fail> {
     let mut suite = PlainSuite::new();
-    named(alloc, ppk.decrypt(alloc, &mut suite, PASS))
+    is_named(alloc, ppk.decrypt(alloc, &mut suite, PASS), wanted)
 }
 
-fn sealed_refusal(alloc: Global, row: &SealedRow) -> Result<String, Fail> {
-    let ppk = ManuallyDrop::new(row_sealed(alloc, row)?);
+/// The row's file isn't opened for what the row says, and is opened where it says nothing.
+fn is_row_held(alloc: Global, row: &SealedRow) -> Result<bool, Fail> {
+    let text = kept(sealed_text(alloc, row))?;
+    let ppk = kept(ppk_of(alloc, text.as_str()))?;
     if row.is_plain {
-        plain_refusal(alloc, &ppk)
+        is_held_by_plain(alloc, &ppk, row.wanted)
     } else {
-        memory_refusal(alloc, &ppk, PASS)
+        is_held_by_memory(alloc, &ppk, PASS, row.wanted)
     }
 }
 
 #[test]
 fn refuses_to_open_in_order(rt: HostRuntime) -> Result<(), Fail> {
     for row in &SEALED_ROWS {
-        let why = ManuallyDrop::new(sealed_refusal(rt.alloc(), row)?);
-        assert_eq!(rt; why.as_str(), row.wanted, "{}", row.name);
+        assert!(rt; is_row_held(rt.alloc(), row)?, "{}", row.name);
     }
     Ok(())
 }
 
 /// The text's file isn't opened under another passphrase, nor by a suite that fails.
 fn is_held(alloc: Global, text: &str) -> Result<bool, Fail> {
-    let ppk = ManuallyDrop::new(ppk_of(alloc, text)?);
-    stays_sealed(alloc, &ppk)
-}
-
-fn stays_sealed(alloc: Global, ppk: &Ppk) -> Result<bool, Fail> {
+    let ppk = kept(ppk_of(alloc, text))?;
     Ok(
-        memory_refusal(alloc, ppk, "Password")?.as_str() == "MacValidation"
-            && plain_refusal(alloc, ppk)?.as_str() == "SuiteFault",
+        is_held_by_memory(alloc, &ppk, "Password", "MacValidation")?
+            && is_held_by_plain(alloc, &ppk, "SuiteFault")?,
     )
 }
 
@@ -210,32 +199,29 @@ fn opens_under_the_passphrase_alone(rt: HostRuntime) -> Result<(), Fail> {
 /// An open file, whose 36 private bytes are no whole blocks, isn't opened, and no suite is asked.
 fn is_open(alloc: Global, ppk: &Ppk) -> bool {
     let mut suite = PlainSuite::new();
-    let why = ppk.decrypt(alloc, &mut suite, PASS).err();
-    why == Some(PuttyError::AlreadyDecrypted) && suite == PlainSuite::new()
+    let wanted = ManuallyDrop::new(PuttyError::AlreadyDecrypted);
+    refuses(ppk.decrypt(alloc, &mut suite, PASS), &*wanted) && suite == PlainSuite::new()
 }
 
-/// It isn't sealed where Argon2 can't be run, and no suite is asked.
-fn is_unsealed(alloc: Global, ppk: &Ppk) -> bool {
-    let mut suite = PlainSuite::new();
-    let argon2 = Some(PuttyError::Argon2);
-    resealed(alloc, &mut suite, ppk).err() == argon2
-        && resealed_by_rng(alloc, &mut suite, ppk).err() == argon2
-        && suite == PlainSuite::new()
-}
-
-/// Nor by a suite that fails.
+/// It isn't sealed by a suite that fails.
 fn is_faulty(alloc: Global, ppk: &Ppk) -> bool {
     let mut suite = PlainSuite::new();
+    let wanted = ManuallyDrop::new(PuttyError::SuiteFault);
     let padding = &PADDING[..ppk.padding_len()];
-    let why = ppk
-        .encrypt(alloc, &mut suite, PASS, CONFIG, SALT, padding)
-        .err();
-    why == Some(PuttyError::SuiteFault)
+    refuses(
+        ppk.encrypt(alloc, &mut suite, PASS, CONFIG, SALT, padding),
+        &*wanted,
+    )
 }
 
+/// Nor where Argon2 can't be run.
 fn stays_open(alloc: Global) -> Result<bool, Fail> {
-    let ppk = ManuallyDrop::new(p256_ppk(alloc, PpkVersion::V3)?);
-    Ok(is_open(alloc, &ppk) && is_unsealed(alloc, &ppk) && is_faulty(alloc, &ppk))
+    let ppk = p256_ppk(alloc, PpkVersion::V3)?;
+    Ok(
+        is_open(alloc, &ppk)
+            && is_unsealable(alloc, &ppk, PuttyError::Argon2)
+            && is_faulty(alloc, &ppk),
+    )
 }
 
 #[test]

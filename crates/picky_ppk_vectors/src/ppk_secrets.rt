@@ -1,6 +1,7 @@
 //! Ed25519 secrets in PuTTY's private key files, which are numbers there: without their leading zeros, with a zero before a
 //! first byte of 128 or more, and as the 32 bytes that PuTTY writes.
 
+use crate::answers::{kept, refuses};
 use crate::ppk_files::{gives_back, is_kept, is_made_in, is_written_in, ppk_of};
 use picky_key_rows::{HIGH, LOW, SECRET_ROWS, SecretRow, ZERO_TEXT, ZEROS, secret_text_of};
 use picky_ppk::{PpkVersion, PuttyError};
@@ -42,38 +43,31 @@ static OTHER_SPELLINGS: [SecretRow; 4] = [
 ];
 
 /// The key of a secret, with 32 zero public bytes.
-pub fn key_of(alloc: Global, secret: [u8; 32]) -> Result<SshPrivateKey, Fail> {
+fn key_of(alloc: Global, secret: [u8; 32]) -> Result<ManuallyDrop<SshPrivateKey>, Fail> {
     let base = SshBasePrivateKey::Ed {
         secret,
         public: [0; 32],
     };
-    Ok(SshPrivateKey::from_base(alloc, base, None, "hello", &[0; 16])?)
+    kept(SshPrivateKey::from_base(alloc, base, None, "hello", &[0; 16]))
+}
+
+/// The secret's key makes the file in the version.
+fn makes(alloc: Global, secret: [u8; 32], version: PpkVersion, text: &str) -> Result<bool, Fail> {
+    let key = key_of(alloc, secret)?;
+    is_made_in(alloc, &key, version, text)
 }
 
 /// The row's key makes its file in the version.
 fn is_row_made(alloc: Global, row: &SecretRow, version: PpkVersion) -> Result<bool, Fail> {
-    let text = ManuallyDrop::new(secret_text_of(alloc, row, version)?);
+    let text = kept(secret_text_of(alloc, row, version))?;
     makes(alloc, row.secret, version, text.as_str())
-}
-
-fn makes(alloc: Global, secret: [u8; 32], version: PpkVersion, text: &str) -> Result<bool, Fail> {
-    let key = ManuallyDrop::new(key_of(alloc, secret)?);
-    is_made_in(alloc, &key, version, text)
 }
 
 /// The row's file in the version says its key.
 fn says_key(alloc: Global, row: &SecretRow, version: PpkVersion) -> Result<bool, Fail> {
-    let text = ManuallyDrop::new(secret_text_of(alloc, row, version)?);
-    is_said(alloc, row.secret, text.as_str())
-}
-
-fn is_said(alloc: Global, secret: [u8; 32], text: &str) -> Result<bool, Fail> {
-    Ok(is_kept(alloc, text)? && is_given(alloc, secret, text)?)
-}
-
-fn is_given(alloc: Global, secret: [u8; 32], text: &str) -> Result<bool, Fail> {
-    let key = ManuallyDrop::new(key_of(alloc, secret)?);
-    gives_back(alloc, text, &key)
+    let text = kept(secret_text_of(alloc, row, version))?;
+    let key = key_of(alloc, row.secret)?;
+    Ok(is_kept(alloc, text.as_str())? && gives_back(alloc, text.as_str(), &key)?)
 }
 
 #[test]
@@ -104,23 +98,16 @@ fn reads_a_secret_as_a_number(rt: HostRuntime) -> Result<(), Fail> {
 
 /// The secret of one zero byte is under another MAC.
 fn is_told(alloc: Global) -> Result<bool, Fail> {
-    let text = ManuallyDrop::new(ZERO_TEXT.replace(alloc, "AAAAAA==", "AAAAAQA=")?);
-    Ok(ppk_of(alloc, text.as_str()).err() == Some(PuttyError::MacValidation))
+    let text = kept(ZERO_TEXT.replace(alloc, "AAAAAA==", "AAAAAQA="))?;
+    let wanted = ManuallyDrop::new(PuttyError::MacValidation);
+    Ok(refuses(ppk_of(alloc, text.as_str()), &*wanted))
 }
 
 /// The file of the text in version 2 is written as the text of the first row, which is read again.
 fn is_changed(alloc: Global) -> Result<bool, Fail> {
-    let text = ManuallyDrop::new(secret_text_of(alloc, &SECRET_ROWS[0], PpkVersion::V2)?);
-    is_zero_in_version_2(alloc, text.as_str())
-}
-
-fn is_zero_in_version_2(alloc: Global, text: &str) -> Result<bool, Fail> {
-    Ok(is_changed_to(alloc, text)? && is_kept(alloc, text)?)
-}
-
-fn is_changed_to(alloc: Global, text: &str) -> Result<bool, Fail> {
-    let ppk = ManuallyDrop::new(ppk_of(alloc, ZERO_TEXT)?);
-    is_written_in(alloc, &ppk, PpkVersion::V2, text)
+    let text = kept(secret_text_of(alloc, &SECRET_ROWS[0], PpkVersion::V2))?;
+    let ppk = kept(ppk_of(alloc, ZERO_TEXT))?;
+    Ok(is_written_in(alloc, &ppk, PpkVersion::V2, text.as_str())? && is_kept(alloc, text.as_str())?)
 }
 
 #[test]

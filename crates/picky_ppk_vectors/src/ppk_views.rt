@@ -1,13 +1,13 @@
 //! What is seen of a PuTTY private key file that isn't sealed: its fields, its public key, copies, and which are equal.
 
+use crate::answers::{gives, kept};
 use crate::ppk_files::{p256_ppk, ppk_of, row_ppk};
 use crate::putty_public::shown;
 use picky_key_rows::{PPK_ROWS, PRIVATE_ROWS, PpkRow, SEALED_V3, VERSIONS};
-use picky_ppk::{Ppk, PpkVersion, PuttyError};
+use picky_ppk::{Ppk, PpkVersion};
 use picky_sshpub::SshPublicKey;
 use picky_wire::TryClone;
 use std::alloc::Global;
-use std::mem::ManuallyDrop;
 use std::test::Fail;
 
 /// The file has the row's fields in the version.
@@ -22,31 +22,20 @@ fn has_fields(ppk: &Ppk, row: &PpkRow, version: PpkVersion) -> bool {
 
 /// The file has the public key of the line.
 fn has_public(alloc: Global, ppk: &Ppk, line: &str) -> Result<bool, Fail> {
-    let key = ManuallyDrop::new(SshPublicKey::from_str(alloc, line)?);
-    Ok(is_public(alloc, ppk, &key)? && is_extracted(alloc, ppk, &key)?)
+    let key = kept(SshPublicKey::from_str(alloc, line))?;
+    let inner = kept(ppk.public_key(alloc))?;
+    let public = kept(ppk.extract_putty_public_key(alloc))?;
+    Ok(shown(&inner) == key.inner_key() && gives(public.to_openssh(alloc), &*key)?)
 }
 
-fn is_public(alloc: Global, ppk: &Ppk, key: &SshPublicKey) -> Result<bool, PuttyError> {
-    Ok(shown(&ppk.public_key(alloc)?) == key.inner_key())
-}
-
-fn is_extracted(alloc: Global, ppk: &Ppk, key: &SshPublicKey) -> Result<bool, PuttyError> {
-    let public = ManuallyDrop::new(ppk.extract_putty_public_key(alloc)?);
-    Ok(public.to_openssh(alloc)? == *key)
-}
-
-/// The file is equal to its copy.
-pub fn is_copied(alloc: Global, ppk: &Ppk) -> Result<bool, Fail> {
-    Ok(ppk.try_clone(alloc)? == *ppk)
-}
-
+/// The row's file shows the row, and is equal to its copy.
 fn shows_row(alloc: Global, row: &PpkRow, version: PpkVersion, line: &str) -> Result<bool, Fail> {
-    let ppk = ManuallyDrop::new(row_ppk(alloc, row, version)?);
-    Ok(has_fields(&ppk, row, version) && has_parts(alloc, &ppk, line)?)
-}
-
-fn has_parts(alloc: Global, ppk: &Ppk, line: &str) -> Result<bool, Fail> {
-    Ok(has_public(alloc, ppk, line)? && is_copied(alloc, ppk)?)
+    let ppk = row_ppk(alloc, row, version)?;
+    Ok(
+        has_fields(&ppk, row, version)
+            && has_public(alloc, &ppk, line)?
+            && gives(ppk.try_clone(alloc), &*ppk)?,
+    )
 }
 
 #[test]
@@ -64,14 +53,12 @@ fn shows_the_fields_of_a_file(rt: HostRuntime) -> Result<(), Fail> {
     Ok(())
 }
 
-/// It is neither the file of the other version nor the sealed one.
-fn is_apart(alloc: Global, ppk: &Ppk) -> Result<bool, Fail> {
-    Ok(p256_ppk(alloc, PpkVersion::V2)? != *ppk && ppk_of(alloc, SEALED_V3)? != *ppk)
-}
-
+/// The file is neither that of the other version nor the sealed one.
 fn are_apart(alloc: Global) -> Result<bool, Fail> {
-    let ppk = ManuallyDrop::new(p256_ppk(alloc, PpkVersion::V3)?);
-    is_apart(alloc, &ppk)
+    let ppk = p256_ppk(alloc, PpkVersion::V3)?;
+    let other = p256_ppk(alloc, PpkVersion::V2)?;
+    let sealed = kept(ppk_of(alloc, SEALED_V3))?;
+    Ok(*other != *ppk && *sealed != *ppk)
 }
 
 #[test]

@@ -1,6 +1,7 @@
 //! The comment lines of PuTTY's public keys.
 
-use crate::putty_public::{ED25519, is_written, key_with, text_with};
+use crate::answers::{is_text, kept, refuses};
+use crate::putty_public::{ED25519, commented, text_with};
 use picky_putty_public::{PuttyError, PuttyPublicKey};
 use std::alloc::Global;
 use std::mem::ManuallyDrop;
@@ -28,22 +29,19 @@ static READ_COMMENTS: [(&str, &str, &str); 5] = [
     ("a backslash before a letter", r#"a\b"#, r#"Comment: "a\b""#),
 ];
 
-/// The key, whose comment is this.
-fn commented(alloc: Global, comment: &str) -> Result<PuttyPublicKey, Fail> {
-    Ok(key_with(alloc, ED25519)?.with_comment(alloc, comment)?)
-}
-
 /// The row's line says its comment.
 fn is_read(alloc: Global, comment: &str, line: &str) -> Result<bool, Fail> {
-    let text = text_with(alloc, line, ED25519)?;
-    let key = PuttyPublicKey::from_str(alloc, text.as_str())?;
-    Ok(key.comment() == comment && key == commented(alloc, comment)?)
+    let text = kept(text_with(alloc, line, ED25519))?;
+    let key = kept(PuttyPublicKey::from_str(alloc, text.as_str()))?;
+    let wanted = commented(alloc, ED25519, comment)?;
+    Ok(key.comment() == comment && *key == *wanted)
 }
 
 /// The row's line is written for its comment.
 fn is_quoted(alloc: Global, comment: &str, line: &str) -> Result<bool, Fail> {
-    let text = ManuallyDrop::new(text_with(alloc, line, ED25519)?);
-    Ok(is_written(alloc, &commented(alloc, comment)?, text.as_str())?)
+    let text = kept(text_with(alloc, line, ED25519))?;
+    let key = commented(alloc, ED25519, comment)?;
+    is_text(key.to_string(alloc), text.as_str())
 }
 
 #[test]
@@ -67,8 +65,9 @@ fn reads_what_stands_between_the_first_and_the_last_quote(rt: HostRuntime) -> Re
 fn does_not_read_back_a_comment_with_lf(rt: HostRuntime) -> Result<(), Fail> {
     let line = "Comment: \"two\nlines\"";
     assert!(rt; is_quoted(rt.alloc(), "two\nlines", line)?);
-    let text = ManuallyDrop::new(text_with(rt.alloc(), line, ED25519)?);
-    let refused = PuttyPublicKey::from_str(rt.alloc(), text.as_str()).err();
-    assert_eq!(rt; refused, Some(PuttyError::InvalidPublicKeyComment));
+    let text = kept(text_with(rt.alloc(), line, ED25519))?;
+    let wanted = ManuallyDrop::new(PuttyError::InvalidPublicKeyComment);
+    let read = PuttyPublicKey::from_str(rt.alloc(), text.as_str());
+    assert!(rt; refuses(read, &*wanted));
     Ok(())
 }

@@ -1,10 +1,11 @@
 //! Why a PuTTY public key's text, or the blob that it holds, is refused.
 
+use crate::answers::{kept, refuses};
 use crate::putty_public::{key_with, spelled};
 use picky_putty_public::{PuttyError, PuttyPublicKey};
 use picky_sshpub::SshPublicKeyError;
 use picky_wire::IoKind;
-use std::alloc::AllocGlobal;
+use std::alloc::{AllocGlobal, Global};
 use std::mem::ManuallyDrop;
 use std::process::Abort;
 use std::test::Fail;
@@ -41,32 +42,34 @@ static OTHER_ROWS: [(&str, &str); 3] = [
     ("a space at the end", "BEGIN\nME\nAAAA \nEND\n"),
 ];
 
+fn is_refused(alloc: Global, short: &str, why: &PuttyError) -> Result<bool, Fail> {
+    let text = kept(spelled(alloc, short))?;
+    Ok(refuses(PuttyPublicKey::from_str(alloc, text.as_str()), why))
+}
+
 /// Each row's text is refused for this.
-fn refuses(
+fn are_refused(
     rt: &(impl Abort + AllocGlobal),
     rows: &[(&str, &str)],
-    why: &PuttyError,
+    why: PuttyError,
 ) -> Result<(), Fail> {
+    let why = ManuallyDrop::new(why);
     for (name, short) in rows {
-        let text = ManuallyDrop::new(spelled(rt.alloc(), *short)?);
-        match PuttyPublicKey::from_str(rt.alloc(), text.as_str()) {
-            Ok(_) => assert!(rt; false, "{name}"),
-            Err(e) => assert!(rt; e == *why, "{name}"),
-        }
+        assert!(rt; is_refused(rt.alloc(), *short, &why)?, "{name}");
     }
     Ok(())
 }
 
 #[test]
 fn refuses_texts_in_order(rt: HostRuntime) -> Result<(), Fail> {
-    refuses(&rt, &OTHER_HEADERS, &PuttyError::InvalidPublicKeyContainer)?;
-    refuses(
+    are_refused(&rt, &OTHER_HEADERS, PuttyError::InvalidPublicKeyContainer)?;
+    are_refused(
         &rt,
         &OTHER_COMMENT_LINES,
-        &PuttyError::InvalidPublicKeyComment,
+        PuttyError::InvalidPublicKeyComment,
     )?;
-    refuses(&rt, &CUT_TEXTS, &PuttyError::EndOfInput)?;
-    refuses(&rt, &OTHER_ROWS, &PuttyError::InvalidPublicKeyData)
+    are_refused(&rt, &CUT_TEXTS, PuttyError::EndOfInput)?;
+    are_refused(&rt, &OTHER_ROWS, PuttyError::InvalidPublicKeyData)
 }
 
 // RFC 4251, section 5, has strings, and RFC 8709, section 4, the 32 bytes: printf BLOB | base64 -w0.
@@ -103,20 +106,21 @@ static REFUSED_BLOBS: [(&str, &str, SshPublicKeyError); 6] = [
     ),
 ];
 
-/// The error wraps this one.
-fn wraps(error: Option<PuttyError>, wanted: &SshPublicKeyError) -> bool {
-    match error {
-        Some(PuttyError::SshPublicKey(why)) => why == *wanted,
-        Some(_) | None => false,
+/// The answer's error wraps this one.
+fn wraps<T: Drop>(answer: Result<T, PuttyError>, wanted: &SshPublicKeyError) -> bool {
+    let answer = ManuallyDrop::new(answer);
+    match &*answer {
+        Err(PuttyError::SshPublicKey(why)) => *why == *wanted,
+        Ok(_) | Err(_) => false,
     }
 }
 
 #[test]
 fn refuses_blobs_for_their_reason(rt: HostRuntime) -> Result<(), Fail> {
     for (name, rows, why) in &REFUSED_BLOBS {
-        let key = ManuallyDrop::new(key_with(rt.alloc(), *rows)?);
-        assert!(rt; wraps(key.to_openssh(rt.alloc()).err(), why), "{name}");
-        assert!(rt; wraps(key.to_inner_key(rt.alloc()).err(), why), "{name}");
+        let key = key_with(rt.alloc(), *rows)?;
+        assert!(rt; wraps(key.to_openssh(rt.alloc()), why), "{name}");
+        assert!(rt; wraps(key.to_inner_key(rt.alloc()), why), "{name}");
     }
     Ok(())
 }
