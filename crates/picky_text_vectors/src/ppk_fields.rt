@@ -16,7 +16,7 @@ use std::process::Abort;
 use std::test::Fail;
 
 fn with_letter_changed(alloc: Global, text: &str, at: usize) -> Result<String, AllocError> {
-    let mut changed = String::new(alloc);
+    let mut changed = ManuallyDrop::new(String::new(alloc));
     for (i, c) in text.chars().enumerate() {
         let other = if c.is_ascii_lowercase() {
             c.to_ascii_uppercase()
@@ -31,7 +31,7 @@ fn with_letter_changed(alloc: Global, text: &str, at: usize) -> Result<String, A
             other
         })?;
     }
-    Ok(changed)
+    Ok(ManuallyDrop::into_inner(changed))
 }
 
 /// The refusal of this text where others were expected.
@@ -40,9 +40,20 @@ pub fn parsing_error(
     expected: &str,
     actual: &str,
 ) -> Result<PpkValueParsingError, SizeError> {
-    let expected = Text::new(alloc, expected)?;
+    let expected = ManuallyDrop::new(Text::new(alloc, expected)?);
     let actual = Text::new(alloc, actual)?;
-    Ok(PpkValueParsingError { expected, actual })
+    Ok(PpkValueParsingError {
+        expected: ManuallyDrop::into_inner(expected),
+        actual,
+    })
+}
+
+/// The text is refused where others were expected.
+fn refuses<T: PpkField>(alloc: Global, expected: &str, text: &str) -> Result<bool, SizeError> {
+    let wanted = parsing_error(alloc, expected, text)?;
+    let wanted = ManuallyDrop::new(Some(PpkValueError::Parsing(wanted)));
+    let refused = ManuallyDrop::new(T::read(alloc, text).err());
+    Ok(*refused == *wanted)
 }
 
 /// A text in which a letter has the other case, or another character stands, is refused.
@@ -52,23 +63,23 @@ fn refuses_changes<T: PpkField>(
     literal: &str,
 ) -> Result<(), Fail> {
     for at in 0..literal.len() {
-        let changed = with_letter_changed(rt.alloc(), literal, at)?;
-        let wanted = PpkValueError::Parsing(parsing_error(rt.alloc(), expected, changed.as_str())?);
-        let refused = T::read(rt.alloc(), changed.as_str()).err();
-        assert_eq!(rt; refused, Some(wanted), "{changed}");
+        let changed = ManuallyDrop::new(with_letter_changed(rt.alloc(), literal, at)?);
+        let changed = changed.as_str();
+        assert!(rt; refuses::<T>(rt.alloc(), expected, changed)?, "{changed}");
     }
     Ok(())
 }
 
+/// The value is written as the text.
+fn is_written<T: PpkField>(alloc: Global, value: &T, text: &str) -> Result<bool, SizeError> {
+    let written = ManuallyDrop::new(value.write(alloc)?);
+    Ok(written.as_str() == text)
+}
+
 /// The literal is read as a value that has it, and that is written as it.
-fn spells_literal<T: PpkField + PpkLiteral>(
-    rt: &(impl Abort + AllocGlobal),
-    literal: &str,
-) -> Result<(), Fail> {
-    let value = ManuallyDrop::new(T::read(rt.alloc(), literal)?);
-    assert_eq!(rt; value.as_static_str(), literal);
-    assert_eq!(rt; value.write(rt.alloc())?.as_str(), literal);
-    Ok(())
+fn spells_literal<T: PpkField + PpkLiteral>(alloc: Global, literal: &str) -> Result<bool, Fail> {
+    let value = ManuallyDrop::new(T::read(alloc, literal)?);
+    Ok(value.as_static_str() == literal && is_written(alloc, &*value, literal)?)
 }
 
 fn reads_literals<T: PpkField + PpkLiteral>(
@@ -77,9 +88,9 @@ fn reads_literals<T: PpkField + PpkLiteral>(
     expected: &str,
     literals: &[&str],
 ) -> Result<(), Fail> {
-    assert_eq!(rt; T::context(), name);
+    assert!(rt; T::context() == name, "{name}");
     for literal in literals {
-        spells_literal::<T>(rt, literal)?;
+        assert!(rt; spells_literal::<T>(rt.alloc(), literal)?, "{literal}");
         refuses_changes::<T>(rt, expected, literal)?;
     }
     Ok(())
@@ -116,8 +127,9 @@ fn reads_key<T: PpkField + PpkSingle + Default + PartialEq>(
     name: &str,
     literal: &str,
 ) -> Result<(), Fail> {
-    let (default, single) = (T::default(), T::single());
-    assert!(rt; default == single, "{name}");
+    let default = ManuallyDrop::new(T::default());
+    let single = ManuallyDrop::new(T::single());
+    assert!(rt; *default == *single, "{name}");
     reads_literals::<T>(rt, name, literal, &[literal])
 }
 
@@ -141,9 +153,10 @@ fn spells<T: PpkField + PartialEq>(
     text: &str,
     value: T,
 ) -> Result<(), Fail> {
-    let read = T::read(rt.alloc(), text)?;
-    assert!(rt; read == value, "{text}");
-    assert_eq!(rt; value.write(rt.alloc())?.as_str(), text);
+    let value = ManuallyDrop::new(value);
+    let read = ManuallyDrop::new(T::read(rt.alloc(), text)?);
+    assert!(rt; *read == *value, "{text}");
+    assert!(rt; is_written(rt.alloc(), &*value, text)?, "{text}");
     Ok(())
 }
 
@@ -164,8 +177,6 @@ fn reads_and_writes_each_value(rt: HostRuntime) -> Result<(), Fail> {
 
 #[test]
 fn says_what_was_expected_of_a_number(rt: HostRuntime) -> Result<(), Fail> {
-    let wanted = parsing_error(rt.alloc(), "<valid u32 value>", "x")?;
-    let refused = PpkArgon2PassesValue::read(rt.alloc(), "x").err();
-    assert_eq!(rt; refused, Some(PpkValueError::Parsing(wanted)));
+    assert!(rt; refuses::<PpkArgon2PassesValue>(rt.alloc(), "<valid u32 value>", "x")?);
     Ok(())
 }

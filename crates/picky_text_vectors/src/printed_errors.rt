@@ -23,14 +23,36 @@ pub fn prints<E: Display>(
 ) -> Result<(), AllocError> {
     for (error, name) in rows {
         let text = ManuallyDrop::new(format!(in rt.alloc(); "{error}")?);
-        assert_eq!(rt; text.as_str(), *name, "{name}");
+        assert!(rt; text.as_str() == *name, "{name}");
     }
     Ok(())
+}
+
+/// The error prints its name.
+pub fn prints_one<E: Display + Drop>(
+    rt: &(impl Abort + AllocGlobal),
+    error: E,
+    name: &str,
+) -> Result<(), AllocError> {
+    let rows = ManuallyDrop::new([(error, name)]);
+    prints(rt, rows.as_slice())
 }
 
 /// A text of no name.
 pub fn some_text(alloc: Global) -> Result<Text, Fail> {
     Ok(Text::new(alloc, "ssh-dss")?)
+}
+
+/// Three of them.
+fn three_texts(alloc: Global) -> Result<[Text; 3], Fail> {
+    let one = ManuallyDrop::new(some_text(alloc)?);
+    let two = ManuallyDrop::new(some_text(alloc)?);
+    let three = some_text(alloc)?;
+    Ok([
+        ManuallyDrop::into_inner(one),
+        ManuallyDrop::into_inner(two),
+        three,
+    ])
 }
 
 #[test]
@@ -110,58 +132,54 @@ fn prints_the_errors_of_ppk_blocks(rt: HostRuntime) -> Result<(), Fail> {
 
 #[test]
 fn prints_the_errors_of_private_keys(rt: HostRuntime) -> Result<(), Fail> {
-    prints(
+    prints_one(
         &rt,
-        &[
-            (
-                SshPrivateKeyError::UnsupportedKeyType(some_text(rt.alloc())?),
-                "UnsupportedKeyType",
-            ),
-            (
-                SshPrivateKeyError::UnsupportedCipher(some_text(rt.alloc())?),
-                "UnsupportedCipher",
-            ),
-            (
-                SshPrivateKeyError::UnsupportedKdf(some_text(rt.alloc())?),
-                "UnsupportedKdf",
-            ),
-        ],
+        SshPrivateKeyError::UnsupportedKeyType(some_text(rt.alloc())?),
+        "UnsupportedKeyType",
     )?;
-    prints(
+    prints_one(
         &rt,
-        &[
-            (SshPrivateKeyError::FromUtf8Error, "FromUtf8Error"),
-            (
-                SshPrivateKeyError::IoError(IoKind::UnexpectedEnd),
-                "IoError",
-            ),
-            (
-                SshPrivateKeyError::InvalidAuthMagicHeader,
-                "InvalidAuthMagicHeader",
-            ),
-            (
-                SshPrivateKeyError::InvalidKeysAmount(2),
-                "InvalidKeysAmount",
-            ),
-            (
-                SshPrivateKeyError::InvalidCheckNumbers(1, 2),
-                "InvalidCheckNumbers",
-            ),
-            (SshPrivateKeyError::InvalidKeyFormat, "InvalidKeyFormat"),
-            (SshPrivateKeyError::DecryptionError, "DecryptionError"),
-            (SshPrivateKeyError::HashingError, "HashingError"),
-            (SshPrivateKeyError::MissingPassphrase, "MissingPassphrase"),
-            (SshPrivateKeyError::KeyError, "KeyError"),
-            (
-                SshPrivateKeyError::PemError(PemError::BadBase64),
-                "PemError",
-            ),
-            (SshPrivateKeyError::SuiteFault, "SuiteFault"),
-            (SshPrivateKeyError::TooLong, "TooLong"),
-            (SshPrivateKeyError::NoMemory, "NoMemory"),
-            (SshPrivateKeyError::PublicKeyMismatch, "PublicKeyMismatch"),
-        ],
+        SshPrivateKeyError::UnsupportedCipher(some_text(rt.alloc())?),
+        "UnsupportedCipher",
     )?;
+    prints_one(
+        &rt,
+        SshPrivateKeyError::UnsupportedKdf(some_text(rt.alloc())?),
+        "UnsupportedKdf",
+    )?;
+    let rows = ManuallyDrop::new([
+        (SshPrivateKeyError::FromUtf8Error, "FromUtf8Error"),
+        (
+            SshPrivateKeyError::IoError(IoKind::UnexpectedEnd),
+            "IoError",
+        ),
+        (
+            SshPrivateKeyError::InvalidAuthMagicHeader,
+            "InvalidAuthMagicHeader",
+        ),
+        (
+            SshPrivateKeyError::InvalidKeysAmount(2),
+            "InvalidKeysAmount",
+        ),
+        (
+            SshPrivateKeyError::InvalidCheckNumbers(1, 2),
+            "InvalidCheckNumbers",
+        ),
+        (SshPrivateKeyError::InvalidKeyFormat, "InvalidKeyFormat"),
+        (SshPrivateKeyError::DecryptionError, "DecryptionError"),
+        (SshPrivateKeyError::HashingError, "HashingError"),
+        (SshPrivateKeyError::MissingPassphrase, "MissingPassphrase"),
+        (SshPrivateKeyError::KeyError, "KeyError"),
+        (
+            SshPrivateKeyError::PemError(PemError::BadBase64),
+            "PemError",
+        ),
+        (SshPrivateKeyError::SuiteFault, "SuiteFault"),
+        (SshPrivateKeyError::TooLong, "TooLong"),
+        (SshPrivateKeyError::NoMemory, "NoMemory"),
+        (SshPrivateKeyError::PublicKeyMismatch, "PublicKeyMismatch"),
+    ]);
+    prints(&rt, rows.as_slice())?;
     Ok(())
 }
 
@@ -183,124 +201,118 @@ fn prints_the_errors_of_armoured_texts(rt: HostRuntime) -> Result<(), Fail> {
 #[test]
 fn prints_the_errors_of_ppk_lines(rt: HostRuntime) -> Result<(), Fail> {
     let alloc = rt.alloc();
+    let [context, expected, actual] = three_texts(alloc)?;
     let refused = KvError::InvalidInput {
-        context: some_text(alloc)?,
-        expected: some_text(alloc)?,
-        actual: some_text(alloc)?,
+        context,
+        expected,
+        actual,
     };
-    prints(
+    prints_one(&rt, refused, "InvalidInput")?;
+    let rows = ManuallyDrop::new([
+        (KvError::EndOfInput, "EndOfInput"),
+        (KvError::InvalidKeyValueFormat, "InvalidKeyValueFormat"),
+        (KvError::TooManyLines, "TooManyLines"),
+        (KvError::TooLong, "TooLong"),
+        (KvError::NoMemory, "NoMemory"),
+    ]);
+    prints(&rt, rows.as_slice())?;
+    prints_one(
         &rt,
-        &[
-            (KvError::EndOfInput, "EndOfInput"),
-            (KvError::InvalidKeyValueFormat, "InvalidKeyValueFormat"),
-            (refused, "InvalidInput"),
-            (KvError::TooManyLines, "TooManyLines"),
-            (KvError::TooLong, "TooLong"),
-            (KvError::NoMemory, "NoMemory"),
-        ],
+        parsing_error(alloc, "none", "x")?,
+        "PpkValueParsingError",
     )?;
-    prints(
+    prints_one(
         &rt,
-        &[(parsing_error(alloc, "none", "x")?, "PpkValueParsingError")],
+        PpkValueError::Parsing(parsing_error(alloc, "none", "x")?),
+        "Parsing",
     )?;
-    prints(
-        &rt,
-        &[
-            (
-                PpkValueError::Parsing(parsing_error(alloc, "none", "x")?),
-                "Parsing",
-            ),
-            (PpkValueError::TooLong, "TooLong"),
-            (PpkValueError::NoMemory, "NoMemory"),
-        ],
-    )?;
+    let rows = ManuallyDrop::new([
+        (PpkValueError::TooLong, "TooLong"),
+        (PpkValueError::NoMemory, "NoMemory"),
+    ]);
+    prints(&rt, rows.as_slice())?;
     Ok(())
 }
 
 #[test]
 fn prints_the_errors_of_putty_keys(rt: HostRuntime) -> Result<(), Fail> {
     let alloc = rt.alloc();
+    let [context, expected, actual] = three_texts(alloc)?;
     let refused = PuttyError::InvalidInput {
-        context: some_text(alloc)?,
-        expected: some_text(alloc)?,
-        actual: some_text(alloc)?,
+        context,
+        expected,
+        actual,
     };
+    prints_one(&rt, refused, "InvalidInput")?;
     let lacked = PuttyError::NotSupported {
         feature: some_text(alloc)?,
     };
-    prints(
-        &rt,
-        &[
-            (PuttyError::EndOfInput, "EndOfInput"),
-            (refused, "InvalidInput"),
-            (PuttyError::InvalidKeyValueFormat, "InvalidKeyValueFormat"),
-            (PuttyError::Aes, "Aes"),
-            (PuttyError::Argon2, "Argon2"),
-            (PuttyError::MacValidation, "MacValidation"),
-            (
-                PuttyError::PublicAndPrivateKeyMismatch,
-                "PublicAndPrivateKeyMismatch",
-            ),
-            (PuttyError::InvalidPrivateKeyData, "InvalidPrivateKeyData"),
-            (PuttyError::InvalidPublicKeyData, "InvalidPublicKeyData"),
-            (
-                PuttyError::InvalidPublicKeyContainer,
-                "InvalidPublicKeyContainer",
-            ),
-            (
-                PuttyError::InvalidPublicKeyComment,
-                "InvalidPublicKeyComment",
-            ),
-            (PuttyError::AlreadyDecrypted, "AlreadyDecrypted"),
-            (PuttyError::AlreadyEncrypted, "AlreadyEncrypted"),
-            (PuttyError::Encrypted, "Encrypted"),
-            (lacked, "NotSupported"),
-            (
-                PuttyError::SshPublicKey(SshPublicKeyError::KeyError),
-                "SshPublicKey",
-            ),
-            (PuttyError::IoError(IoKind::UnexpectedEnd), "IoError"),
-            (PuttyError::SuiteFault, "SuiteFault"),
-            (PuttyError::TooLong, "TooLong"),
-            (PuttyError::TooManyLines, "TooManyLines"),
-            (PuttyError::NoMemory, "NoMemory"),
-        ],
-    )?;
+    prints_one(&rt, lacked, "NotSupported")?;
+    let rows = ManuallyDrop::new([
+        (PuttyError::EndOfInput, "EndOfInput"),
+        (PuttyError::InvalidKeyValueFormat, "InvalidKeyValueFormat"),
+        (PuttyError::Aes, "Aes"),
+        (PuttyError::Argon2, "Argon2"),
+        (PuttyError::MacValidation, "MacValidation"),
+        (
+            PuttyError::PublicAndPrivateKeyMismatch,
+            "PublicAndPrivateKeyMismatch",
+        ),
+        (PuttyError::InvalidPrivateKeyData, "InvalidPrivateKeyData"),
+        (PuttyError::InvalidPublicKeyData, "InvalidPublicKeyData"),
+        (
+            PuttyError::InvalidPublicKeyContainer,
+            "InvalidPublicKeyContainer",
+        ),
+        (
+            PuttyError::InvalidPublicKeyComment,
+            "InvalidPublicKeyComment",
+        ),
+        (PuttyError::AlreadyDecrypted, "AlreadyDecrypted"),
+        (PuttyError::AlreadyEncrypted, "AlreadyEncrypted"),
+        (PuttyError::Encrypted, "Encrypted"),
+        (
+            PuttyError::SshPublicKey(SshPublicKeyError::KeyError),
+            "SshPublicKey",
+        ),
+        (PuttyError::IoError(IoKind::UnexpectedEnd), "IoError"),
+        (PuttyError::SuiteFault, "SuiteFault"),
+        (PuttyError::TooLong, "TooLong"),
+        (PuttyError::TooManyLines, "TooManyLines"),
+        (PuttyError::NoMemory, "NoMemory"),
+    ]);
+    prints(&rt, rows.as_slice())?;
     Ok(())
 }
 
 #[test]
 fn prints_the_errors_of_conversions(rt: HostRuntime) -> Result<(), Fail> {
-    prints(
-        &rt,
-        &[
-            (ReadError::Private(SshPrivateKeyError::KeyError), "Private"),
-            (ReadError::Public(SshPublicKeyError::KeyError), "Public"),
-            (ReadError::Putty(PuttyError::Aes), "Putty"),
-            (ReadError::NoMemory, "NoMemory"),
-        ],
-    )?;
-    prints(
-        &rt,
-        &[
-            (ConvertError::Input(ReadError::NoMemory), "Input"),
-            (ConvertError::Issuer(ReadError::NoMemory), "Issuer"),
-            (ConvertError::NoPrivateKey, "NoPrivateKey"),
-            (
-                ConvertError::Request(SshCertificateGenerationError::NoKeyType),
-                "Request",
-            ),
-            (ConvertError::CommentNotCarried, "CommentNotCarried"),
-            (
-                ConvertError::Private(SshPrivateKeyError::HashingError),
-                "Private",
-            ),
-            (ConvertError::Putty(PuttyError::Aes), "Putty"),
-            (ConvertError::FreshTooShort, "FreshTooShort"),
-            (ConvertError::TooLong, "TooLong"),
-            (ConvertError::TooManyLines, "TooManyLines"),
-            (ConvertError::NoMemory, "NoMemory"),
-        ],
-    )?;
+    let rows = ManuallyDrop::new([
+        (ReadError::Private(SshPrivateKeyError::KeyError), "Private"),
+        (ReadError::Public(SshPublicKeyError::KeyError), "Public"),
+        (ReadError::Putty(PuttyError::Aes), "Putty"),
+        (ReadError::NoMemory, "NoMemory"),
+    ]);
+    prints(&rt, rows.as_slice())?;
+    let rows = ManuallyDrop::new([
+        (ConvertError::Input(ReadError::NoMemory), "Input"),
+        (ConvertError::Issuer(ReadError::NoMemory), "Issuer"),
+        (ConvertError::NoPrivateKey, "NoPrivateKey"),
+        (
+            ConvertError::Request(SshCertificateGenerationError::NoKeyType),
+            "Request",
+        ),
+        (ConvertError::CommentNotCarried, "CommentNotCarried"),
+        (
+            ConvertError::Private(SshPrivateKeyError::HashingError),
+            "Private",
+        ),
+        (ConvertError::Putty(PuttyError::Aes), "Putty"),
+        (ConvertError::FreshTooShort, "FreshTooShort"),
+        (ConvertError::TooLong, "TooLong"),
+        (ConvertError::TooManyLines, "TooManyLines"),
+        (ConvertError::NoMemory, "NoMemory"),
+    ]);
+    prints(&rt, rows.as_slice())?;
     Ok(())
 }

@@ -7,6 +7,7 @@ use picky_suite::PlainSuite;
 use picky_target::{ConvertError, KeyTarget};
 use picky_wire::{IoKind, MemorySource, SshComplexTypeDecode};
 use std::alloc::Global;
+use std::mem::ManuallyDrop;
 use std::test::Fail;
 
 /// A line, and why it is refused.
@@ -109,10 +110,10 @@ static REFUSED_LINES: [RefusedRow; 17] = [
 /// Each call refuses the row's line for its reason.
 fn is_refused(alloc: Global, row: &RefusedRow) -> Result<bool, Fail> {
     let line = std::str::from_utf8(row.bytes)?;
-    let mut source = MemorySource::new(alloc, row.bytes, 3, &[])?;
+    let mut source = ManuallyDrop::new(MemorySource::new(alloc, row.bytes, 3, &[])?);
     Ok(
         is_why(SshPublicKey::from_str(alloc, line).err(), &row.why)
-            && is_why(SshPublicKey::decode(alloc, &mut source).err(), &row.why)
+            && is_why(SshPublicKey::decode(alloc, &mut *source).err(), &row.why)
             && is_unread(alloc, line, &row.why)
             && is_unwritten(alloc, line, KeyTarget::OpenSshPublic, &row.why)
             && is_unwritten(alloc, line, KeyTarget::PuttyPublic, &row.why),
@@ -135,8 +136,9 @@ fn is_of_line(why: &ReadError, wanted: &SshPublicKeyError) -> bool {
 }
 
 fn is_unread(alloc: Global, line: &str, wanted: &SshPublicKeyError) -> bool {
-    match read_text(alloc, &mut PlainSuite::new(), line, None) {
-        Err(why) => is_of_line(&why, wanted),
+    let read = ManuallyDrop::new(read_text(alloc, &mut PlainSuite::new(), line, None));
+    match &*read {
+        Err(why) => is_of_line(why, wanted),
         Ok(_) => false,
     }
 }
@@ -155,8 +157,15 @@ fn is_unwritten(alloc: Global, line: &str, target: KeyTarget, wanted: &SshPublic
         pass_out: None,
         fresh: &[],
     };
-    match convert_key(alloc, &mut PlainSuite::new(), line, target, given) {
-        Err(why) => is_of_input(&why, wanted),
+    let written = ManuallyDrop::new(convert_key(
+        alloc,
+        &mut PlainSuite::new(),
+        line,
+        target,
+        given,
+    ));
+    match &*written {
+        Err(why) => is_of_input(why, wanted),
         Ok(_) => false,
     }
 }

@@ -23,18 +23,21 @@ fn zeros(alloc: Global, comment: &str) -> Result<Meaning, Fail> {
     ed_meaning(alloc, [0; 32], [0; 32], comment)
 }
 
+/// The text is written for the meaning.
+fn writes(alloc: Global, target: KeyTarget, meaning: Meaning, text: &str) -> Result<bool, Fail> {
+    let mut suite = PlainSuite::new();
+    let written = ManuallyDrop::new(write_text(alloc, &mut suite, target, meaning, None, &[])?);
+    Ok(written.as_str() == text)
+}
+
 /// The text is written for what a key text means.
 fn is_written(alloc: Global, target: KeyTarget, key: &str, text: &str) -> Result<bool, Fail> {
-    let meaning = meaning_of(alloc, key)?;
-    let written = write_text(alloc, &mut PlainSuite::new(), target, meaning, None, &[])?;
-    Ok(written.as_str() == text)
+    writes(alloc, target, meaning_of(alloc, key)?, text)
 }
 
 /// The same for the key of zeros with the comment `hello`.
 fn is_written_for_zeros(alloc: Global, target: KeyTarget, text: &str) -> Result<bool, Fail> {
-    let meaning = zeros(alloc, "hello")?;
-    let written = write_text(alloc, &mut PlainSuite::new(), target, meaning, None, &[])?;
-    Ok(written.as_str() == text)
+    writes(alloc, target, zeros(alloc, "hello")?, text)
 }
 
 fn is_zero_text_in_version_2(alloc: Global) -> Result<bool, Fail> {
@@ -102,9 +105,9 @@ fn writes_the_texts_of_other_programs(rt: HostRuntime) -> Result<(), Fail> {
 
 /// What a key text and a target give, sealed under the passphrase by the suite for tests.
 fn sealed(alloc: Global, target: KeyTarget, key: &str, fresh: &[u8]) -> Result<Text, Fail> {
-    let mut suite = MemorySuite::new(alloc, &[])?;
+    let mut suite = ManuallyDrop::new(MemorySuite::new(alloc, &[])?);
     let meaning = meaning_of(alloc, key)?;
-    Ok(write_text(alloc, &mut suite, target, meaning, Some(PASS), fresh)?)
+    Ok(write_text(alloc, &mut *suite, target, meaning, Some(PASS), fresh)?)
 }
 
 fn is_sealed_as(alloc: Global, target: KeyTarget, fresh: &[u8], text: &str) -> Result<bool, Fail> {
@@ -161,6 +164,15 @@ static UNCARRIED: [(KeyTarget, &str); 8] = [
 // Targets, and a fresh byte less than each takes: the private bytes of the key of zeros are 4, so 12 are padding.
 static SHORT: [(KeyTarget, usize); 3] = [(KeyTarget::OpenSsh, 15), (PPK2, 11), (PPK3, 27)];
 
+/// Nothing is written, for this reason.
+fn is_why(written: Result<Text, ConvertError>, wanted: &ConvertError) -> bool {
+    let written = ManuallyDrop::new(written);
+    match &*written {
+        Ok(_) => false,
+        Err(why) => *why == *wanted,
+    }
+}
+
 /// The key of zeros with a comment isn't written, and why.
 fn refuses(
     alloc: Global,
@@ -170,12 +182,10 @@ fn refuses(
     fresh: &[u8],
     wanted: &ConvertError,
 ) -> Result<bool, Fail> {
-    let mut suite = MemorySuite::new(alloc, &[])?;
+    let mut suite = ManuallyDrop::new(MemorySuite::new(alloc, &[])?);
     let meaning = zeros(alloc, comment)?;
-    match write_text(alloc, &mut suite, target, meaning, pass, fresh) {
-        Ok(_) => Ok(false),
-        Err(why) => Ok(why == *wanted),
-    }
+    let written = write_text(alloc, &mut *suite, target, meaning, pass, fresh);
+    Ok(is_why(written, wanted))
 }
 
 #[test]
@@ -204,12 +214,10 @@ fn refuses_too_few_fresh_bytes(rt: HostRuntime) -> Result<(), Fail> {
 }
 
 fn needs_a_secret(alloc: Global, target: KeyTarget, line: &str) -> Result<bool, Fail> {
-    let mut suite = PlainSuite::new();
+    let wanted = ManuallyDrop::new(ConvertError::NoPrivateKey);
     let meaning = meaning_of(alloc, line)?;
-    match write_text(alloc, &mut suite, target, meaning, None, &[]) {
-        Ok(_) => Ok(false),
-        Err(why) => Ok(why == ConvertError::NoPrivateKey),
-    }
+    let written = write_text(alloc, &mut PlainSuite::new(), target, meaning, None, &[]);
+    Ok(is_why(written, &wanted))
 }
 
 #[test]
