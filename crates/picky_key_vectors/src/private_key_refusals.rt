@@ -10,17 +10,17 @@ use std::test::Fail;
 
 /// A field of a content, as RFC 4251, section 5, writes it.
 #[derive(Clone, Copy)]
-pub enum Field {
+pub enum Field<'a> {
     /// byte[]
-    Raw(&'static [u8]),
+    Raw(&'a [u8]),
     /// uint32
     Number(u32),
     /// string
-    Word(&'static [u8]),
+    Word(&'a [u8]),
 }
 
 /// Appends the fields, one after another.
-pub fn put(out: &mut Vec<u8>, fields: &[Field]) -> Result<(), Fail> {
+pub fn put(out: &mut Vec<u8>, fields: &[Field<'_>]) -> Result<(), Fail> {
     for field in fields {
         match field {
             Field::Raw(bytes) => out.extend_from_slice(bytes)?,
@@ -32,31 +32,44 @@ pub fn put(out: &mut Vec<u8>, fields: &[Field]) -> Result<(), Fail> {
 }
 
 /// Appends the bytes as a string of RFC 4251, section 5.
-pub fn put_string(out: &mut Vec<u8>, bytes: &[u8]) -> Result<(), Fail> {
-    let len = ManuallyDrop::new(u32::try_from(bytes.len())?);
+fn put_string(out: &mut Vec<u8>, bytes: &[u8]) -> Result<(), Fail> {
+    let len = u32::try_from(bytes.len())?;
     out.extend_from_slice(&len.to_be_bytes())?;
     out.extend_from_slice(bytes)?;
     Ok(())
 }
 
-/// The error for the content, as `{:?}` prints it, and nothing where there is none.
-pub fn refusal(
+/// The content that these fields are is refused so.
+pub fn is_refused(
     alloc: Global,
     suite: &mut MemorySuite,
-    content: &[u8],
+    fields: &[Field<'_>],
     pass: Option<&str>,
-) -> Result<String, Fail> {
-    let pem = ManuallyDrop::new(Pem::new(alloc, content)?);
-    named(
+    wanted: &str,
+) -> Result<bool, Fail> {
+    let mut content = ManuallyDrop::new(Vec::new(alloc));
+    put(&mut content, fields)?;
+    let pem = ManuallyDrop::new(Pem::new(alloc, content.as_slice())?);
+    is_named(
         alloc,
-        &SshPrivateKey::from_pem(alloc, suite, &pem, pass).err(),
+        SshPrivateKey::from_pem(alloc, suite, &pem, pass),
+        wanted,
     )
 }
 
-fn named(alloc: Global, why: &Option<SshPrivateKeyError>) -> Result<String, Fail> {
-    match why {
-        Some(e) => Ok(format!(in alloc; "{e:?}")?),
-        None => Ok(String::new(alloc)),
+/// The error is this one, as `{:?}` prints it, and where nothing is wanted there is none.
+fn is_named(
+    alloc: Global,
+    read: Result<SshPrivateKey, SshPrivateKeyError>,
+    wanted: &str,
+) -> Result<bool, Fail> {
+    let read = ManuallyDrop::new(read);
+    match &*read {
+        Ok(_) => Ok(wanted.is_empty()),
+        Err(why) => {
+            let name = ManuallyDrop::new(format!(in alloc; "{why:?}")?);
+            Ok(name.as_str() == wanted)
+        }
     }
 }
 
@@ -96,8 +109,8 @@ static TEXTS: [(&str, &str, &str); 8] = [
     ),
 ];
 
-/// The error for the text, with whole lines in place of `HEAD` and `FOOT`.
-fn text_refusal(alloc: Global, short: &str) -> Result<String, Fail> {
+/// The text with whole lines in place of `HEAD` and `FOOT` is refused so.
+fn is_text_refused(alloc: Global, short: &str, wanted: &str) -> Result<bool, Fail> {
     let text = ManuallyDrop::new(short.replace(
         alloc,
         "HEAD",
@@ -105,9 +118,10 @@ fn text_refusal(alloc: Global, short: &str) -> Result<String, Fail> {
     )?);
     let text = ManuallyDrop::new(text.replace(alloc, "FOOT", "-----END OPENSSH PRIVATE KEY-----")?);
     let mut suite = PlainSuite::new();
-    named(
+    is_named(
         alloc,
-        &SshPrivateKey::from_pem_str(alloc, &mut suite, text.as_str(), None).err(),
+        SshPrivateKey::from_pem_str(alloc, &mut suite, text.as_str(), None),
+        wanted,
     )
 }
 
@@ -129,25 +143,26 @@ static CHANGED_ROWS: [(&str, &str, &str); 2] = [
 #[test]
 fn refuses_texts_in_order(rt: HostRuntime) -> Result<(), Fail> {
     for (name, short, wanted) in &TEXTS {
-        let why = ManuallyDrop::new(text_refusal(rt.alloc(), *short)?);
-        assert_eq!(rt; why.as_str(), *wanted, "{name}");
+        assert!(rt; is_text_refused(rt.alloc(), *short, *wanted)?, "{name}");
     }
     for (row, other, wanted) in &CHANGED_ROWS {
         let text = ManuallyDrop::new(ZERO_KEY.replace(rt.alloc(), *row, *other)?);
-        let why = ManuallyDrop::new(text_refusal(rt.alloc(), text.as_str())?);
-        assert_eq!(rt; why.as_str(), *wanted, "{wanted}");
+        assert!(rt;
+            is_text_refused(rt.alloc(), text.as_str(), *wanted)?,
+            "{wanted}"
+        );
     }
     Ok(())
 }
 
-pub const MAGIC: Field = Field::Raw(b"openssh-key-v1\0");
+pub const MAGIC: Field<'static> = Field::Raw(b"openssh-key-v1\0");
 
-pub const NONE: Field = Field::Word(b"none");
+pub const NONE: Field<'static> = Field::Word(b"none");
 
-pub const NOTHING: Field = Field::Word(b"");
+pub const NOTHING: Field<'static> = Field::Word(b"");
 
 // OpenSSH's PROTOCOL.key, section 1.
-static ENVELOPES: [(&str, &[Field], &str); 15] = [
+static ENVELOPES: [(&str, &[Field<'static>], &str); 15] = [
     ("no byte", &[], "IoError(UnexpectedEnd)"),
     (
         "13 bytes of another magic",
@@ -258,12 +273,12 @@ static ENVELOPES: [(&str, &[Field], &str); 15] = [
 
 #[test]
 fn refuses_envelopes_by_field(rt: HostRuntime) -> Result<(), Fail> {
-    let mut suite = MemorySuite::new(rt.alloc(), &[])?;
+    let mut suite = ManuallyDrop::new(MemorySuite::new(rt.alloc(), &[])?);
     for (name, fields, wanted) in &ENVELOPES {
-        let mut content = Vec::new(rt.alloc());
-        put(&mut content, *fields)?;
-        let why = ManuallyDrop::new(refusal(rt.alloc(), &mut suite, content.as_slice(), None)?);
-        assert_eq!(rt; why.as_str(), *wanted, "{name}");
+        assert!(rt;
+            is_refused(rt.alloc(), &mut suite, *fields, None, *wanted)?,
+            "{name}"
+        );
     }
     Ok(())
 }

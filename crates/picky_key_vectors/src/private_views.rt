@@ -64,21 +64,14 @@ fn is_seen(alloc: Global, row: &SeenRow) -> Result<bool, Fail> {
     Ok(is_whole && view == row.view)
 }
 
-/// A copy of the key that the bytes begin with.
-fn copied(alloc: Global, bytes: &[u8]) -> Result<SshBasePrivateKey, Fail> {
+/// A copy of the key that the bytes begin with is what the owned reader reads.
+fn is_copied(alloc: Global, bytes: &[u8]) -> Result<bool, Fail> {
     let blob = ManuallyDrop::new(Bytes::new(alloc, bytes)?);
     let (view, _) = PrivateView::read(blob.as_slice())?;
-    Ok(view.to_key(alloc)?)
-}
-
-fn decoded(alloc: Global, bytes: &[u8]) -> Result<SshBasePrivateKey, Fail> {
     let mut source = SliceSource::new(bytes);
-    Ok(SshBasePrivateKey::decode(alloc, &mut source)?)
-}
-
-/// The copy is what the owned reader reads.
-fn is_copied(alloc: Global, bytes: &[u8]) -> Result<bool, Fail> {
-    Ok(copied(alloc, bytes)? == decoded(alloc, bytes)?)
+    let copy = ManuallyDrop::new(view.to_key(alloc)?);
+    let read = ManuallyDrop::new(SshBasePrivateKey::decode(alloc, &mut source)?);
+    Ok(*copy == *read)
 }
 
 #[test]

@@ -1,6 +1,6 @@
 //! Why a sealed OpenSSH private key isn't opened: each reason, and of two in one envelope the one that is tried first.
 
-use crate::private_key_refusals::{Field, MAGIC, NOTHING, put, refusal};
+use crate::private_key_refusals::{Field, MAGIC, NOTHING, is_refused};
 use picky_suite::MemorySuite;
 use std::alloc::Global;
 use std::mem::ManuallyDrop;
@@ -152,35 +152,26 @@ static SEALED_ROWS: [SealedRow; 12] = [
     },
 ];
 
-fn put_sealed(out: &mut Vec<u8>, row: &SealedRow) -> Result<(), Fail> {
-    put(
-        out,
-        &[
-            MAGIC,
-            Field::Word(row.cipher),
-            Field::Word(row.kdf),
-            Field::Word(row.option),
-            Field::Number(1),
-            NOTHING,
-            Field::Word(row.block),
-        ],
-    )
-}
-
-/// The error for the row's envelope.
-fn sealed_refusal(alloc: Global, row: &SealedRow) -> Result<String, Fail> {
-    let mut content = Vec::new(alloc);
-    put_sealed(&mut content, row)?;
+/// The row's envelope is refused so.
+fn is_sealed_refused(alloc: Global, row: &SealedRow) -> Result<bool, Fail> {
     let failing: &[u64] = if row.fails { &[0] } else { &[] };
-    let mut suite = MemorySuite::new(alloc, failing)?;
-    refusal(alloc, &mut suite, content.as_slice(), row.pass)
+    let mut suite = ManuallyDrop::new(MemorySuite::new(alloc, failing)?);
+    let envelope = [
+        MAGIC,
+        Field::Word(row.cipher),
+        Field::Word(row.kdf),
+        Field::Word(row.option),
+        Field::Number(1),
+        NOTHING,
+        Field::Word(row.block),
+    ];
+    is_refused(alloc, &mut suite, &envelope, row.pass, row.wanted)
 }
 
 #[test]
 fn refuses_to_open_in_order(rt: HostRuntime) -> Result<(), Fail> {
     for row in &SEALED_ROWS {
-        let why = ManuallyDrop::new(sealed_refusal(rt.alloc(), row)?);
-        assert_eq!(rt; why.as_str(), row.wanted, "{}", row.name);
+        assert!(rt; is_sealed_refused(rt.alloc(), row)?, "{}", row.name);
     }
     Ok(())
 }

@@ -3,7 +3,7 @@
 use picky_key_rows::{ZERO_KEY, zero_key};
 use picky_sshkey::{SshBasePrivateKey, SshPrivateKey, SshPrivateKeyError};
 use picky_suite::{MemorySuite, PlainSuite, Suite};
-use picky_wire::{NoMemory, Text};
+use picky_wire::NoMemory;
 use std::alloc::Global;
 use std::mem::ManuallyDrop;
 use std::test::Fail;
@@ -123,30 +123,28 @@ fn opened<S: Suite>(
 
 /// The row's text is opened as its key.
 fn is_opened(alloc: Global, row: &SealedRow) -> Result<bool, Fail> {
-    let mut suite = MemorySuite::new(alloc, &[])?;
-    let key = ManuallyDrop::new(opened(alloc, &mut suite, row.text, PASS)?);
+    let mut suite = ManuallyDrop::new(MemorySuite::new(alloc, &[])?);
+    let key = ManuallyDrop::new(opened(alloc, &mut *suite, row.text, PASS)?);
+    let wanted = ManuallyDrop::new(sealed_key(alloc)?);
     Ok(
         key.cipher_name.as_str() == row.cipher
             && key.check == row.check
-            && is_sealed_key(alloc, &key)?,
+            && is_same_key(&key, &wanted),
     )
 }
 
-/// The key is the one whose parts Python was given, but for its cipher's name and its check number.
-fn is_sealed_key(alloc: Global, key: &SshPrivateKey) -> Result<bool, Fail> {
-    let wanted = ManuallyDrop::new(sealed_key(alloc)?);
-    Ok(is_same_key(key, &wanted))
-}
-
+/// The key is the other one, but for its cipher's name and its check number.
 fn is_same_key(key: &SshPrivateKey, wanted: &SshPrivateKey) -> bool {
     let is_same = key.base_key == wanted.base_key && key.comment == wanted.comment;
     is_same && key.passphrase == wanted.passphrase && key.kdf == wanted.kdf
 }
 
-fn sealed_text(alloc: Global) -> Result<Text, Fail> {
-    let mut suite = MemorySuite::new(alloc, &[])?;
+/// This text is written for the key whose parts Python was given.
+fn is_sealed(alloc: Global, wanted: &str) -> Result<bool, Fail> {
+    let mut suite = ManuallyDrop::new(MemorySuite::new(alloc, &[])?);
     let key = ManuallyDrop::new(sealed_key(alloc)?);
-    Ok(key.to_string(alloc, &mut suite)?)
+    let text = ManuallyDrop::new(key.to_string(alloc, &mut *suite)?);
+    Ok(text.as_str() == wanted)
 }
 
 #[test]
@@ -154,41 +152,32 @@ fn opens_and_seals_as_python_does(rt: HostRuntime) -> Result<(), Fail> {
     for row in &SEALED_ROWS {
         assert!(rt; is_opened(rt.alloc(), row)?, "{}", row.cipher);
     }
-    assert_eq!(rt; sealed_text(rt.alloc())?.as_str(), AES256_CTR);
+    assert!(rt; is_sealed(rt.alloc(), AES256_CTR)?);
     Ok(())
 }
 
-/// Why the text isn't opened, where it isn't.
-fn unopened<S: Suite>(
-    alloc: Global,
-    suite: &mut S,
-    text: &str,
-    pass: &str,
-) -> Option<SshPrivateKeyError> {
-    opened(alloc, suite, text, pass).err()
-}
-
-/// Why the key isn't written, where it isn't.
-fn unwritten<S: Suite>(
-    alloc: Global,
-    suite: &mut S,
-    key: &SshPrivateKey,
-) -> Option<SshPrivateKeyError> {
-    key.to_string(alloc, suite).err()
+/// What was made is refused for this reason, and where there is none it isn't refused.
+fn is_refused<T: Drop>(
+    made: Result<T, SshPrivateKeyError>,
+    wanted: Option<SshPrivateKeyError>,
+) -> bool {
+    let why = ManuallyDrop::new(made.err());
+    let wanted = ManuallyDrop::new(wanted);
+    *why == *wanted
 }
 
 /// No suite is asked to read the text under an empty passphrase.
 fn is_unopened(alloc: Global) -> bool {
     let mut suite = PlainSuite::new();
-    let why = unopened(alloc, &mut suite, AES256_CTR, "");
-    why == Some(SshPrivateKeyError::HashingError) && suite == PlainSuite::new()
+    let key = opened(alloc, &mut suite, AES256_CTR, "");
+    is_refused(key, Some(SshPrivateKeyError::HashingError)) && suite == PlainSuite::new()
 }
 
 /// No suite is asked to write the key.
 fn is_unwritten(alloc: Global, key: &SshPrivateKey) -> bool {
     let mut suite = PlainSuite::new();
-    let why = unwritten(alloc, &mut suite, key);
-    why == Some(SshPrivateKeyError::HashingError) && suite == PlainSuite::new()
+    let text = key.to_string(alloc, &mut suite);
+    is_refused(text, Some(SshPrivateKeyError::HashingError)) && suite == PlainSuite::new()
 }
 
 /// A key that was read without a seal, so that it keeps the passphrase and has no salt.
@@ -197,38 +186,26 @@ fn saltless_key(alloc: Global) -> Result<SshPrivateKey, Fail> {
     Ok(opened(alloc, &mut suite, ZERO_KEY, PASS)?)
 }
 
-fn keeps_the_passphrase(alloc: Global, key: &SshPrivateKey) -> Result<bool, Fail> {
-    Ok(key.passphrase == Some(Text::new(alloc, PASS)?))
-}
-
-/// No suite is asked to write a key under an empty passphrase.
-fn is_empty_pass_unwritten(alloc: Global) -> Result<bool, Fail> {
-    let key = ManuallyDrop::new(zero_key(alloc, Some(""))?);
-    Ok(is_unwritten(alloc, &key))
+fn keeps_the_passphrase(key: &SshPrivateKey) -> bool {
+    match &key.passphrase {
+        Some(pass) => pass.as_str() == PASS,
+        None => false,
+    }
 }
 
 #[test]
 fn derives_nothing_of_no_passphrase(rt: HostRuntime) -> Result<(), Fail> {
     assert!(rt; is_unopened(rt.alloc()));
-    assert!(rt; is_empty_pass_unwritten(rt.alloc())?);
+    let key = ManuallyDrop::new(zero_key(rt.alloc(), Some(""))?);
+    assert!(rt; is_unwritten(rt.alloc(), &key));
     Ok(())
-}
-
-/// No suite is asked to write a key that has no salt.
-fn is_saltless_unwritten(alloc: Global) -> Result<bool, Fail> {
-    let key = ManuallyDrop::new(saltless_key(alloc)?);
-    Ok(is_unwritten(alloc, &key))
-}
-
-fn is_saltless_kept(alloc: Global) -> Result<bool, Fail> {
-    let key = ManuallyDrop::new(saltless_key(alloc)?);
-    keeps_the_passphrase(alloc, &key)
 }
 
 #[test]
 fn derives_nothing_of_no_salt(rt: HostRuntime) -> Result<(), Fail> {
-    assert!(rt; is_saltless_kept(rt.alloc())?);
-    assert!(rt; is_saltless_unwritten(rt.alloc())?);
+    let key = ManuallyDrop::new(saltless_key(rt.alloc())?);
+    assert!(rt; keeps_the_passphrase(&key));
+    assert!(rt; is_unwritten(rt.alloc(), &key));
     Ok(())
 }
 
@@ -254,17 +231,17 @@ fn fault(call: u64) -> Option<SshPrivateKeyError> {
 
 /// Reading asks the suite up to this call, and no more.
 fn reads_by_two_calls(alloc: Global, call: u64) -> Result<bool, Fail> {
-    let mut suite = failing(alloc, call)?;
-    let why = unopened(alloc, &mut suite, AES256_CTR, PASS);
-    Ok(why == fault(call) && next_fails(&mut suite))
+    let mut suite = ManuallyDrop::new(failing(alloc, call)?);
+    let key = opened(alloc, &mut *suite, AES256_CTR, PASS);
+    Ok(is_refused(key, fault(call)) && next_fails(&mut suite))
 }
 
 /// So does writing.
 fn writes_by_two_calls(alloc: Global, call: u64) -> Result<bool, Fail> {
-    let mut suite = failing(alloc, call)?;
+    let mut suite = ManuallyDrop::new(failing(alloc, call)?);
     let key = ManuallyDrop::new(sealed_key(alloc)?);
-    let why = unwritten(alloc, &mut suite, &key);
-    Ok(why == fault(call) && next_fails(&mut suite))
+    let text = key.to_string(alloc, &mut *suite);
+    Ok(is_refused(text, fault(call)) && next_fails(&mut suite))
 }
 
 #[test]
@@ -286,7 +263,7 @@ fn asks_no_suite_for_an_unsealed_key(rt: HostRuntime) -> Result<(), Fail> {
         None,
     )?);
     let text = ManuallyDrop::new(key.to_string(rt.alloc(), &mut suite)?);
-    assert_eq!(rt; text.as_str(), ZERO_KEY);
+    assert!(rt; text.as_str() == ZERO_KEY);
     assert!(rt; suite == PlainSuite::new());
     Ok(())
 }
