@@ -6,8 +6,10 @@ use picky_cert::{SshCertKeyType, SshCertType};
 use picky_convert::{CertRequest, Key, Target, convert};
 use picky_sshpub::SshBasePublicKey;
 use picky_suite::{MemorySigner, PlainSuite};
-use picky_wire::{List, Timestamp, TryClone};
+use picky_wire::{List, NoMemory, Timestamp, TryClone};
 use std::alloc::Global;
+use std::mem::ManuallyDrop;
+use std::test::Fail;
 
 // The signature of the signer for tests is the SHA-256 digest of what is signed. With the functions of crate::zero_lines:
 // line(signed(2), payload=hashlib.sha256(signed(2)).digest())
@@ -33,20 +35,19 @@ const SIGNED: End<'static> = End {
 };
 
 /// The zero certificate, by a device whose calls of these numbers fail.
-fn ends_with(alloc: Global, command: &str, failing: &[u64], end: &End<'_>) -> bool {
-    match MemorySigner::new(alloc, failing) {
-        Ok(mut signer) => ends_by(alloc, command, &ZERO_HOST, &mut signer, end),
-        Err(_) => false,
-    }
+fn ends_with(alloc: Global, command: &str, failing: &[u64], end: &End<'_>) -> Result<bool, Fail> {
+    let mut signer = ManuallyDrop::new(MemorySigner::new(alloc, failing)?);
+    ends_by(alloc, command, &ZERO_HOST, &mut *signer, end)
 }
 
 #[test]
-fn asks_a_device_once_for_a_certificate_alone(rt: HostRuntime) {
+fn asks_a_device_once_for_a_certificate_alone(rt: HostRuntime) -> Result<(), Fail> {
     let all = [0, 1, 2, 3, 4, 5, 6, 7, 8, 9];
-    assert!(rt; ends_unsigned(rt.alloc(), "cert", &ZERO_HOST, &FAULT));
-    assert!(rt; ends_with(rt.alloc(), "cert", &all[..1], &FAULT));
-    assert!(rt; ends_with(rt.alloc(), "cert", &all[1..], &DIGEST));
-    assert!(rt; ends_with(rt.alloc(), "tbs", &all, &SIGNED));
+    assert!(rt; ends_unsigned(rt.alloc(), "cert", &ZERO_HOST, &FAULT)?);
+    assert!(rt; ends_with(rt.alloc(), "cert", &all[..1], &FAULT)?);
+    assert!(rt; ends_with(rt.alloc(), "cert", &all[1..], &DIGEST)?);
+    assert!(rt; ends_with(rt.alloc(), "tbs", &all, &SIGNED)?);
+    Ok(())
 }
 
 /// The zero certificate's request.
@@ -67,7 +68,7 @@ fn zero_request(alloc: Global) -> CertRequest {
 }
 
 fn is_converted(alloc: Global, signer: &mut MemorySigner, target: &Target) -> bool {
-    match convert(
+    let answer = ManuallyDrop::new(convert(
         alloc,
         &mut PlainSuite::new(),
         signer,
@@ -76,25 +77,23 @@ fn is_converted(alloc: Global, signer: &mut MemorySigner, target: &Target) -> bo
         target,
         None,
         FRESH,
-    ) {
+    ));
+    match &*answer {
         Ok(text) => text.as_str() == DIGEST_LINE,
         Err(_) => false,
     }
 }
 
 /// By a copy of the request.
-fn is_certified(alloc: Global) -> bool {
-    let request = zero_request(alloc);
-    match (request.try_clone(alloc), MemorySigner::new(alloc, &[])) {
-        (Ok(copy), Ok(mut signer)) => {
-            let target = Target::Certificate(copy);
-            is_converted(alloc, &mut signer, &target)
-        }
-        _ => false,
-    }
+fn is_certified(alloc: Global) -> Result<bool, NoMemory> {
+    let request = ManuallyDrop::new(zero_request(alloc));
+    let target = ManuallyDrop::new(Target::Certificate(request.try_clone(alloc)?));
+    let mut signer = ManuallyDrop::new(MemorySigner::new(alloc, &[])?);
+    Ok(is_converted(alloc, &mut signer, &target))
 }
 
 #[test]
-fn converts_to_a_certificate(rt: HostRuntime) {
-    assert!(rt; is_certified(rt.alloc()));
+fn converts_to_a_certificate(rt: HostRuntime) -> Result<(), Fail> {
+    assert!(rt; is_certified(rt.alloc())?);
+    Ok(())
 }

@@ -6,8 +6,9 @@ use crate::zero_lines::{
 };
 use picky_cert::{CertView, SshCertificate};
 use picky_text::decode;
-use picky_wire::Bytes;
 use std::alloc::Global;
+use std::mem::ManuallyDrop;
+use std::test::Fail;
 
 /// What is asked, the line, and the data of its critical options and of its extensions.
 struct IssuedRow {
@@ -137,18 +138,15 @@ fn long_command() -> &'static IssuedRow {
 }
 
 /// The bytes of the second word of a line, where it is base64.
-pub fn blob_of(alloc: Global, line: &str) -> Option<Bytes> {
+pub fn blob_of(alloc: Global, line: &str) -> Option<Vec<u8>> {
     let (_, rest) = line.split_once(' ')?;
     let (body, _) = rest.split_once(' ')?;
-    match decode(alloc, body.as_bytes()) {
-        Ok(bytes) => Bytes::new(alloc, bytes.as_slice()).ok(),
-        Err(_) => None,
-    }
+    decode(alloc, body.as_bytes()).ok()
 }
 
 /// The bytes have the row's critical options and extensions.
-fn has_grants(blob: &Bytes, row: &IssuedRow) -> bool {
-    match CertView::read(blob.as_slice()) {
+fn has_grants(blob: &[u8], row: &IssuedRow) -> bool {
+    match &*ManuallyDrop::new(CertView::read(blob)) {
         Ok((view, _)) => {
             view.critical_options.bytes == row.options && view.extensions.bytes == row.extensions
         }
@@ -157,14 +155,14 @@ fn has_grants(blob: &Bytes, row: &IssuedRow) -> bool {
 }
 
 fn grants(alloc: Global, row: &IssuedRow) -> bool {
-    match blob_of(alloc, row.line) {
-        Some(blob) => has_grants(&blob, row),
+    match &*ManuallyDrop::new(blob_of(alloc, row.line)) {
+        Some(blob) => has_grants(blob.as_slice(), row),
         None => false,
     }
 }
 
 fn is_line_of(alloc: Global, cert: &SshCertificate, line: &str) -> bool {
-    match cert.to_string(alloc) {
+    match &*ManuallyDrop::new(cert.to_string(alloc)) {
         Ok(text) => text.as_str() == line,
         Err(_) => false,
     }
@@ -172,39 +170,43 @@ fn is_line_of(alloc: Global, cert: &SshCertificate, line: &str) -> bool {
 
 /// The line is read, and written again.
 fn is_read_back(alloc: Global, line: &str) -> bool {
-    match SshCertificate::from_str(alloc, line) {
-        Ok(cert) => is_line_of(alloc, &cert, line),
+    match &*ManuallyDrop::new(SshCertificate::from_str(alloc, line)) {
+        Ok(cert) => is_line_of(alloc, cert, line),
         Err(_) => false,
     }
 }
 
-fn is_issued(alloc: Global, row: &IssuedRow) -> bool {
+fn is_issued(alloc: Global, row: &IssuedRow) -> Result<bool, Fail> {
     let asked = Asked {
         words: row.words,
         more: row.more,
         source: SOURCE,
         fresh: FRESH,
     };
-    issues(alloc, &asked, SIGNATURE, row.line)
-        && grants(alloc, row)
-        && is_read_back(alloc, row.line)
+    Ok(
+        issues(alloc, &asked, SIGNATURE, row.line)?
+            && grants(alloc, row)
+            && is_read_back(alloc, row.line),
+    )
 }
 
 #[test]
-fn issues_what_is_asked(rt: HostRuntime) {
+fn issues_what_is_asked(rt: HostRuntime) -> Result<(), Fail> {
     for row in &ROWS {
-        assert!(rt; is_issued(rt.alloc(), row), "{}", row.name);
+        assert!(rt; is_issued(rt.alloc(), row)?, "{}", row.name);
     }
+    Ok(())
 }
 
 #[test]
-fn keeps_a_long_command(rt: HostRuntime) {
+fn keeps_a_long_command(rt: HostRuntime) -> Result<(), Fail> {
     let row = long_command();
-    assert!(rt; is_issued(rt.alloc(), row), "{}", row.name);
+    assert!(rt; is_issued(rt.alloc(), row)?, "{}", row.name);
+    Ok(())
 }
 
 /// The first so many fresh bytes are the nonce, and the others are let be.
-fn takes_32_fresh_bytes(alloc: Global) -> bool {
+fn takes_32_fresh_bytes(alloc: Global) -> Result<bool, Fail> {
     let asked = Asked {
         fresh: &[0; 40],
         ..ZERO_HOST
@@ -213,7 +215,7 @@ fn takes_32_fresh_bytes(alloc: Global) -> bool {
 }
 
 /// `tbs` asks no device, and the certificate's line means its subject's key.
-fn is_taken_apart(alloc: Global) -> bool {
+fn is_taken_apart(alloc: Global) -> Result<bool, Fail> {
     let line = Asked {
         words: &[],
         more: &[],
@@ -225,11 +227,12 @@ fn is_taken_apart(alloc: Global) -> bool {
         out: SUBJECT_LINE,
         err: "",
     };
-    shows(alloc, &ZERO_HOST, HOST_SIGNED) && ends_unsigned(alloc, "ssh-pub", &line, &public)
+    Ok(shows(alloc, &ZERO_HOST, HOST_SIGNED)? && ends_unsigned(alloc, "ssh-pub", &line, &public)?)
 }
 
 #[test]
-fn shows_what_is_signed_and_for_whom(rt: HostRuntime) {
-    assert!(rt; takes_32_fresh_bytes(rt.alloc()));
-    assert!(rt; is_taken_apart(rt.alloc()));
+fn shows_what_is_signed_and_for_whom(rt: HostRuntime) -> Result<(), Fail> {
+    assert!(rt; takes_32_fresh_bytes(rt.alloc())?);
+    assert!(rt; is_taken_apart(rt.alloc())?);
+    Ok(())
 }

@@ -3,6 +3,7 @@
 use crate::runs::{Asked, End, ends, is_usage};
 use crate::zero_lines::{FRESH, HOST, SIGNATURE, SOURCE, TIMES, TYPE};
 use std::alloc::Global;
+use std::test::Fail;
 
 /// What is asked, with so many fresh bytes, and the line on `err`.
 struct RefusedRow {
@@ -100,7 +101,7 @@ static REFUSED: [RefusedRow; 14] = [
     },
 ];
 
-fn is_refused(alloc: Global, command: &str, row: &RefusedRow) -> bool {
+fn is_refused(alloc: Global, command: &str, row: &RefusedRow) -> Result<bool, Fail> {
     let (fresh, _) = FRESH.split_at(row.fresh_len.min(FRESH.len()));
     let asked = Asked {
         words: row.words,
@@ -117,17 +118,18 @@ fn is_refused(alloc: Global, command: &str, row: &RefusedRow) -> bool {
 }
 
 #[test]
-fn refuses_requests_in_order(rt: HostRuntime) {
+fn refuses_requests_in_order(rt: HostRuntime) -> Result<(), Fail> {
     for row in &REFUSED {
         for command in ["cert", "tbs"] {
             assert!(rt;
-                is_refused(rt.alloc(), command, row),
+                is_refused(rt.alloc(), command, row)?,
                 "{command}, {:?}: {}",
                 row.more,
                 row.err
             );
         }
     }
+    Ok(())
 }
 
 // Words after those of a host: options and values that are none (docs/FORMATS.md, "Commands").
@@ -170,22 +172,23 @@ const USAGE: End<'static> = End {
 };
 
 /// Both commands say how they are used.
-fn are_no_options(alloc: Global, words: &[&str], more: &[&str]) -> bool {
+fn are_no_options(alloc: Global, words: &[&str], more: &[&str]) -> Result<bool, Fail> {
     let asked = Asked {
         words,
         more,
         source: SOURCE,
         fresh: FRESH,
     };
-    is_usage(alloc, "cert", &asked, &USAGE) && is_usage(alloc, "tbs", &asked, &USAGE)
+    Ok(is_usage(alloc, "cert", &asked, &USAGE)? && is_usage(alloc, "tbs", &asked, &USAGE)?)
 }
 
 #[test]
-fn answers_usage(rt: HostRuntime) {
+fn answers_usage(rt: HostRuntime) -> Result<(), Fail> {
     for more in &NO_OPTIONS {
-        assert!(rt; are_no_options(rt.alloc(), HOST, more), "{more:?}");
+        assert!(rt; are_no_options(rt.alloc(), HOST, more)?, "{more:?}");
     }
     for words in &NO_VALUES {
-        assert!(rt; are_no_options(rt.alloc(), words, &[]), "{words:?}");
+        assert!(rt; are_no_options(rt.alloc(), words, &[])?, "{words:?}");
     }
+    Ok(())
 }

@@ -2,9 +2,10 @@
 
 use picky_convert::{Status, run};
 use picky_suite::{HandedSigner, PlainSuite, Signer};
-use picky_wire::{Bytes, List, MemorySink, NoMemory, SliceSource, Text};
+use picky_wire::{Bytes, MemorySink, SliceSource, Text};
 use std::alloc::Global;
 use std::mem::ManuallyDrop;
+use std::test::Fail;
 
 /// What a run is given beside its command and its device.
 #[derive(Clone, Copy)]
@@ -17,12 +18,12 @@ pub struct Asked<'a> {
     pub fresh: &'a [u8],
 }
 
-/// How a run ended, what it wrote, and how many bytes it left unread.
+/// How a run ended, what it wrote, and how many bytes it left unread. Nothing of it is dropped.
 #[derive(Drop)]
-pub struct Ran {
-    status: Status,
-    out: MemorySink,
-    err: MemorySink,
+struct Ran {
+    status: ManuallyDrop<Status>,
+    out: ManuallyDrop<MemorySink>,
+    err: ManuallyDrop<MemorySink>,
     left: usize,
 }
 
@@ -34,44 +35,34 @@ pub struct End<'a> {
     pub err: &'a str,
 }
 
-fn put_word(alloc: Global, texts: &mut List<Text>, word: &str) -> bool {
-    match Text::new(alloc, word) {
-        Ok(text) => texts.push(text).is_ok(),
-        Err(_) => false,
-    }
-}
-
-fn put_words(alloc: Global, texts: &mut List<Text>, words: &[&str]) -> bool {
-    let mut are_put = true;
+fn put_words(alloc: Global, texts: &mut Vec<Text>, words: &[&str]) -> Result<(), Fail> {
     for word in words {
-        are_put = are_put && put_word(alloc, texts, word);
+        texts.push(Text::new(alloc, word)?)?;
     }
-    are_put
+    Ok(())
 }
 
-fn texts_of(alloc: Global, command: &str, asked: &Asked<'_>) -> Result<List<Text>, NoMemory> {
-    let mut texts = List::new(alloc);
-    if put_word(alloc, &mut texts, command)
-        && put_words(alloc, &mut texts, asked.words)
-        && put_words(alloc, &mut texts, asked.more)
-    {
-        return Ok(texts);
-    }
-    Err(NoMemory)
+/// The command and the words after it.
+fn texts_of(alloc: Global, command: &str, asked: &Asked<'_>) -> Result<Vec<Text>, Fail> {
+    let mut texts = ManuallyDrop::new(Vec::new(alloc));
+    put_words(alloc, &mut texts, &[command])?;
+    put_words(alloc, &mut texts, asked.words)?;
+    put_words(alloc, &mut texts, asked.more)?;
+    Ok(ManuallyDrop::into_inner(texts))
 }
 
 /// A run of the command, for which the device signs.
-pub fn run_by<G: Signer>(
+fn run_by<G: Signer>(
     alloc: Global,
     command: &str,
     asked: &Asked<'_>,
     signer: &mut G,
-) -> Result<Ran, NoMemory> {
+) -> Result<Ran, Fail> {
     let texts = ManuallyDrop::new(texts_of(alloc, command, asked)?);
-    let mut out = MemorySink::new(alloc, 9999, 64, &[])?;
-    let mut err = MemorySink::new(alloc, 999, 64, &[])?;
+    let mut out = ManuallyDrop::new(MemorySink::new(alloc, 9999, 64, &[])?);
+    let mut err = ManuallyDrop::new(MemorySink::new(alloc, 999, 64, &[])?);
     let mut source = SliceSource::new(asked.source.as_bytes());
-    let status = run(
+    let status = ManuallyDrop::new(run(
         alloc,
         texts.as_slice(),
         None,
@@ -80,9 +71,9 @@ pub fn run_by<G: Signer>(
         &mut PlainSuite::new(),
         signer,
         &mut source,
-        &mut out,
-        &mut err,
-    );
+        &mut *out,
+        &mut *err,
+    ));
     let left = source.rest().len();
     Ok(Ran {
         status,
@@ -105,19 +96,8 @@ pub fn ends_by<G: Signer>(
     asked: &Asked<'_>,
     signer: &mut G,
     end: &End<'_>,
-) -> bool {
-    match run_by(alloc, command, asked, signer) {
-        Ok(ran) => ended(&ran, end),
-        Err(NoMemory) => false,
-    }
-}
-
-/// A device that hands out these bytes as its signature.
-fn handed(alloc: Global, signature: &[u8]) -> Result<HandedSigner, NoMemory> {
-    match Bytes::new(alloc, signature) {
-        Ok(signature) => Ok(HandedSigner::new(Some(signature))),
-        Err(_) => Err(NoMemory),
-    }
+) -> Result<bool, Fail> {
+    Ok(ended(&run_by(alloc, command, asked, signer)?, end))
 }
 
 /// The run ends so, where the device hands out these bytes.
@@ -127,15 +107,19 @@ pub fn ends(
     asked: &Asked<'_>,
     signature: &[u8],
     end: &End<'_>,
-) -> bool {
-    match handed(alloc, signature) {
-        Ok(mut signer) => ends_by(alloc, command, asked, &mut signer, end),
-        Err(NoMemory) => false,
-    }
+) -> Result<bool, Fail> {
+    let signature = Bytes::new(alloc, signature)?;
+    let mut signer = ManuallyDrop::new(HandedSigner::new(Some(signature)));
+    ends_by(alloc, command, asked, &mut *signer, end)
 }
 
 /// `cert` writes the line, where the device hands out these bytes.
-pub fn issues(alloc: Global, asked: &Asked<'_>, signature: &[u8], line: &str) -> bool {
+pub fn issues(
+    alloc: Global,
+    asked: &Asked<'_>,
+    signature: &[u8],
+    line: &str,
+) -> Result<bool, Fail> {
     let end = End {
         code: 0,
         out: line,
@@ -145,12 +129,18 @@ pub fn issues(alloc: Global, asked: &Asked<'_>, signature: &[u8], line: &str) ->
 }
 
 /// The run ends so without a device that signs.
-pub fn ends_unsigned(alloc: Global, command: &str, asked: &Asked<'_>, end: &End<'_>) -> bool {
-    ends_by(alloc, command, asked, &mut HandedSigner::new(None), end)
+pub fn ends_unsigned(
+    alloc: Global,
+    command: &str,
+    asked: &Asked<'_>,
+    end: &End<'_>,
+) -> Result<bool, Fail> {
+    let mut signer = ManuallyDrop::new(HandedSigner::new(None));
+    ends_by(alloc, command, asked, &mut *signer, end)
 }
 
 /// `tbs` writes the text, and asks no device.
-pub fn shows(alloc: Global, asked: &Asked<'_>, text: &str) -> bool {
+pub fn shows(alloc: Global, asked: &Asked<'_>, text: &str) -> Result<bool, Fail> {
     let end = End {
         code: 0,
         out: text,
@@ -160,9 +150,13 @@ pub fn shows(alloc: Global, asked: &Asked<'_>, text: &str) -> bool {
 }
 
 /// The command says how it is used, and reads nothing.
-pub fn is_usage(alloc: Global, command: &str, asked: &Asked<'_>, usage: &End<'_>) -> bool {
-    match run_by(alloc, command, asked, &mut HandedSigner::new(None)) {
-        Ok(ran) => ended(&ran, usage) && ran.left == asked.source.len(),
-        Err(NoMemory) => false,
-    }
+pub fn is_usage(
+    alloc: Global,
+    command: &str,
+    asked: &Asked<'_>,
+    usage: &End<'_>,
+) -> Result<bool, Fail> {
+    let mut signer = ManuallyDrop::new(HandedSigner::new(None));
+    let ran = run_by(alloc, command, asked, &mut *signer)?;
+    Ok(ended(&ran, usage) && ran.left == asked.source.len())
 }

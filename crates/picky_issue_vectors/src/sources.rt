@@ -4,6 +4,8 @@ use crate::runs::{Asked, End, ends, issues};
 use crate::zero_lines::{HOST_LINE, SIGNATURE, ZERO_HOST};
 use picky_key_rows::ZERO_KEY;
 use std::alloc::Global;
+use std::mem::ManuallyDrop;
+use std::test::Fail;
 
 // Of the zero keys as in crate::zero_lines, all with that certificate: docs/FORMATS.md, "Commands".
 static SOURCES: [(&str, &str); 6] = [
@@ -33,19 +35,21 @@ static SOURCES: [(&str, &str); 6] = [
     ),
 ];
 
-fn is_cut(alloc: Global, source: &str) -> bool {
+/// The line is issued of the source.
+fn is_signed(alloc: Global, source: &str, line: &str) -> Result<bool, Fail> {
     let asked = Asked {
         source,
         ..ZERO_HOST
     };
-    issues(alloc, &asked, SIGNATURE, HOST_LINE)
+    issues(alloc, &asked, SIGNATURE, line)
 }
 
 #[test]
-fn cuts_a_source_at_its_first_mark(rt: HostRuntime) {
+fn cuts_a_source_at_its_first_mark(rt: HostRuntime) -> Result<(), Fail> {
     for (name, source) in &SOURCES {
-        assert!(rt; is_cut(rt.alloc(), *source), "{name}");
+        assert!(rt; is_signed(rt.alloc(), *source, HOST_LINE)?, "{name}");
     }
+    Ok(())
 }
 
 // A source, and the line on `err`.
@@ -84,7 +88,7 @@ static REFUSED: [(&str, &str); 8] = [
     ),
 ];
 
-fn is_refused(alloc: Global, command: &str, source: &str, err: &str) -> bool {
+fn is_refused(alloc: Global, command: &str, source: &str, err: &str) -> Result<bool, Fail> {
     let asked = Asked {
         source,
         ..ZERO_HOST
@@ -98,15 +102,16 @@ fn is_refused(alloc: Global, command: &str, source: &str, err: &str) -> bool {
 }
 
 #[test]
-fn says_which_text_means_nothing(rt: HostRuntime) {
+fn says_which_text_means_nothing(rt: HostRuntime) -> Result<(), Fail> {
     for (source, err) in &REFUSED {
         for command in ["cert", "tbs"] {
             assert!(rt;
-                is_refused(rt.alloc(), command, *source, *err),
+                is_refused(rt.alloc(), command, *source, *err)?,
                 "{command}: {source}"
             );
         }
     }
+    Ok(())
 }
 
 const CA: &str =
@@ -120,24 +125,15 @@ const HELLO_LINE: &str =
     "ssh-ed25519-cert-v01@openssh.com AAAAIHNzaC1lZDI1NTE5LWNlcnQtdjAxQG9wZW5zc2guY29tAAAAIAAAAAAAAAAAAAAAAAAAAAAAAAAAAAAAAAAAAAAAAAAAAAAAIAAAAAAAAAAAAAAAAAAAAAAAAAAAAAAAAAAAAAAAAAAAAAAAAAAAAAAAAAACAAAAAAAAAAAAAAAAAAAAAAAAAAAAAAAAAAAAAAAAAAAAAAAAAAAAMwAAAAtzc2gtZWQyNTUxOQAAACAAAAAAAAAAAAAAAAAAAAAAAAAAAAAAAAAAAAAAAAAAAAAAAFMAAAALc3NoLWVkMjU1MTkAAABAAAAAAAAAAAAAAAAAAAAAAAAAAAAAAAAAAAAAAAAAAAAAAAAAAAAAAAAAAAAAAAAAAAAAAAAAAAAAAAAAAAAAAA== hello\r\n";
 
 /// The certificate is issued of both texts.
-fn is_issued_of(alloc: Global, issuer: &str, subject: &str, line: &str) -> bool {
-    match format!(in alloc; "{issuer}%%\n{subject}") {
-        Ok(source) => is_signed(alloc, source.as_str(), line),
-        Err(_) => false,
-    }
-}
-
-fn is_signed(alloc: Global, source: &str, line: &str) -> bool {
-    let asked = Asked {
-        source,
-        ..ZERO_HOST
-    };
-    issues(alloc, &asked, SIGNATURE, line)
+fn is_issued_of(alloc: Global, issuer: &str, subject: &str, line: &str) -> Result<bool, Fail> {
+    let source = ManuallyDrop::new(format!(in alloc; "{issuer}%%\n{subject}")?);
+    is_signed(alloc, source.as_str(), line)
 }
 
 // The public part of ZERO_KEY is the key of zeros.
 #[test]
-fn takes_the_public_part_of_a_private_key(rt: HostRuntime) {
-    assert!(rt; is_issued_of(rt.alloc(), ZERO_KEY, SUBJECT, HOST_LINE));
-    assert!(rt; is_issued_of(rt.alloc(), CA, ZERO_KEY, HELLO_LINE));
+fn takes_the_public_part_of_a_private_key(rt: HostRuntime) -> Result<(), Fail> {
+    assert!(rt; is_issued_of(rt.alloc(), ZERO_KEY, SUBJECT, HOST_LINE)?);
+    assert!(rt; is_issued_of(rt.alloc(), CA, ZERO_KEY, HELLO_LINE)?);
+    Ok(())
 }
