@@ -1,14 +1,12 @@
 //! Lines converted: what puttygen and ssh-keygen write for the same key.
 
-use crate::runs::{converts, refuses, writes};
-use picky_convert::{ConvertError, Target, convert};
-use picky_key_rows::KEY_ROWS;
+use crate::runs::{answer_for, converts, refuses, writes};
+use picky_convert::{ConvertError, Target};
+use picky_key_rows::{KEY_ROWS, KeyRow};
 use picky_putty_public::PuttyError;
-use picky_suite::{HandedSigner, PlainSuite};
 use picky_wire::Text;
 use std::alloc::Global;
 use std::mem::ManuallyDrop;
-use std::process::Abort;
 use std::test::Fail;
 
 const KEY_WORD: &str = "AAAAC3NzaC1lZDI1NTE5AAAAIPaSiDKIdwa2ceSmAajZPTAKx5U9jncB9LlE67abXQ2F";
@@ -70,96 +68,90 @@ static ZERO_KEYS: [(&str, &str, &str); 4] = [
 ];
 
 /// For the line PuTTY's text with this quoted comment and these rows is written.
-fn converts_to_putty(
-    rt: &impl Abort,
-    alloc: Global,
-    name: &str,
-    line: &str,
-    quoted: &str,
-    rows: &str,
-) -> Result<(), Fail> {
+fn converts_to_putty(alloc: Global, line: &str, quoted: &str, rows: &str) -> Result<bool, Fail> {
     let text = ManuallyDrop::new(format!(in alloc;
         "---- BEGIN SSH2 PUBLIC KEY ----\r\nComment: \"{quoted}\"\r\n{rows}\r\n\
          ---- END SSH2 PUBLIC KEY ----\r\n"
     )?);
-    converts(rt, alloc, name, line, &Target::PuttyPublic, text.as_str())
+    let target = ManuallyDrop::new(Target::PuttyPublic);
+    converts(alloc, line, &target, "putty-pub", text.as_str())
+}
+
+/// So it is for the key and what follows it in the line.
+fn quotes(alloc: Global, comment: &str, quoted: &str) -> Result<bool, Fail> {
+    let line = ManuallyDrop::new(format!(in alloc; "ssh-ed25519 {KEY_WORD}{comment}")?);
+    let rows = "AAAAC3NzaC1lZDI1NTE5AAAAIPaSiDKIdwa2ceSmAajZPTAKx5U9jncB9LlE67ab\r\nXQ2F";
+    converts_to_putty(alloc, line.as_str(), quoted, rows)
 }
 
 #[test]
 fn quotes_a_comment_as_puttygen_does(rt: HostRuntime) -> Result<(), Fail> {
     for (name, comment, quoted) in &COMMENTS {
-        let line = ManuallyDrop::new(format!(in rt.alloc(); "ssh-ed25519 {KEY_WORD}{comment}")?);
-        let rows = "AAAAC3NzaC1lZDI1NTE5AAAAIPaSiDKIdwa2ceSmAajZPTAKx5U9jncB9LlE67ab\r\nXQ2F";
-        converts_to_putty(&rt, rt.alloc(), name, line.as_str(), quoted, rows)?;
+        assert!(rt; quotes(rt.alloc(), comment, quoted)?, "{name}");
     }
+    let rows = "AAAAC3NzaC1lZDI1NTE5AAAAIAAAAAAAAAAAAAAAAAAAAAAAAAAAAAAAAAAAAAAA\r\nAAAA";
     for (name, line, quoted) in &ZERO_KEYS {
-        let rows = "AAAAC3NzaC1lZDI1NTE5AAAAIAAAAAAAAAAAAAAAAAAAAAAAAAAAAAAAAAAAAAAA\r\nAAAA";
-        converts_to_putty(&rt, rt.alloc(), name, line, quoted, rows)?;
+        assert!(rt;
+            converts_to_putty(rt.alloc(), line, quoted, rows)?,
+            "{name}"
+        );
     }
     Ok(())
+}
+
+/// The command `ssh-pub` writes the row's line, with CR LF.
+fn keeps_line(alloc: Global, row: &KeyRow) -> Result<bool, Fail> {
+    let line = ManuallyDrop::new(format!(in alloc; "{}\n", row.line)?);
+    let text = ManuallyDrop::new(format!(in alloc; "{}\r\n", row.line)?);
+    writes(alloc, "ssh-pub", line.as_str(), text.as_str())
 }
 
 #[test]
 fn keeps_the_line_of_ssh_keygen(rt: HostRuntime) -> Result<(), Fail> {
     for row in &KEY_ROWS {
-        let line = ManuallyDrop::new(format!(in rt.alloc(); "{}\n", row.line)?);
-        let text = ManuallyDrop::new(format!(in rt.alloc(); "{}\r\n", row.line)?);
-        writes(
-            &rt,
-            rt.alloc(),
-            row.name,
-            "ssh-pub",
-            line.as_str(),
-            text.as_str(),
-        )?;
+        assert!(rt; keeps_line(rt.alloc(), row)?, "{}", row.name);
     }
     Ok(())
+}
+
+/// The command `putty-pub` writes PuTTYgen's text, or says that PuTTY has none.
+fn writes_putty(alloc: Global, row: &KeyRow) -> Result<bool, Fail> {
+    let line = ManuallyDrop::new(format!(in alloc; "{}\n", row.line)?);
+    let refusal = (1, "keyconv: refused: output.putty.NotSupported\n");
+    match row.putty {
+        Some(text) => writes(alloc, "putty-pub", line.as_str(), text),
+        None => refuses(alloc, "putty-pub", line.as_bytes(), refusal),
+    }
 }
 
 #[test]
 fn writes_the_text_of_puttygen(rt: HostRuntime) -> Result<(), Fail> {
-    let refusal = (1, "keyconv: refused: output.putty.NotSupported\n");
     for row in &KEY_ROWS {
-        let line = ManuallyDrop::new(format!(in rt.alloc(); "{}\n", row.line)?);
-        match row.putty {
-            Some(text) => writes(&rt, rt.alloc(), row.name, "putty-pub", line.as_str(), text)?,
-            None => refuses(
-                &rt,
-                rt.alloc(),
-                row.name,
-                "putty-pub",
-                line.as_bytes(),
-                refusal,
-            )?,
-        }
+        assert!(rt; writes_putty(rt.alloc(), row)?, "{}", row.name);
     }
     Ok(())
 }
 
-fn is_unwritten(alloc: Global, text: &str, target: &Target, wanted: &ConvertError) -> bool {
-    match convert(
-        alloc,
-        &mut PlainSuite::new(),
-        &mut HandedSigner::new(None),
-        text,
-        None,
-        target,
-        None,
-        &[],
-    ) {
-        Ok(_) => false,
-        Err(why) => why == *wanted,
+/// The call refuses PuTTY's text for the line as that of a key of a device.
+fn is_lacked(alloc: Global, line: &str) -> Result<bool, Fail> {
+    let wanted = ManuallyDrop::new(ConvertError::Putty(PuttyError::NotSupported {
+        feature: Text::new(alloc, "SK keys")?,
+    }));
+    let target = ManuallyDrop::new(Target::PuttyPublic);
+    match &*answer_for(alloc, line, &target) {
+        Ok(_) => Ok(false),
+        Err(why) => Ok(*why == *wanted),
     }
 }
 
 #[test]
 fn has_no_putty_text_for_a_device(rt: HostRuntime) -> Result<(), Fail> {
-    let wanted = ManuallyDrop::new(ConvertError::Putty(PuttyError::NotSupported {
-        feature: Text::new(rt.alloc(), "SK keys")?,
-    }));
     for row in &KEY_ROWS {
-        let is_lacked = is_unwritten(rt.alloc(), row.line, &Target::PuttyPublic, &wanted);
-        assert_eq!(rt; is_lacked, row.putty.is_none(), "{}", row.name);
+        assert!(rt;
+            is_lacked(rt.alloc(), row.line)? == row.putty.is_none(),
+            "{}",
+            row.name
+        );
     }
     Ok(())
 }

@@ -110,24 +110,22 @@ static LINES: [(&str, &str, &str); 17] = [
 
 /// The line is read alike as a text and from a source, copied, and written again.
 fn is_kept(alloc: Global, line: &str) -> Result<bool, Fail> {
-    let key = SshPublicKey::from_str(alloc, line)?;
-    Ok(
-        is_taken(alloc, line, &key)?
-            && key.try_clone(alloc)? == key
-            && is_printed(alloc, &key, line)?,
-    )
+    let key = ManuallyDrop::new(SshPublicKey::from_str(alloc, line)?);
+    let copy = ManuallyDrop::new(key.try_clone(alloc)?);
+    Ok(is_taken(alloc, line, &key)? && *copy == *key && is_printed(alloc, &key, line)?)
 }
 
 /// The line is taken from a source as the key.
 fn is_taken(alloc: Global, line: &str, key: &SshPublicKey) -> Result<bool, Fail> {
-    let mut source = MemorySource::new(alloc, line.as_bytes(), 7, &[])?;
-    let made = ManuallyDrop::new(SshPublicKey::decode(alloc, &mut source)?);
+    let mut source = ManuallyDrop::new(MemorySource::new(alloc, line.as_bytes(), 7, &[])?);
+    let made = ManuallyDrop::new(SshPublicKey::decode(alloc, &mut *source)?);
     Ok(*made == *key)
 }
 
 /// The line is written for the key, and CR LF after it.
 fn is_printed(alloc: Global, key: &SshPublicKey, line: &str) -> Result<bool, SshPublicKeyError> {
-    Ok(key.to_string(alloc)?.as_str().strip_suffix("\r\n") == Some(line))
+    let text = ManuallyDrop::new(key.to_string(alloc)?);
+    Ok(text.as_str().strip_suffix("\r\n") == Some(line))
 }
 
 #[test]
@@ -138,47 +136,54 @@ fn reads_the_lines_of_ssh_keygen(rt: HostRuntime) -> Result<(), Fail> {
     Ok(())
 }
 
-/// The line is read, and written so, also to a sink.
+/// The line is read, and written so, also to a sink, by the call and by the command.
 fn is_written(alloc: Global, line: &str, text: &str) -> Result<bool, Fail> {
     let key = ManuallyDrop::new(SshPublicKey::from_str(alloc, line)?);
-    Ok(key.to_string(alloc)?.as_str() == text && is_encoded(alloc, &key, text)?)
+    let target = ManuallyDrop::new(Target::OpenSshPublic);
+    Ok(is_text_of(alloc, &key, text)? && converts(alloc, line, &target, "ssh-pub", text)?)
 }
 
-fn is_encoded(alloc: Global, key: &SshPublicKey, text: &str) -> Result<bool, Fail> {
-    let mut sink = MemorySink::new(alloc, 999, 7, &[])?;
-    key.encode(alloc, &mut sink)?;
-    Ok(sink.written() == text.as_bytes())
+fn is_text_of(alloc: Global, key: &SshPublicKey, text: &str) -> Result<bool, Fail> {
+    let made = ManuallyDrop::new(key.to_string(alloc)?);
+    let mut sink = ManuallyDrop::new(MemorySink::new(alloc, 999, 7, &[])?);
+    key.encode(alloc, &mut *sink)?;
+    Ok(made.as_str() == text && sink.written() == text.as_bytes())
 }
 
 #[test]
 fn writes_the_canonical_line(rt: HostRuntime) -> Result<(), Fail> {
     for (name, line, text) in &LINES {
-        assert!(rt; is_written(rt.alloc(), *line, *text)?, "{name}");
-        converts(&rt, rt.alloc(), name, line, &Target::OpenSshPublic, text)?;
+        assert!(rt; is_written(rt.alloc(), line, text)?, "{name}");
     }
     Ok(())
 }
 
+// The name, bytes that begin with a line, why it is refused where it is, and what is left.
+static FIRST_LINES: [(&str, &[u8], Option<SshPublicKeyError>, &[u8]); 2] = [
+    (
+        "CR LF",
+        b"ssh-ed25519 AAAAC3NzaC1lZDI1NTE5AAAAIIW5ErFsW9CIpb/ceM1WtA5ZFaU4t08o4uVN3ER9qDA9 me\r\nmore",
+        None,
+        b"\nmore",
+    ),
+    (
+        "not UTF-8",
+        b"ssh-ed25519 AAAAC3NzaC1lZDI1NTE5AAAAIIW5ErFsW9CIpb/ceM1WtA5ZFaU4t08o4uVN3ER9qDA9 \xc3(\nmore",
+        Some(SshPublicKeyError::InvalidUtf8),
+        b"more",
+    ),
+];
+
 /// The bytes begin with a line that is read or refused so, and this is left.
-fn leaves(alloc: Global, bytes: &[u8], why: Option<SshPublicKeyError>, left: &[u8]) -> bool {
+fn leaves(alloc: Global, bytes: &[u8], why: &Option<SshPublicKeyError>, left: &[u8]) -> bool {
     let mut source = SliceSource::new(bytes);
-    let read = SshPublicKey::decode(alloc, &mut source).err();
-    read == why && source.rest() == left
+    let refusal = ManuallyDrop::new(SshPublicKey::decode(alloc, &mut source).err());
+    *refusal == *why && source.rest() == left
 }
 
 #[test]
 fn takes_one_line_of_a_source(rt: HostRuntime) {
-    let two =
-        b"ssh-ed25519 AAAAC3NzaC1lZDI1NTE5AAAAIIW5ErFsW9CIpb/ceM1WtA5ZFaU4t08o4uVN3ER9qDA9 me\r\nmore";
-    assert!(rt; leaves(rt.alloc(), two, None, b"\nmore"));
-    let bad =
-        b"ssh-ed25519 AAAAC3NzaC1lZDI1NTE5AAAAIIW5ErFsW9CIpb/ceM1WtA5ZFaU4t08o4uVN3ER9qDA9 \xc3(\nmore";
-    assert!(rt;
-        leaves(
-            rt.alloc(),
-            bad,
-            Some(SshPublicKeyError::InvalidUtf8),
-            b"more"
-        )
-    );
+    for (name, bytes, why, left) in &FIRST_LINES {
+        assert!(rt; leaves(rt.alloc(), bytes, why, left), "{name}");
+    }
 }

@@ -1,11 +1,11 @@
 //! A block of PuTTY's private key files has at most 65,535 lines of 64 characters.
 
 use crate::private_conversions::envelope_of;
-use crate::runs::{Ran, ended, run_on};
+use crate::runs::{End, Ran, ended, run_on};
 use picky_convert::Status;
 use picky_ppk::{PpkFile, PpkKeyAlgorithm, PpkSealing, PpkVersion, PuttyError};
 use picky_sshkey::{SshBasePrivateKey, SshPrivateKey};
-use picky_wire::{Bytes, Mpint, SliceSource, Text};
+use picky_wire::{Bytes, Mpint, SizeError, SliceSource, Text};
 use std::alloc::{AllocError, Global};
 use std::mem::ManuallyDrop;
 use std::test::Fail;
@@ -51,7 +51,11 @@ fn is_written(alloc: Global) -> Result<bool, Fail> {
 
 fn is_refused(alloc: Global) -> Result<bool, Fail> {
     let file = ManuallyDrop::new(file_with(alloc, MOST + 1)?);
-    Ok(file.to_string(alloc).err() == Some(PuttyError::TooManyLines))
+    let wanted = ManuallyDrop::new(PuttyError::TooManyLines);
+    match &*ManuallyDrop::new(file.to_string(alloc)) {
+        Ok(_) => Ok(false),
+        Err(why) => Ok(*why == *wanted),
+    }
 }
 
 #[test]
@@ -61,22 +65,33 @@ fn writes_65535_lines_and_no_more(rt: HostRuntime) -> Result<(), Fail> {
     Ok(())
 }
 
+fn number(alloc: Global, bytes: &[u8]) -> Result<ManuallyDrop<Mpint>, SizeError> {
+    Ok(ManuallyDrop::new(Mpint::from_be(alloc, bytes)?))
+}
+
 /// An RSA key whose modulus has so many bytes, the first of them 1, and whose other numbers but `e` are 1.
 fn rsa_with(alloc: Global, len: u32) -> Result<SshBasePrivateKey, Fail> {
+    let ones = Vec::from_elem(alloc, 1, len as usize)?;
+    let n = ManuallyDrop::new(Mpint::from_vec(ones)?);
+    let e = number(alloc, &[1, 0, 1])?;
+    let d = number(alloc, &[1])?;
+    let iqmp = number(alloc, &[1])?;
+    let p = number(alloc, &[1])?;
+    let q = number(alloc, &[1])?;
     Ok(SshBasePrivateKey::Rsa {
-        n: Mpint::from_vec(Vec::from_elem(alloc, 1, len as usize)?)?,
-        e: Mpint::from_be(alloc, &[1, 0, 1])?,
-        d: Mpint::from_be(alloc, &[1])?,
-        iqmp: Mpint::from_be(alloc, &[1])?,
-        p: Mpint::from_be(alloc, &[1])?,
-        q: Mpint::from_be(alloc, &[1])?,
+        n: ManuallyDrop::into_inner(n),
+        e: ManuallyDrop::into_inner(e),
+        d: ManuallyDrop::into_inner(d),
+        iqmp: ManuallyDrop::into_inner(iqmp),
+        p: ManuallyDrop::into_inner(p),
+        q: ManuallyDrop::into_inner(q),
     })
 }
 
 /// The OpenSSH private key's text of that key.
 fn envelope_with(alloc: Global, len: u32) -> Result<Text, Fail> {
     let base = rsa_with(alloc, len)?;
-    let key = SshPrivateKey::from_base(alloc, base, None, "", &[0; 16])?;
+    let key = ManuallyDrop::new(SshPrivateKey::from_base(alloc, base, None, "", &[0; 16])?);
     envelope_of(alloc, &key)
 }
 
@@ -84,17 +99,23 @@ fn envelope_with(alloc: Global, len: u32) -> Result<Text, Fail> {
 fn run_with(alloc: Global, len: u32) -> Result<Ran, Fail> {
     let text = ManuallyDrop::new(envelope_with(alloc, len)?);
     let mut source = SliceSource::new(text.as_str().as_bytes());
-    run_on(alloc, &["ppk3"], &mut source, ROOM, 999)
+    run_on(alloc, &["ppk3"], &mut source, (ROOM, 999))
 }
 
 fn is_converted(alloc: Global) -> Result<bool, Fail> {
-    let ran = ManuallyDrop::new(run_with(alloc, MOST - 22)?);
-    Ok(ran.status == Status::Done && ran.out.written().starts_with(HEAD.as_bytes()))
+    let ran = run_with(alloc, MOST - 22)?;
+    let done = ManuallyDrop::new(Status::Done);
+    Ok(*ran.status == *done && ran.out.written().starts_with(HEAD.as_bytes()))
 }
 
 fn is_not_converted(alloc: Global) -> Result<bool, Fail> {
-    let ran = ManuallyDrop::new(run_with(alloc, MOST - 21)?);
-    Ok(ended(&ran, 1, b"", "keyconv: refused: TooManyLines\n"))
+    let ran = run_with(alloc, MOST - 21)?;
+    let end = End {
+        code: 1,
+        out: b"",
+        err: "keyconv: refused: TooManyLines\n",
+    };
+    Ok(ended(&ran, end))
 }
 
 // The blob's name, e and the length of n take 11, 7 and 4 bytes.

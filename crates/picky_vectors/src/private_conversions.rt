@@ -1,6 +1,6 @@
 //! Private keys converted by a run: between OpenSSH's and PuTTY's forms, and refused.
 
-use crate::runs::{ended, run_on, written_text};
+use crate::runs::{End, ends, run_on, written_text};
 use picky_key_rows::{
     ENDS_IN_CR, PPK_ROWS, PRIVATE_ROWS, PpkRow, PrivateRow, SECRET_ROWS, SecretRow, V2, VERSIONS,
     ZERO_KEY, ZERO_TEXT, secret_text_of, text_of,
@@ -26,22 +26,29 @@ fn word_of(version: PpkVersion) -> &'static str {
 /// The command writes the text for the input.
 pub fn writes(alloc: Global, command: &str, input: &str, text: &str) -> Result<bool, Fail> {
     let mut source = SliceSource::new(input.as_bytes());
-    let ran = ManuallyDrop::new(run_on(alloc, &[command], &mut source, ROOM, 999)?);
-    Ok(ended(&ran, 0, text.as_bytes(), ""))
+    let end = End {
+        code: 0,
+        out: text.as_bytes(),
+        err: "",
+    };
+    ends(alloc, command, &mut source, (ROOM, 999), end)
 }
 
 /// The command refuses the input so.
 pub fn refuses(alloc: Global, command: &str, input: &str, line: &str) -> Result<bool, Fail> {
     let mut source = SliceSource::new(input.as_bytes());
-    let ran = ManuallyDrop::new(run_on(alloc, &[command], &mut source, ROOM, 999)?);
-    Ok(ended(&ran, 1, b"", line))
+    let end = End {
+        code: 1,
+        out: b"",
+        err: line,
+    };
+    ends(alloc, command, &mut source, (ROOM, 999), end)
 }
 
 /// What the command writes for the input.
 fn written(alloc: Global, command: &str, input: &str) -> Result<String, Fail> {
     let mut source = SliceSource::new(input.as_bytes());
-    let ran = ManuallyDrop::new(run_on(alloc, &[command], &mut source, ROOM, 999)?);
-    written_text(alloc, &ran)
+    written_text(alloc, &run_on(alloc, &[command], &mut source, (ROOM, 999))?)
 }
 
 /// OpenSSH's text becomes PuTTYgen's, and that becomes what OpenSSH's text is written as.

@@ -1,6 +1,7 @@
 //! What is printed for an input that is refused.
 
 use crate::runs::{COMMANDS, Refusal, refuses};
+use std::alloc::Global;
 use std::mem::ManuallyDrop;
 use std::test::Fail;
 
@@ -221,15 +222,26 @@ static BODIES: [(&str, &str, Refusal); 23] = [
     ),
 ];
 
+/// The line with this second word is refused so.
+fn refuses_body(alloc: Global, command: &str, body: &str, refusal: Refusal) -> Result<bool, Fail> {
+    let line = ManuallyDrop::new(format!(in alloc; "ssh-ed25519 {body} k\n")?);
+    refuses(alloc, command, line.as_bytes(), refusal)
+}
+
 #[test]
 fn refuses_with_the_cause_printed(rt: HostRuntime) -> Result<(), Fail> {
     for command in COMMANDS {
         for (name, input, refusal) in &INPUTS {
-            refuses(&rt, rt.alloc(), name, command, input, *refusal)?;
+            assert!(rt;
+                refuses(rt.alloc(), command, input, *refusal)?,
+                "{command}: {name}"
+            );
         }
         for (name, body, refusal) in &BODIES {
-            let line = ManuallyDrop::new(format!(in rt.alloc(); "ssh-ed25519 {body} k\n")?);
-            refuses(&rt, rt.alloc(), name, command, line.as_bytes(), *refusal)?;
+            assert!(rt;
+                refuses_body(rt.alloc(), command, body, *refusal)?,
+                "{command}: {name}"
+            );
         }
     }
     Ok(())

@@ -1,23 +1,21 @@
 //! Runs of the program over streams in memory.
 
-use picky_convert::{Status, Target, convert, run};
-use picky_ppk::PpkVersion;
+use picky_convert::{ConvertError, Status, Target, convert, run};
 use picky_suite::{HandedSigner, PlainSuite, Suite};
 use picky_wire::{MemorySink, SliceSource, Source, Text};
 use std::alloc::Global;
 use std::mem::ManuallyDrop;
-use std::process::Abort;
 use std::test::Fail;
 
 /// The words that name a command.
 pub const COMMANDS: [&str; 3] = ["ssh-pub", "putty-pub", "fingerprint"];
 
-/// How a run ended, and what it wrote.
+/// How a run ended, and what it wrote. Nothing of it is dropped.
 #[derive(Drop)]
 pub struct Ran {
-    pub status: Status,
-    pub out: MemorySink,
-    pub err: MemorySink,
+    pub status: ManuallyDrop<Status>,
+    pub out: ManuallyDrop<MemorySink>,
+    pub err: ManuallyDrop<MemorySink>,
 }
 
 /// What a run is given beside its words and devices.
@@ -39,17 +37,18 @@ pub fn run_on<S: Source>(
     alloc: Global,
     words: &[&str],
     source: &mut S,
-    room: usize,
-    err_room: usize,
+    rooms: (usize, usize),
 ) -> Result<Ran, Fail> {
-    run_given(
-        alloc,
-        words,
-        NOTHING,
-        &mut PlainSuite::new(),
-        source,
-        (room, err_room),
-    )
+    let mut suite = PlainSuite::new();
+    run_given(alloc, words, NOTHING, &mut suite, source, rooms)
+}
+
+fn texts_of(alloc: Global, words: &[&str]) -> Result<Vec<Text>, Fail> {
+    let mut texts = ManuallyDrop::new(Vec::new(alloc));
+    for word in words {
+        texts.push(Text::new(alloc, word)?)?;
+    }
+    Ok(ManuallyDrop::into_inner(texts))
 }
 
 /// The same with passphrases, fresh bytes and a suite. No device signs.
@@ -62,32 +61,49 @@ pub fn run_given<P: Suite, S: Source>(
     rooms: (usize, usize),
 ) -> Result<Ran, Fail> {
     let (room, err_room) = rooms;
-    let mut texts = Vec::new(alloc);
-    for word in words {
-        texts.push(Text::new(alloc, word)?)?;
-    }
-    let mut out = MemorySink::new(alloc, room, 64, &[])?;
-    let mut err = MemorySink::new(alloc, err_room, 64, &[])?;
-    let status = run(
+    let texts = ManuallyDrop::new(texts_of(alloc, words)?);
+    let mut out = ManuallyDrop::new(MemorySink::new(alloc, room, 64, &[])?);
+    let mut err = ManuallyDrop::new(MemorySink::new(alloc, err_room, 64, &[])?);
+    let mut signer = ManuallyDrop::new(HandedSigner::new(None));
+    let status = ManuallyDrop::new(run(
         alloc,
         texts.as_slice(),
         given.pass_in,
         given.pass_out,
         given.fresh,
         suite,
-        &mut HandedSigner::new(None),
+        &mut *signer,
         source,
-        &mut out,
-        &mut err,
-    );
+        &mut *out,
+        &mut *err,
+    ));
     Ok(Ran { status, out, err })
 }
 
-/// Whether the run ended with this exit code, and wrote this to `out` and to `err`.
-pub fn ended(ran: &Ran, code: u8, out: &[u8], err: &str) -> bool {
-    ran.status.exit_code() == code
-        && ran.out.written() == out
-        && ran.err.written() == err.as_bytes()
+/// How a run ends: its exit code, and what it writes to `out` and to `err`.
+#[derive(Clone, Copy)]
+pub struct End<'a> {
+    pub code: u8,
+    pub out: &'a [u8],
+    pub err: &'a str,
+}
+
+/// Whether the run ended so.
+pub fn ended(ran: &Ran, end: End<'_>) -> bool {
+    ran.status.exit_code() == end.code
+        && ran.out.written() == end.out
+        && ran.err.written() == end.err.as_bytes()
+}
+
+/// The command over the source, where `out` and `err` have so much room, ends so.
+pub fn ends<S: Source>(
+    alloc: Global,
+    command: &str,
+    source: &mut S,
+    rooms: (usize, usize),
+    end: End<'_>,
+) -> Result<bool, Fail> {
+    Ok(ended(&run_on(alloc, &[command], source, rooms)?, end))
 }
 
 /// The text that a run wrote, or none where it isn't one.
@@ -99,68 +115,66 @@ pub fn written_text(alloc: Global, ran: &Ran) -> Result<String, Fail> {
 }
 
 /// The command writes this text for the input, and nothing on `err`.
-pub fn writes(
-    rt: &impl Abort,
-    alloc: Global,
-    name: &str,
-    command: &str,
-    input: &str,
-    text: &str,
-) -> Result<(), Fail> {
+pub fn writes(alloc: Global, command: &str, input: &str, text: &str) -> Result<bool, Fail> {
     let mut source = SliceSource::new(input.as_bytes());
-    let end = ManuallyDrop::new(run_on(alloc, &[command], &mut source, 999, 999)?);
-    assert!(rt; ended(&end, 0, text.as_bytes(), ""), "{command}: {name}");
-    Ok(())
+    let end = End {
+        code: 0,
+        out: text.as_bytes(),
+        err: "",
+    };
+    ends(alloc, command, &mut source, (999, 999), end)
 }
 
 /// An exit code, and the line on `err`.
 pub type Refusal = (u8, &'static str);
 
 /// The command refuses the input so, and alike where `err` takes nothing.
-pub fn refuses(
-    rt: &impl Abort,
-    alloc: Global,
-    name: &str,
-    command: &str,
-    input: &[u8],
-    refusal: Refusal,
-) -> Result<(), Fail> {
-    let (code, line) = refusal;
-    for (err_room, printed) in [(999, line), (0, "")] {
-        let mut source = SliceSource::new(input);
-        let end = ManuallyDrop::new(run_on(alloc, &[command], &mut source, 999, err_room)?);
-        assert!(rt; ended(&end, code, b"", printed), "{command}: {name}");
-    }
-    Ok(())
+pub fn refuses(alloc: Global, command: &str, input: &[u8], refusal: Refusal) -> Result<bool, Fail> {
+    let (code, err) = refusal;
+    let end = End {
+        code,
+        out: b"",
+        err,
+    };
+    let unsaid = End { err: "", ..end };
+    let mut source = SliceSource::new(input);
+    let mut again = SliceSource::new(input);
+    Ok(
+        ends(alloc, command, &mut source, (999, 999), end)?
+            && ends(alloc, command, &mut again, (999, 0), unsaid)?,
+    )
 }
 
-/// The call and the command write this text for the line.
-pub fn converts(
-    rt: &impl Abort,
+/// What the call answers for the line.
+pub fn answer_for(
     alloc: Global,
-    name: &str,
     line: &str,
     target: &Target,
-    text: &str,
-) -> Result<(), Fail> {
-    let answer = ManuallyDrop::new(convert(
+) -> ManuallyDrop<Result<Text, ConvertError>> {
+    let mut signer = ManuallyDrop::new(HandedSigner::new(None));
+    ManuallyDrop::new(convert(
         alloc,
         &mut PlainSuite::new(),
-        &mut HandedSigner::new(None),
+        &mut *signer,
         line,
         None,
         target,
         None,
         &[],
-    )?);
-    assert_eq!(rt; answer.as_str(), text, "{name}");
-    let command = match target {
-        Target::OpenSsh => "openssh",
-        Target::Ppk(PpkVersion::V2, _) => "ppk2",
-        Target::Ppk(PpkVersion::V3, _) => "ppk3",
-        Target::OpenSshPublic => "ssh-pub",
-        Target::PuttyPublic => "putty-pub",
-        Target::Certificate(_) => "cert",
+    ))
+}
+
+/// The call and the target's command write this text for the line.
+pub fn converts(
+    alloc: Global,
+    line: &str,
+    target: &Target,
+    command: &str,
+    text: &str,
+) -> Result<bool, Fail> {
+    let is_answered = match &*answer_for(alloc, line, target) {
+        Ok(answer) => answer.as_str() == text,
+        Err(_) => false,
     };
-    writes(rt, alloc, name, command, line, text)
+    Ok(is_answered && writes(alloc, command, line, text)?)
 }

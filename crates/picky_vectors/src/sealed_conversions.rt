@@ -1,7 +1,7 @@
 //! Private keys that a run seals and opens, by the suite for tests and by one that fails.
 
 use crate::private_conversions::{ROOM, secret_envelope};
-use crate::runs::{Given, NOTHING, Ran, ended, run_given, written_text};
+use crate::runs::{End, Given, NOTHING, Ran, ended, run_given, written_text};
 use picky_key_rows::{HIGH, PASS, TOY_V3, ZERO_KEY, ZERO_TEXT};
 use picky_suite::{MemorySuite, PlainSuite};
 use picky_wire::SliceSource;
@@ -20,13 +20,13 @@ fn run_over(
     given: Given<'_>,
     failing: &[u64],
 ) -> Result<Ran, Fail> {
-    let mut suite = MemorySuite::new(alloc, failing)?;
+    let mut suite = ManuallyDrop::new(MemorySuite::new(alloc, failing)?);
     let mut source = SliceSource::new(input.as_bytes());
     run_given(
         alloc,
         &[command],
         given,
-        &mut suite,
+        &mut *suite,
         &mut source,
         (ROOM, 999),
     )
@@ -41,13 +41,9 @@ fn ends_over(
     failing: &[u64],
     end: (u8, &str),
 ) -> Result<bool, Fail> {
-    let ran = ManuallyDrop::new(run_over(alloc, command, input, given, failing)?);
-    Ok(says(&ran, end))
-}
-
-fn says(ran: &Ran, end: (u8, &str)) -> bool {
     let (code, line) = end;
-    ran.status.exit_code() == code && ran.err.written() == line.as_bytes()
+    let ran = run_over(alloc, command, input, given, failing)?;
+    Ok(ran.status.exit_code() == code && ran.err.written() == line.as_bytes())
 }
 
 /// What the command writes for the input under the passphrase `p`.
@@ -57,8 +53,7 @@ fn sealed(alloc: Global, command: &str, input: &str, fresh: &[u8]) -> Result<Str
         pass_out: Some("p"),
         fresh,
     };
-    let ran = ManuallyDrop::new(run_over(alloc, command, input, given, &[])?);
-    written_text(alloc, &ran)
+    written_text(alloc, &run_over(alloc, command, input, given, &[])?)
 }
 
 /// The sealed text opens under its passphrase alone, and the suite's fault stands in its place.
@@ -245,8 +240,13 @@ fn writes_over(
     failing: &[u64],
     text: &str,
 ) -> Result<bool, Fail> {
-    let ran = ManuallyDrop::new(run_over(alloc, command, input, given, failing)?);
-    Ok(ended(&ran, 0, text.as_bytes(), ""))
+    let ran = run_over(alloc, command, input, given, failing)?;
+    let end = End {
+        code: 0,
+        out: text.as_bytes(),
+        err: "",
+    };
+    Ok(ended(&ran, end))
 }
 
 // base64.b64encode(bytes(17)) in place of the file's 48 private bytes; the MAC isn't looked at.
@@ -270,28 +270,39 @@ fn opens_whole_blocks(rt: HostRuntime) -> Result<(), Fail> {
     Ok(())
 }
 
-/// Over a suite that has no ciphers, and alike where `err` takes nothing.
+/// Over a suite that has no ciphers, where `err` has so much room, the run fails with this line.
+fn fails_with(
+    alloc: Global,
+    command: &str,
+    input: &str,
+    given: Given<'_>,
+    err_room: usize,
+    line: &str,
+) -> Result<bool, Fail> {
+    let mut suite = PlainSuite::new();
+    let mut source = SliceSource::new(input.as_bytes());
+    let rooms = (ROOM, err_room);
+    let ran = run_given(alloc, &[command], given, &mut suite, &mut source, rooms)?;
+    let end = End {
+        code: 5,
+        out: b"",
+        err: line,
+    };
+    Ok(ended(&ran, end))
+}
+
+/// So it does, and alike where `err` takes nothing.
 fn fails_over_none(
     alloc: Global,
     command: &str,
     input: &str,
     given: Given<'_>,
 ) -> Result<bool, Fail> {
-    for (err_room, line) in [(999, "keyconv: outside fault\n"), (0, "")] {
-        let mut source = SliceSource::new(input.as_bytes());
-        let ran = ManuallyDrop::new(run_given(
-            alloc,
-            &[command],
-            given,
-            &mut PlainSuite::new(),
-            &mut source,
-            (ROOM, err_room),
-        )?);
-        if !ended(&ran, 5, b"", line) {
-            return Ok(false);
-        }
-    }
-    Ok(true)
+    let line = "keyconv: outside fault\n";
+    Ok(
+        fails_with(alloc, command, input, given, 999, line)?
+            && fails_with(alloc, command, input, given, 0, "")?,
+    )
 }
 
 fn has_no_cipher(alloc: Global, command: &str) -> Result<bool, Fail> {

@@ -1,12 +1,12 @@
 //! How a run ends: its status, its line on standard error, and what devices that fail make of both.
 
-use crate::runs::{ended, run_on};
+use crate::runs::{End, ended, ends, run_on};
 use picky_cert_builder::SshCertificateGenerationError;
 use picky_cert_parts::SshCertificateError;
 use picky_convert::{ConvertError, ReadError, Status, word};
 use picky_putty_public::PuttyError;
 use picky_sshpub::SshPublicKeyError;
-use picky_wire::{MemorySource, SliceSource, Source};
+use picky_wire::{MemorySource, SliceSource};
 use std::alloc::Global;
 use std::mem::ManuallyDrop;
 use std::test::Fail;
@@ -150,79 +150,63 @@ fn says(status: &Status, line: &str) -> bool {
 
 #[test]
 fn prints_a_line_for_each_status(rt: HostRuntime) {
-    for (status, code, line) in &REPORTS {
+    let reports = ManuallyDrop::new(REPORTS);
+    for (status, code, line) in &*reports {
         assert!(rt; says(status, line), "{line}");
         assert_eq!(rt; status.exit_code(), *code, "{line}");
     }
 }
 
-/// The words get the usage line, and nothing is read; alike where `err` takes nothing.
-fn is_usage(alloc: Global, words: &[&str]) -> Result<bool, Fail> {
-    for (err_room, line) in [(400, USAGE), (0, "")] {
-        let mut source = SliceSource::new(FIRST_LINE.as_bytes());
-        let end = ManuallyDrop::new(run_on(alloc, words, &mut source, 400, err_room)?);
-        if !ended(&end, 2, b"", line) || source.rest() != FIRST_LINE.as_bytes() {
-            return Ok(false);
-        }
-    }
-    Ok(true)
+/// The words get this line where `err` has so much room, and nothing is read.
+fn is_usage(alloc: Global, words: &[&str], err_room: usize, line: &str) -> Result<bool, Fail> {
+    let mut source = SliceSource::new(FIRST_LINE.as_bytes());
+    let ran = run_on(alloc, words, &mut source, (400, err_room))?;
+    let end = End {
+        code: 2,
+        out: b"",
+        err: line,
+    };
+    Ok(ended(&ran, end) && source.rest() == FIRST_LINE.as_bytes())
 }
 
 #[test]
 fn answers_usage(rt: HostRuntime) -> Result<(), Fail> {
     for words in &NO_COMMANDS {
-        assert!(rt; is_usage(rt.alloc(), words)?, "{words:?}");
+        assert!(rt;
+            is_usage(rt.alloc(), words, 400, USAGE)? && is_usage(rt.alloc(), words, 0, "")?,
+            "{words:?}"
+        );
     }
     Ok(())
 }
 
-/// How a run ends: its exit code, and what it writes to `out` and to `err`.
-#[derive(Clone, Copy)]
-struct End<'a> {
-    code: u8,
-    out: &'a [u8],
-    err: &'a str,
-}
-
-/// The command over the source, where `out` has so much room, ends so.
-fn ends<S: Source>(
-    alloc: Global,
-    command: &str,
-    source: &mut S,
-    room: usize,
-    end: End<'_>,
-) -> Result<bool, Fail> {
-    let ran = ManuallyDrop::new(run_on(alloc, &[command], source, room, 400)?);
-    Ok(ended(&ran, end.code, end.out, end.err))
-}
-
-/// It ends so, but for its line, where `err` takes nothing.
-fn ends_unsaid<S: Source>(
-    alloc: Global,
-    command: &str,
-    source: &mut S,
-    room: usize,
-    end: End<'_>,
-) -> Result<bool, Fail> {
-    let ran = ManuallyDrop::new(run_on(alloc, &[command], source, room, 0)?);
-    Ok(ended(&ran, end.code, end.out, ""))
-}
-
 // So many bytes, the first line in front.
 fn first_line_within(alloc: Global, len: usize) -> Result<Vec<u8>, Fail> {
-    let mut input = Vec::from_slice(alloc, FIRST_LINE.as_bytes())?;
+    let mut input = ManuallyDrop::new(Vec::from_slice(alloc, FIRST_LINE.as_bytes())?);
     input.resize(len, b'x')?;
-    Ok(input)
+    Ok(ManuallyDrop::into_inner(input))
+}
+
+/// The command over the text, where `out` has so much room, ends so, and alike but for its line where `err` takes nothing.
+fn ends_within(
+    alloc: Global,
+    command: &str,
+    input: &[u8],
+    room: usize,
+    end: End<'_>,
+) -> Result<bool, Fail> {
+    let unsaid = End { err: "", ..end };
+    let mut source = SliceSource::new(input);
+    let mut again = SliceSource::new(input);
+    Ok(
+        ends(alloc, command, &mut source, (room, 400), end)?
+            && ends(alloc, command, &mut again, (room, 0), unsaid)?,
+    )
 }
 
 fn ends_over(alloc: Global, command: &str, len: usize, end: End<'_>) -> Result<bool, Fail> {
     let input = ManuallyDrop::new(first_line_within(alloc, len)?);
-    let mut source = SliceSource::new(input.as_slice());
-    let mut again = SliceSource::new(input.as_slice());
-    Ok(
-        ends(alloc, command, &mut source, 400, end)?
-            && ends_unsaid(alloc, command, &mut again, 400, end)?,
-    )
+    ends_within(alloc, command, input.as_slice(), 400, end)
 }
 
 #[test]
@@ -251,11 +235,13 @@ fn takes_16_mib_and_no_more(rt: HostRuntime) -> Result<(), Fail> {
 }
 
 fn ends_at(alloc: Global, command: &str, call: u64, end: End<'_>) -> Result<bool, Fail> {
-    let mut source = MemorySource::new(alloc, FIRST_LINE.as_bytes(), 7, &[call])?;
-    let mut again = MemorySource::new(alloc, FIRST_LINE.as_bytes(), 7, &[call])?;
+    let line = FIRST_LINE.as_bytes();
+    let unsaid = End { err: "", ..end };
+    let mut source = ManuallyDrop::new(MemorySource::new(alloc, line, 7, &[call])?);
+    let mut again = ManuallyDrop::new(MemorySource::new(alloc, line, 7, &[call])?);
     Ok(
-        ends(alloc, command, &mut source, 400, end)?
-            && ends_unsaid(alloc, command, &mut again, 400, end)?,
+        ends(alloc, command, &mut *source, (400, 400), end)?
+            && ends(alloc, command, &mut *again, (400, 0), unsaid)?,
     )
 }
 
@@ -286,15 +272,6 @@ fn says_that_the_source_failed(rt: HostRuntime) -> Result<(), Fail> {
     Ok(())
 }
 
-fn ends_within(alloc: Global, command: &str, room: usize, end: End<'_>) -> Result<bool, Fail> {
-    let mut source = SliceSource::new(FIRST_LINE.as_bytes());
-    let mut again = SliceSource::new(FIRST_LINE.as_bytes());
-    Ok(
-        ends(alloc, command, &mut source, room, end)?
-            && ends_unsaid(alloc, command, &mut again, room, end)?,
-    )
-}
-
 #[test]
 fn says_that_out_failed(rt: HostRuntime) -> Result<(), Fail> {
     for (command, text) in &FIRST_TEXTS {
@@ -306,7 +283,7 @@ fn says_that_out_failed(rt: HostRuntime) -> Result<(), Fail> {
                 err: "keyconv: write fault\n",
             };
             assert!(rt;
-                ends_within(rt.alloc(), *command, room, end)?,
+                ends_within(rt.alloc(), *command, FIRST_LINE.as_bytes(), room, end)?,
                 "{command}: room {room}"
             );
         }
