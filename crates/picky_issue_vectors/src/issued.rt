@@ -6,6 +6,7 @@ use crate::zero_lines::{
 };
 use picky_cert::{CertView, SshCertificate};
 use picky_text::decode;
+use picky_wire::Bytes;
 use std::alloc::Global;
 use std::mem::ManuallyDrop;
 use std::test::Fail;
@@ -138,15 +139,18 @@ fn long_command() -> &'static IssuedRow {
 }
 
 /// The bytes of the second word of a line, where it is base64.
-pub fn blob_of(alloc: Global, line: &str) -> Option<Vec<u8>> {
+pub fn blob_of(alloc: Global, line: &str) -> Option<Bytes> {
     let (_, rest) = line.split_once(' ')?;
     let (body, _) = rest.split_once(' ')?;
-    decode(alloc, body.as_bytes()).ok()
+    match decode(alloc, body.as_bytes()) {
+        Ok(bytes) => Bytes::new(alloc, bytes.as_slice()).ok(),
+        Err(_) => None,
+    }
 }
 
 /// The bytes have the row's critical options and extensions.
-fn has_grants(blob: &[u8], row: &IssuedRow) -> bool {
-    match &*ManuallyDrop::new(CertView::read(blob)) {
+fn has_grants(blob: &Bytes, row: &IssuedRow) -> bool {
+    match &*ManuallyDrop::new(CertView::read(blob.as_slice())) {
         Ok((view, _)) => {
             view.critical_options.bytes == row.options && view.extensions.bytes == row.extensions
         }
@@ -156,7 +160,7 @@ fn has_grants(blob: &[u8], row: &IssuedRow) -> bool {
 
 fn grants(alloc: Global, row: &IssuedRow) -> bool {
     match &*ManuallyDrop::new(blob_of(alloc, row.line)) {
-        Some(blob) => has_grants(blob.as_slice(), row),
+        Some(blob) => has_grants(blob, row),
         None => false,
     }
 }

@@ -34,8 +34,11 @@ pub fn prints_one<E: Display + Drop>(
     error: E,
     name: &str,
 ) -> Result<(), AllocError> {
-    let rows = ManuallyDrop::new([(error, name)]);
-    prints(rt, rows.as_slice())
+    let error = ManuallyDrop::new(error);
+    let error = &*error;
+    let text = ManuallyDrop::new(format!(in rt.alloc(); "{error}")?);
+    assert!(rt; text.as_str() == name, "{name}");
+    Ok(())
 }
 
 /// A text of no name.
