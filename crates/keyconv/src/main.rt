@@ -81,15 +81,25 @@ struct Given {
 
 fn main(rt: HostRuntime) -> ExitCode {
     match words(&rt) {
-        Ok(words) => match words.as_slice() {
-            [word] if word.as_str() == "--help" => print(&rt, HELP),
-            [word] if word.as_str() == "--version" => print(&rt, VERSION),
-            words => match from_environment(&rt) {
-                Ok(given) => start(&rt, words, given),
-                Err(status) => end(&rt, &status),
-            },
-        },
-        Err(status) => end(&rt, &status),
+        Ok(words) => answer(&rt, words.as_slice()),
+        Err(status) => end(&rt, status),
+    }
+}
+
+/// Does what the words say.
+fn answer(rt: &HostRuntime, words: &[Text]) -> ExitCode {
+    match words {
+        [word] if word.as_str() == "--help" => print(rt, HELP),
+        [word] if word.as_str() == "--version" => print(rt, VERSION),
+        words => perform(rt, words),
+    }
+}
+
+/// Runs the command with what the environment gives.
+fn perform(rt: &HostRuntime, words: &[Text]) -> ExitCode {
+    match from_environment(rt) {
+        Ok(given) => start(rt, words, given),
+        Err(status) => end(rt, status),
     }
 }
 
@@ -118,7 +128,7 @@ fn start(rt: &HostRuntime, words: &[Text], given: Given) -> ExitCode {
         &mut out,
         &mut err,
     );
-    ExitCode::from(status.exit_code())
+    exit_code(status)
 }
 
 /// The words of the command line.
@@ -203,13 +213,20 @@ fn text_of(value: &Option<String>) -> Option<&str> {
 fn print(rt: &HostRuntime, text: &str) -> ExitCode {
     match rt.print(text) {
         Ok(()) => ExitCode::SUCCESS,
-        Err(_) => end(rt, &Status::WriteFault),
+        Err(_) => end(rt, Status::WriteFault),
     }
 }
 
 /// Says on standard error how the program ended.
-fn end(rt: &HostRuntime, status: &Status) -> ExitCode {
-    let word = word(status);
+fn end(rt: &HostRuntime, status: Status) -> ExitCode {
+    let word = word(&status);
     let _ = eprintln!(rt; "keyconv: {}{}", word.path, word.name);
-    ExitCode::from(status.exit_code())
+    exit_code(status)
+}
+
+/// How the process ends.
+fn exit_code(status: Status) -> ExitCode {
+    let code = status.exit_code();
+    drop(status);
+    ExitCode::from(code)
 }

@@ -200,7 +200,10 @@ pub fn perform<S: Suite, G: Signer>(
             Ok(text) => Ok(text),
             Err(e) => Err(status_of(e)),
         },
-        None => Err(Status::InputNotUtf8),
+        None => {
+            drop(command);
+            Err(Status::InputNotUtf8)
+        }
     }
 }
 
@@ -216,7 +219,10 @@ fn status_of(e: ConvertError) -> Status
         | ConvertError::Issuer(ReadError::Putty(PuttyError::SuiteFault))
         | ConvertError::Request(SshCertificateGenerationError::SignatureError)
         | ConvertError::Private(SshPrivateKeyError::SuiteFault)
-        | ConvertError::Putty(PuttyError::SuiteFault) => Status::OutsideFault,
+        | ConvertError::Putty(PuttyError::SuiteFault) => {
+            drop(e);
+            Status::OutsideFault
+        }
         e => Status::Refused(e),
     }
 }
@@ -276,10 +282,14 @@ fn fingerprint<S: Suite>(
 {
     match read_text(alloc, suite, text, given.pass_in) {
         Ok(meaning) => match public_key(alloc, meaning) {
-            Ok(key) => match fingerprint_text(alloc, &key) {
-                Ok(text) => Ok(text),
-                Err(_) => Err(ConvertError::NoMemory),
-            },
+            Ok(key) => {
+                let text = fingerprint_text(alloc, &key);
+                drop(key);
+                match text {
+                    Ok(text) => Ok(text),
+                    Err(_) => Err(ConvertError::NoMemory),
+                }
+            }
             Err(NoMemory) => Err(ConvertError::NoMemory),
         },
         Err(e) => Err(input_refusal(e)),

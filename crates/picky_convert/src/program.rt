@@ -324,9 +324,18 @@ fn take_for_source<S: Suite, G: Signer, I: Source>(
 {
     match read_input(alloc, source) {
         Ok(input) => perform(alloc, command, given, suite, signer, input.as_slice()),
-        Err(InputError::ReadFault) => Err(Status::ReadFault),
-        Err(InputError::TooLong) => Err(Status::InputTooLong),
-        Err(InputError::NoMemory) => Err(Status::NoMemory),
+        Err(InputError::ReadFault) => {
+            drop(command);
+            Err(Status::ReadFault)
+        }
+        Err(InputError::TooLong) => {
+            drop(command);
+            Err(Status::InputTooLong)
+        }
+        Err(InputError::NoMemory) => {
+            drop(command);
+            Err(Status::NoMemory)
+        }
     }
 }
 
