@@ -97,7 +97,10 @@ fn copied_options(alloc: Global, block: &Part<'_>) -> Result<List<SshCriticalOpt
 {
     match decode_items::<SshCriticalOption>(alloc, block.bytes) {
         Ok(items) => Ok(items),
-        Err(_) => Err(NoMemory),
+        Err(e) => {
+            drop(e);
+            Err(NoMemory)
+        }
     }
 }
 

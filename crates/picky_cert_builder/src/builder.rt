@@ -82,7 +82,7 @@ impl SshCertificateBuilder {
         ensures same { result.ghost_name ≡ self.entry.ghost_name }
         ensures set { result.now ≡ record (self.old) { public_key = Some key } }
     {
-        self.public_key = Some(key);
+        drop(replace(&mut self.public_key, Some(key)));
         self
     }
 
@@ -118,7 +118,7 @@ impl SshCertificateBuilder {
         ensures same { result.ghost_name ≡ self.entry.ghost_name }
         ensures set { result.now ≡ record (self.old) { valid_principals = Some principals } }
     {
-        self.valid_principals = Some(principals);
+        drop(replace(&mut self.valid_principals, Some(principals)));
         self
     }
 
@@ -145,7 +145,7 @@ impl SshCertificateBuilder {
         ensures same { result.ghost_name ≡ self.entry.ghost_name }
         ensures set { result.now ≡ record (self.old) { critical_options = Some critical_options } }
     {
-        self.critical_options = Some(critical_options);
+        drop(replace(&mut self.critical_options, Some(critical_options)));
         self
     }
 
@@ -154,7 +154,7 @@ impl SshCertificateBuilder {
         ensures same { result.ghost_name ≡ self.entry.ghost_name }
         ensures set { result.now ≡ record (self.old) { extensions = Some extensions } }
     {
-        self.extensions = Some(extensions);
+        drop(replace(&mut self.extensions, Some(extensions)));
         self
     }
 
@@ -163,7 +163,16 @@ impl SshCertificateBuilder {
         ensures same { result.ghost_name ≡ self.entry.ghost_name }
         ensures set { result.now ≡ record (self.old) { issuer = Some (issuers.Private signature_key.base_key) } }
     {
-        let SshPrivateKey { base_key, .. } = signature_key;
+        let SshPrivateKey {
+            base_key,
+            kdf,
+            public_key,
+            passphrase,
+            ..
+        } = signature_key;
+        drop(kdf);
+        drop(public_key);
+        drop(passphrase);
         drop(replace(&mut self.issuer, Some(IssuerKey::Private(base_key))));
         self
     }

@@ -141,8 +141,16 @@ fn message_of(
 {
     match certificate.signed_bytes(alloc) {
         Ok(message) => Ok(message),
-        Err(SshCertificateError::NoMemory) => Err(SshCertificateGenerationError::NoMemory),
-        Err(_) => Err(SshCertificateGenerationError::TooLong),
+        Err(e) => match e {
+            SshCertificateError::NoMemory => {
+                drop(e);
+                Err(SshCertificateGenerationError::NoMemory)
+            }
+            e => {
+                drop(e);
+                Err(SshCertificateGenerationError::TooLong)
+            }
+        },
     }
 }
 
@@ -196,8 +204,13 @@ fn keys(
 {
     let nonce = nonce_bytes(alloc, nonce)?;
     let inner_key = issuer.public_part(alloc)?;
-    let public_key = key.try_clone(alloc)?;
-    Ok((nonce, inner_key, public_key))
+    match key.try_clone(alloc) {
+        Ok(public_key) => Ok((nonce, inner_key, public_key)),
+        Err(NoMemory) => {
+            drop(inner_key);
+            Err(NoMemory)
+        }
+    }
 }
 
 /// The nonce as bytes. Refuses: `NoMemory`.

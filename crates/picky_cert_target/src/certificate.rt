@@ -56,10 +56,13 @@ fn sign_line<G: Signer>(alloc: Global, signer: &mut G, draft: Draft) -> Result<T
             drop(certificate);
             line
         }
-        Err(SshCertificateGenerationError::SignatureError) => Err(ConvertError::Request(
-            SshCertificateGenerationError::SignatureError,
-        )),
-        Err(_) => Err(ConvertError::NoMemory),
+        Err(e) => match e {
+            SshCertificateGenerationError::SignatureError => Err(ConvertError::Request(e)),
+            e => {
+                drop(e);
+                Err(ConvertError::NoMemory)
+            }
+        },
     }
 }
 

@@ -180,8 +180,14 @@ fn request_refusal(e: SshCertificateGenerationError) -> ConvertError
     ensures { result ≡ request_refusal_of e }
 {
     match e {
-        SshCertificateGenerationError::NoMemory => ConvertError::NoMemory,
-        SshCertificateGenerationError::TooLong => ConvertError::TooLong,
+        SshCertificateGenerationError::NoMemory => {
+            drop(e);
+            ConvertError::NoMemory
+        }
+        SshCertificateGenerationError::TooLong => {
+            drop(e);
+            ConvertError::TooLong
+        }
         e => ConvertError::Request(e),
     }
 }

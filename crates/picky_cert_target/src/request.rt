@@ -10,7 +10,7 @@ use picky_cert_parts::{SshCertType, SshCriticalOption, SshExtension};
 use picky_key_text::{Key, Meaning, public_key};
 use picky_keys::SignatureAlgorithm;
 use picky_sshpub::SshPublicKey;
-use picky_wire::{List, NoMemory, Text, Timestamp, TryClone};
+use picky_wire::{List, NoMemory, Text, Timestamp, TryClone, both};
 use std::alloc::Global;
 
 /// What is asked of a certificate beside its subject's key and its comment, which a key text means.
@@ -39,24 +39,29 @@ pub struct CertRequest {
 
 impl TryClone for CertRequest {
     fn try_clone(&self, alloc: Global) -> Result<CertRequest, NoMemory> {
-        let key_id = text_where_given(alloc, &self.key_id)?;
-        let principals = self.principals.try_clone(alloc)?;
-        let critical_options = self.critical_options.try_clone(alloc)?;
-        let extensions = self.extensions.try_clone(alloc)?;
-        let issuer = key_where_given(alloc, &self.issuer)?;
-        Ok(CertRequest {
-            cert_key_type: self.cert_key_type,
-            cert_type: self.cert_type,
-            serial: self.serial,
-            key_id,
-            principals,
-            valid_after: self.valid_after,
-            valid_before: self.valid_before,
-            critical_options,
-            extensions,
-            signature_algo: self.signature_algo,
-            issuer,
-        })
+        let key_id = text_where_given(alloc, &self.key_id);
+        let names = both(key_id, self.principals.try_clone(alloc));
+        let extensions = self.extensions.try_clone(alloc);
+        let items = both(self.critical_options.try_clone(alloc), extensions);
+        let issuer = key_where_given(alloc, &self.issuer);
+        match both(both(names, items), issuer) {
+            Ok((((key_id, principals), (critical_options, extensions)), issuer)) => {
+                Ok(CertRequest {
+                    cert_key_type: self.cert_key_type,
+                    cert_type: self.cert_type,
+                    serial: self.serial,
+                    key_id,
+                    principals,
+                    valid_after: self.valid_after,
+                    valid_before: self.valid_before,
+                    critical_options,
+                    extensions,
+                    signature_algo: self.signature_algo,
+                    issuer,
+                })
+            }
+            Err(NoMemory) => Err(NoMemory),
+        }
     }
 }
 
@@ -100,8 +105,13 @@ fn subject_of(alloc: Global, meaning: Meaning) -> Result<(SshPublicKey, Text), N
     ensures { IfOk result (λ both. both ≡ (public_key_of meaning, meaning.comment)) }
 {
     let key = public_key(alloc, meaning)?;
-    let comment = key.comment.try_clone(alloc)?;
-    Ok((key, comment))
+    match key.comment.try_clone(alloc) {
+        Ok(comment) => Ok((key, comment)),
+        Err(NoMemory) => {
+            drop(key);
+            Err(NoMemory)
+        }
+    }
 }
 
 /// A copy of the text, where there is one. Refuses: `NoMemory`.

@@ -191,7 +191,10 @@ pub fn input_refusal(e: ReadError) -> ConvertError
     ensures { result ≡ input_refusal_of e }
 {
     match e {
-        ReadError::NoMemory => ConvertError::NoMemory,
+        ReadError::NoMemory => {
+            drop(e);
+            ConvertError::NoMemory
+        }
         e => ConvertError::Input(e),
     }
 }
@@ -201,7 +204,10 @@ pub fn issuer_refusal(e: ReadError) -> ConvertError
     ensures { result ≡ issuer_refusal_of e }
 {
     match e {
-        ReadError::NoMemory => ConvertError::NoMemory,
+        ReadError::NoMemory => {
+            drop(e);
+            ConvertError::NoMemory
+        }
         e => ConvertError::Issuer(e),
     }
 }

@@ -44,15 +44,16 @@ pub fn issue<S: Suite, G: Signer>(
 {
     let parts = parts_of(input);
     match issuer_of(alloc, suite, parts.issuer, given) {
-        Ok(issuer) => certify(
-            alloc,
-            suite,
-            signer,
-            parts.key,
-            &request_by(options, issuer),
-            given,
-        ),
-        Err(e) => Err(e),
+        Ok(issuer) => {
+            let request = request_by(options, issuer);
+            let line = certify(alloc, suite, signer, parts.key, &request, given);
+            drop(request);
+            line
+        }
+        Err(e) => {
+            drop(options);
+            Err(e)
+        }
     }
 }
 
@@ -72,8 +73,16 @@ pub fn print_signed<S: Suite>(
 {
     let parts = parts_of(input);
     match issuer_of(alloc, suite, parts.issuer, given) {
-        Ok(issuer) => print_request(alloc, suite, parts.key, &request_by(options, issuer), given),
-        Err(e) => Err(e),
+        Ok(issuer) => {
+            let request = request_by(options, issuer);
+            let text = print_request(alloc, suite, parts.key, &request, given);
+            drop(request);
+            text
+        }
+        Err(e) => {
+            drop(options);
+            Err(e)
+        }
     }
 }
 

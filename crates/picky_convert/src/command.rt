@@ -212,7 +212,10 @@ fn status_of(e: ConvertError) -> Status
     ensures { result ≡ refusal_status e }
 {
     match e {
-        ConvertError::NoMemory => Status::NoMemory,
+        ConvertError::NoMemory => {
+            drop(e);
+            Status::NoMemory
+        }
         ConvertError::Input(ReadError::Private(SshPrivateKeyError::SuiteFault))
         | ConvertError::Input(ReadError::Putty(PuttyError::SuiteFault))
         | ConvertError::Issuer(ReadError::Private(SshPrivateKeyError::SuiteFault))

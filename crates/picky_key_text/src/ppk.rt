@@ -51,7 +51,11 @@ fn key_of_file<S: Suite>(
         suite.old suite.new }
 {
     match opened(alloc, suite, ppk, pass) {
-        Ok(ppk) => key_of(alloc, &ppk),
+        Ok(ppk) => {
+            let meaning = key_of(alloc, &ppk);
+            drop(ppk);
+            meaning
+        }
         Err(e) => Err(e),
     }
 }
@@ -73,8 +77,15 @@ fn opened<S: Suite>(
         return Ok(ppk);
     }
     match pass {
-        Some(pass) => ppk.decrypt(alloc, suite, pass),
-        None => Err(PuttyError::Encrypted),
+        Some(pass) => {
+            let opened = ppk.decrypt(alloc, suite, pass);
+            drop(ppk);
+            opened
+        }
+        None => {
+            drop(ppk);
+            Err(PuttyError::Encrypted)
+        }
     }
 }
 
@@ -90,7 +101,10 @@ fn key_of(alloc: Global, ppk: &Ppk) -> Result<Meaning, PuttyError>
                 key: Key::Private(key),
                 comment,
             }),
-            Err(NoMemory) => Err(PuttyError::NoMemory),
+            Err(NoMemory) => {
+                drop(key);
+                Err(PuttyError::NoMemory)
+            }
         },
         Err(e) => Err(e),
     }

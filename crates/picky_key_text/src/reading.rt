@@ -113,7 +113,11 @@ fn putty_public_key(alloc: Global, input: &str) -> Result<SshPublicKey, PuttyErr
     ensures no_fault { result ≢ Err PuttyError.SuiteFault }
 {
     match PuttyPublicKey::from_str(alloc, input) {
-        Ok(key) => key.to_openssh(alloc),
+        Ok(key) => {
+            let openssh = key.to_openssh(alloc);
+            drop(key);
+            openssh
+        }
         Err(e) => Err(e),
     }
 }
@@ -125,8 +129,14 @@ fn private_meaning(key: SshPrivateKey) -> Meaning
     let SshPrivateKey {
         base_key,
         comment,
+        kdf,
+        public_key,
+        passphrase,
         ..
     } = key;
+    drop(kdf);
+    drop(public_key);
+    drop(passphrase);
     Meaning {
         key: Key::Private(base_key),
         comment,
@@ -150,9 +160,19 @@ fn certificate_meaning(certificate: SshCertificate) -> Meaning
 {
     let SshCertificate {
         public_key,
+        valid_principals,
+        critical_options,
+        extensions,
+        signature_key,
+        signature,
         comment,
         ..
     } = certificate;
+    drop(valid_principals);
+    drop(critical_options);
+    drop(extensions);
+    drop(signature_key);
+    drop(signature);
     Meaning {
         key: Key::Public(public_key.inner_key),
         comment,
@@ -164,7 +184,10 @@ fn envelope_refusal(e: SshPrivateKeyError) -> ReadError
     ensures { result ≡ envelope_refusal_of e }
 {
     match e {
-        SshPrivateKeyError::NoMemory => ReadError::NoMemory,
+        SshPrivateKeyError::NoMemory => {
+            drop(e);
+            ReadError::NoMemory
+        }
         e => ReadError::Private(e),
     }
 }
@@ -184,7 +207,10 @@ fn line_refusal(e: SshPublicKeyError) -> ReadError
     ensures { result ≡ line_refusal_of e }
 {
     match e {
-        SshPublicKeyError::NoMemory => ReadError::NoMemory,
+        SshPublicKeyError::NoMemory => {
+            drop(e);
+            ReadError::NoMemory
+        }
         e => ReadError::Public(e),
     }
 }
@@ -194,7 +220,10 @@ fn certificate_refusal(e: SshCertificateError) -> ReadError
     ensures { result ≡ certificate_refusal_of e }
 {
     match e {
-        SshCertificateError::NoMemory => ReadError::NoMemory,
+        SshCertificateError::NoMemory => {
+            drop(e);
+            ReadError::NoMemory
+        }
         e => ReadError::Certificate(e),
     }
 }

@@ -159,15 +159,26 @@ pub(crate) fn read_in<K: PpkLiteral, V: PpkField>(alloc: Global, text: &str) -> 
 {
     match V::read(alloc, text) {
         Ok(value) => Ok(value),
-        Err(PpkValueError::Parsing(e)) => match Text::new(alloc, K::context()) {
-            Ok(context) => Err(KvError::InvalidInput {
-                context,
-                expected: e.expected,
-                actual: e.actual,
-            }),
-            Err(_) => Err(KvError::NoMemory),
+        Err(e) => match e {
+            PpkValueError::Parsing(e) => match Text::new(alloc, K::context()) {
+                Ok(context) => Err(KvError::InvalidInput {
+                    context,
+                    expected: e.expected,
+                    actual: e.actual,
+                }),
+                Err(_) => {
+                    drop(e);
+                    Err(KvError::NoMemory)
+                }
+            },
+            PpkValueError::TooLong => {
+                drop(e);
+                Err(KvError::TooLong)
+            }
+            PpkValueError::NoMemory => {
+                drop(e);
+                Err(KvError::NoMemory)
+            }
         },
-        Err(PpkValueError::TooLong) => Err(KvError::TooLong),
-        Err(PpkValueError::NoMemory) => Err(KvError::NoMemory),
     }
 }

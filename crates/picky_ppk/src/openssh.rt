@@ -206,6 +206,7 @@ pub fn plain_private(alloc: Global, key: SshBasePrivateKey) -> Result<PrivateKey
         }),
         SshBasePrivateKey::Ed { secret, public } => Ok(PrivateKey::Ed { secret, public }),
         SshBasePrivateKey::SkEcdsaSha2NistP256 { .. } | SshBasePrivateKey::SkEd25519 { .. } => {
+            drop(key);
             Err(no_hardware_keys(alloc))
         }
     }
@@ -225,7 +226,15 @@ pub fn made_private(
 {
     match SshPrivateKey::from_base(alloc, base, passphrase, comment, salt) {
         Ok(key) => Ok(key),
-        Err(SshPrivateKeyError::NoMemory) => Err(PuttyError::NoMemory),
-        Err(_) => Err(PuttyError::TooLong),
+        Err(e) => match e {
+            SshPrivateKeyError::NoMemory => {
+                drop(e);
+                Err(PuttyError::NoMemory)
+            }
+            e => {
+                drop(e);
+                Err(PuttyError::TooLong)
+            }
+        },
     }
 }

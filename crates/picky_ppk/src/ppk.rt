@@ -213,7 +213,10 @@ pub fn covered(alloc: Global, file: &PpkFile, private: &[u8]) -> Result<Vec<u8>,
         private,
     ) {
         Ok(input) => Ok(input),
-        Err(_) => Err(NoMemory),
+        Err(e) => {
+            drop(e);
+            Err(NoMemory)
+        }
     }
 }
 

@@ -180,7 +180,10 @@ fn sealed<S: Suite>(
 {
     match FileKeys::derive(suite, &draft.sealing, passphrase) {
         Ok(keys) => sealed_under(alloc, suite, draft, &keys),
-        Err(e) => Err(e),
+        Err(e) => {
+            drop(draft);
+            Err(e)
+        }
     }
 }
 
@@ -200,7 +203,10 @@ fn sealed_under<S: Suite>(
 {
     let mac = match kept_mac(alloc, suite, keys, &draft, draft.private_bytes.as_slice()) {
         Ok(mac) => mac,
-        Err(NoMemory) => return Err(PuttyError::NoMemory),
+        Err(NoMemory) => {
+            drop(draft);
+            return Err(PuttyError::NoMemory);
+        }
     };
     let PpkFile {
         sealing,
@@ -225,7 +231,10 @@ fn sealed_under<S: Suite>(
             private_bytes: Bytes::from_vec(block),
             mac,
         })),
-        Err(e) => Err(e),
+        Err(e) => {
+            drop(sealing);
+            Err(e)
+        }
     }
 }
 

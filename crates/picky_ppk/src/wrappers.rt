@@ -166,7 +166,10 @@ impl PuttyPrivateKey {
         match PuttyBasePrivateKey::from_openssh(alloc, &key.base_key) {
             Ok(base) => match key.comment.try_clone(alloc) {
                 Ok(comment) => Ok(PuttyPrivateKey { base, comment }),
-                Err(NoMemory) => Err(PuttyError::NoMemory),
+                Err(NoMemory) => {
+                    drop(base);
+                    Err(PuttyError::NoMemory)
+                }
             },
             Err(e) => Err(e),
         }

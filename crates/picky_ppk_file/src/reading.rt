@@ -131,8 +131,14 @@ fn line_error(e: KvError) -> PuttyError
     ensures { result ≡ line_error_of e }
 {
     match e {
-        KvError::EndOfInput => PuttyError::EndOfInput,
-        KvError::InvalidKeyValueFormat => PuttyError::InvalidKeyValueFormat,
+        KvError::EndOfInput => {
+            drop(e);
+            PuttyError::EndOfInput
+        }
+        KvError::InvalidKeyValueFormat => {
+            drop(e);
+            PuttyError::InvalidKeyValueFormat
+        }
         KvError::InvalidInput {
             context,
             expected,
@@ -142,8 +148,17 @@ fn line_error(e: KvError) -> PuttyError
             expected,
             actual,
         },
-        KvError::TooManyLines => PuttyError::TooManyLines,
-        KvError::TooLong => PuttyError::TooLong,
-        KvError::NoMemory => PuttyError::NoMemory,
+        KvError::TooManyLines => {
+            drop(e);
+            PuttyError::TooManyLines
+        }
+        KvError::TooLong => {
+            drop(e);
+            PuttyError::TooLong
+        }
+        KvError::NoMemory => {
+            drop(e);
+            PuttyError::NoMemory
+        }
     }
 }

@@ -29,7 +29,10 @@ pub fn key_under(
         PpkKeyAlgorithm::EcdsaSha2Nistp384 => ec_of(EcCurve::NistP384, key),
         PpkKeyAlgorithm::EcdsaSha2Nistp521 => ec_of(EcCurve::NistP521, key),
         PpkKeyAlgorithm::Ed25519 => ed_of(key),
-        PpkKeyAlgorithm::Dss | PpkKeyAlgorithm::Ed448 => Err(no_such_algorithm(alloc)),
+        PpkKeyAlgorithm::Dss | PpkKeyAlgorithm::Ed448 => {
+            drop(key);
+            Err(no_such_algorithm(alloc))
+        }
     }
 }
 
@@ -52,7 +55,10 @@ fn rsa_of(key: SshBasePublicKey) -> Result<PublicKey, PuttyError>
         SshBasePublicKey::Ec { .. }
         | SshBasePublicKey::Ed { .. }
         | SshBasePublicKey::SkEcdsaSha2NistP256 { .. }
-        | SshBasePublicKey::SkEd25519 { .. } => Err(PuttyError::PublicAndPrivateKeyMismatch),
+        | SshBasePublicKey::SkEd25519 { .. } => {
+            drop(key);
+            Err(PuttyError::PublicAndPrivateKeyMismatch)
+        }
     }
 }
 
@@ -72,7 +78,10 @@ fn ec_of(curve: EcCurve, key: SshBasePublicKey) -> Result<PublicKey, PuttyError>
         SshBasePublicKey::Rsa { .. }
         | SshBasePublicKey::Ed { .. }
         | SshBasePublicKey::SkEcdsaSha2NistP256 { .. }
-        | SshBasePublicKey::SkEd25519 { .. } => Err(PuttyError::PublicAndPrivateKeyMismatch),
+        | SshBasePublicKey::SkEd25519 { .. } => {
+            drop(key);
+            Err(PuttyError::PublicAndPrivateKeyMismatch)
+        }
     }
 }
 
@@ -84,7 +93,10 @@ fn ed_of(key: SshBasePublicKey) -> Result<PublicKey, PuttyError>
         SshBasePublicKey::Rsa { .. }
         | SshBasePublicKey::Ec { .. }
         | SshBasePublicKey::SkEcdsaSha2NistP256 { .. }
-        | SshBasePublicKey::SkEd25519 { .. } => Err(PuttyError::PublicAndPrivateKeyMismatch),
+        | SshBasePublicKey::SkEd25519 { .. } => {
+            drop(key);
+            Err(PuttyError::PublicAndPrivateKeyMismatch)
+        }
     }
 }
 

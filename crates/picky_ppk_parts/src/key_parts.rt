@@ -102,7 +102,11 @@ fn public_blob(alloc: Global, key: &SshBasePrivateKey) -> Result<Bytes, PuttyErr
     ensures { Gives PuttyError.NoMemory (λ blob. blob) result (blob_within (public_part key.now)) }
 {
     match key.base_public_key(alloc) {
-        Ok(public) => blob_of_public(alloc, &public),
+        Ok(public) => {
+            let blob = blob_of_public(alloc, &public);
+            drop(public);
+            blob
+        }
         Err(NoMemory) => Err(PuttyError::NoMemory),
     }
 }
@@ -114,8 +118,16 @@ pub fn blob_of_public(alloc: Global, public: &SshBasePublicKey) -> Result<Bytes,
 {
     match public.to_blob(alloc) {
         Ok(blob) => Ok(blob),
-        Err(SshPublicKeyError::TooLong) => Err(PuttyError::TooLong),
-        Err(_) => Err(PuttyError::NoMemory),
+        Err(e) => match e {
+            SshPublicKeyError::TooLong => {
+                drop(e);
+                Err(PuttyError::TooLong)
+            }
+            e => {
+                drop(e);
+                Err(PuttyError::NoMemory)
+            }
+        },
     }
 }
 

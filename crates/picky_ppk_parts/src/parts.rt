@@ -58,7 +58,12 @@ pub fn key_in_blob(alloc: Global, blob: &Bytes) -> Result<SshBasePublicKey, Putt
 {
     match SshBasePublicKey::from_blob(alloc, blob.as_slice()) {
         Ok(key) => Ok(key),
-        Err(SshPublicKeyError::NoMemory) => Err(PuttyError::NoMemory),
-        Err(e) => Err(PuttyError::SshPublicKey(e)),
+        Err(e) => match e {
+            SshPublicKeyError::NoMemory => {
+                drop(e);
+                Err(PuttyError::NoMemory)
+            }
+            e => Err(PuttyError::SshPublicKey(e)),
+        },
     }
 }

@@ -104,7 +104,9 @@ impl PuttyPublicKey {
         ensures { Gives PuttyError.NoMemory (λ key. key) result (of_openssh key) }
     {
         let SshPublicKey { inner_key, comment } = key;
-        putty_key(alloc, &inner_key, comment)
+        let putty = putty_key(alloc, &inner_key, comment);
+        drop(inner_key);
+        putty
     }
 
     /// The key in the blob and the comment. What follows the blob's last field says nothing.
@@ -117,7 +119,10 @@ impl PuttyPublicKey {
         match key_in_blob(alloc, &self.blob) {
             Ok(inner_key) => match self.comment.try_clone(alloc) {
                 Ok(comment) => Ok(SshPublicKey { inner_key, comment }),
-                Err(NoMemory) => Err(PuttyError::NoMemory),
+                Err(NoMemory) => {
+                    drop(inner_key);
+                    Err(PuttyError::NoMemory)
+                }
             },
             Err(e) => Err(e),
         }
@@ -333,6 +338,7 @@ pub fn plain_key(alloc: Global, key: SshBasePublicKey) -> Result<PublicKey, Putt
         SshBasePublicKey::Ec { curve, point } => Ok(PublicKey::Ec { curve, point }),
         SshBasePublicKey::Ed { key } => Ok(PublicKey::Ed { key }),
         SshBasePublicKey::SkEcdsaSha2NistP256 { .. } | SshBasePublicKey::SkEd25519 { .. } => {
+            drop(key);
             Err(no_hardware_keys(alloc))
         }
     }

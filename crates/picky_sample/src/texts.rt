@@ -174,7 +174,7 @@ fn converted<S: Suite>(
 fn want_of(e: ConvertError) -> NoMemory
     requires { e ≡ ConvertError.NoMemory }
 {
-    let _ = e;
+    drop(e);
     NoMemory
 }
 

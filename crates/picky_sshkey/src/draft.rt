@@ -83,11 +83,23 @@ fn outer_of(alloc: Global, base: &SshBasePrivateKey) -> Result<Bytes, SshPrivate
         ⊎ ((e ≡ SshPrivateKeyError.TooLong) × (2 ^ 32 ≤ length (blob_of (public_part base.now))))) }
 {
     match base.base_public_key(alloc) {
-        Ok(key) => match key.to_blob(alloc) {
-            Ok(blob) => Ok(blob),
-            Err(SshPublicKeyError::TooLong) => Err(SshPrivateKeyError::TooLong),
-            Err(_) => Err(SshPrivateKeyError::NoMemory),
-        },
+        Ok(key) => {
+            let blob = key.to_blob(alloc);
+            drop(key);
+            match blob {
+                Ok(blob) => Ok(blob),
+                Err(e) => match e {
+                    SshPublicKeyError::TooLong => {
+                        drop(e);
+                        Err(SshPrivateKeyError::TooLong)
+                    }
+                    e => {
+                        drop(e);
+                        Err(SshPrivateKeyError::NoMemory)
+                    }
+                },
+            }
+        }
         Err(NoMemory) => Err(SshPrivateKeyError::NoMemory),
     }
 }

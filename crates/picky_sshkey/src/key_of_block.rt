@@ -18,7 +18,7 @@ use crate::kept::{kept_pass, name_text};
 use crate::private_key::{SshPrivateKey, public_key_of};
 use picky_sshkey_blob::{SshBasePrivateKey, SshPrivateKeyError};
 use picky_sshpub::{SshBasePublicKey, SshPublicKey, SshPublicKeyError};
-use picky_wire::{NoMemory, Text};
+use picky_wire::{NoMemory, Text, both};
 use std::alloc::Global;
 
 /// The key of a block, where the envelope's public key is its own.
@@ -65,8 +65,16 @@ fn public_part(
 {
     let said = match SshBasePublicKey::from_blob(alloc, outer) {
         Ok(key) => key,
-        Err(SshPublicKeyError::NoMemory) => return Err(SshPrivateKeyError::NoMemory),
-        Err(_) => return Err(SshPrivateKeyError::PublicKeyMismatch),
+        Err(e) => match e {
+            SshPublicKeyError::NoMemory => {
+                drop(e);
+                return Err(SshPrivateKeyError::NoMemory);
+            }
+            e => {
+                drop(e);
+                return Err(SshPrivateKeyError::PublicKeyMismatch);
+            }
+        },
     };
     match public_key_of(alloc, base) {
         Ok(key) => {
@@ -150,12 +158,26 @@ fn kept_parts(
       option_copied pass.entry,
     )) }
 {
-    let cipher_name = name_text(alloc, envelope.cipher)?;
-    let name = name_text(alloc, envelope.kdf)?;
-    let option = option_of(alloc, envelope.option.salt, envelope.option.rounds)?;
-    let comment = name_text(alloc, block.comment.trim_end())?;
-    match kept_pass(alloc, pass) {
-        Ok(passphrase) => Ok((cipher_name, Kdf { name, option }, comment, passphrase)),
-        Err(_) => Err(NoMemory),
+    let passphrase = match kept_pass(alloc, pass) {
+        Ok(passphrase) => passphrase,
+        Err(e) => {
+            drop(e);
+            return Err(NoMemory);
+        }
+    };
+    let names = both(
+        name_text(alloc, envelope.cipher),
+        name_text(alloc, envelope.kdf),
+    );
+    let option = option_of(alloc, envelope.option.salt, envelope.option.rounds);
+    let comment = name_text(alloc, block.comment.trim_end());
+    match both(both(names, option), comment) {
+        Ok((((cipher_name, name), option), comment)) => {
+            Ok((cipher_name, Kdf { name, option }, comment, passphrase))
+        }
+        Err(NoMemory) => {
+            drop(passphrase);
+            Err(NoMemory)
+        }
     }
 }

@@ -79,6 +79,7 @@ impl SshPrivateKey {
             Ok(comment) => comment,
             Err(e) => {
                 drop(base);
+                drop(passphrase);
                 return Err(e);
             }
         };
@@ -213,6 +214,7 @@ fn made(
         }),
         Err(NoMemory) => {
             drop(base_key);
+            drop(passphrase);
             Err(NoMemory)
         }
     }
@@ -244,8 +246,13 @@ pub fn public_key_of(alloc: Global, base: &SshBasePrivateKey) -> Result<SshPubli
     ensures { IfOk result (λ key. key ≡ record { inner_key = public_part base.now; comment = [] }) }
 {
     let inner_key = base.base_public_key(alloc)?;
-    let comment = name_text(alloc, "")?;
-    Ok(SshPublicKey { inner_key, comment })
+    match name_text(alloc, "") {
+        Ok(comment) => Ok(SshPublicKey { inner_key, comment }),
+        Err(NoMemory) => {
+            drop(inner_key);
+            Err(NoMemory)
+        }
+    }
 }
 
 /// A key whose secret no device keeps, as one of OpenSSH's.

@@ -138,6 +138,7 @@ fn text_of_key<S: Suite>(
     match draft_of(alloc, key) {
         Ok(draft) => {
             if pem_text_len(draft.len) >= TOO_MANY {
+                drop(draft);
                 return Err(SshPrivateKeyError::TooLong);
             }
             match sealed_content(alloc, suite, key, draft) {

@@ -65,11 +65,15 @@ fn drafted(
         (drafted_of (record { pass = option_copied pass.entry; fresh = fresh.now }) key comment.now) }
 {
     if !carries_comment(KeyTarget::OpenSsh, comment) {
+        drop(key);
         return Err(ConvertError::CommentNotCarried);
     }
     match salt_under(pass, fresh) {
         Ok(salt) => made(alloc, key, comment, pass, &salt),
-        Err(e) => Err(e),
+        Err(e) => {
+            drop(key);
+            Err(e)
+        }
     }
 }
 
@@ -137,8 +141,14 @@ fn envelope_refusal(e: SshPrivateKeyError) -> ConvertError
     ensures { result ≡ envelope_refusal_of e }
 {
     match e {
-        SshPrivateKeyError::NoMemory => ConvertError::NoMemory,
-        SshPrivateKeyError::TooLong => ConvertError::TooLong,
+        SshPrivateKeyError::NoMemory => {
+            drop(e);
+            ConvertError::NoMemory
+        }
+        SshPrivateKeyError::TooLong => {
+            drop(e);
+            ConvertError::TooLong
+        }
         e => ConvertError::Private(e),
     }
 }

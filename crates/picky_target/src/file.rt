@@ -90,7 +90,11 @@ fn write_plain<S: Suite>(
     ensures { Gives ConvertError.NoMemory (λ text. text) result (plain_written (S.meanings suite.now) version key.now comment) }
 {
     match Ppk::from_base_key(alloc, suite, version, key, comment) {
-        Ok(ppk) => text_of_file(alloc, &ppk),
+        Ok(ppk) => {
+            let text = text_of_file(alloc, &ppk);
+            drop(ppk);
+            text
+        }
         Err(e) => Err(putty_refusal(e)),
     }
 }
@@ -129,7 +133,11 @@ fn write_sealed<S: Suite>(
         Err(e) => return Err(e),
     };
     match plain_file(alloc, suite, version, config, key, comment, &fresh) {
-        Ok(ppk) => sealed_text(alloc, suite, &ppk, config, pass, &fresh),
+        Ok(ppk) => {
+            let text = sealed_text(alloc, suite, &ppk, config, pass, &fresh);
+            drop(ppk);
+            text
+        }
         Err(e) => Err(e),
     }
 }
@@ -156,7 +164,11 @@ fn sealed_text<S: Suite>(
         suite.old suite.new }
 {
     match ppk.encrypt(alloc, suite, pass, config, fresh.salt, fresh.padding) {
-        Ok(sealed) => text_of_file(alloc, &sealed),
+        Ok(sealed) => {
+            let text = text_of_file(alloc, &sealed);
+            drop(sealed);
+            text
+        }
         Err(e) => Err(putty_refusal(e)),
     }
 }
@@ -281,7 +293,10 @@ fn plain_file<S: Suite>(
     match Ppk::from_base_key(alloc, suite, version, key, comment) {
         Ok(ppk) => match measure(alloc, &ppk, config, fresh) {
             Ok(()) => Ok(ppk),
-            Err(e) => Err(e),
+            Err(e) => {
+                drop(ppk);
+                Err(e)
+            }
         },
         Err(e) => Err(putty_refusal(e)),
     }
@@ -306,7 +321,11 @@ fn measure(
     }
     match file_draft(alloc, file, config, fresh.salt, fresh.padding) {
         Ok(draft) => match with_zero_mac(alloc, draft) {
-            Ok(draft) => judge_text(alloc, &draft),
+            Ok(draft) => {
+                let judged = judge_text(alloc, &draft);
+                drop(draft);
+                judged
+            }
             Err(NoMemory) => Err(ConvertError::NoMemory),
         },
         Err(NoMemory) => Err(ConvertError::NoMemory),
@@ -340,7 +359,10 @@ fn with_zero_mac(alloc: Global, file: PpkFile) -> Result<PpkFile, NoMemory>
                 mac,
             })
         }
-        Err(_) => Err(NoMemory),
+        Err(_) => {
+            drop(file);
+            Err(NoMemory)
+        }
     }
 }
 

@@ -25,8 +25,16 @@ pub fn write_line(alloc: Global, key: &SshPublicKey) -> Result<Text, ConvertErro
     }
     match key.to_string(alloc) {
         Ok(text) => Ok(text),
-        Err(SshPublicKeyError::TooLong) => Err(ConvertError::TooLong),
-        Err(_) => Err(ConvertError::NoMemory),
+        Err(e) => match e {
+            SshPublicKeyError::TooLong => {
+                drop(e);
+                Err(ConvertError::TooLong)
+            }
+            e => {
+                drop(e);
+                Err(ConvertError::NoMemory)
+            }
+        },
     }
 }
 
@@ -35,9 +43,11 @@ pub fn write_putty(alloc: Global, key: SshPublicKey) -> Result<Text, ConvertErro
     ensures { Gives ConvertError.NoMemory (λ text. text) result (putty_written key) }
 {
     if is_hardware(&key.inner_key) {
+        drop(key);
         return Err(no_such_kind(alloc));
     }
     if !carries_comment(KeyTarget::PuttyPublic, key.comment.as_str()) {
+        drop(key);
         return Err(ConvertError::CommentNotCarried);
     }
     text_of_putty(alloc, key)
@@ -48,10 +58,14 @@ fn text_of_putty(alloc: Global, key: SshPublicKey) -> Result<Text, ConvertError>
     ensures { Gives ConvertError.NoMemory (λ text. text) result (text_of_putty_of key) }
 {
     match PuttyPublicKey::take_openssh(alloc, key) {
-        Ok(putty) => match putty.to_string(alloc) {
-            Ok(text) => Ok(text),
-            Err(e) => Err(putty_refusal(e)),
-        },
+        Ok(putty) => {
+            let text = putty.to_string(alloc);
+            drop(putty);
+            match text {
+                Ok(text) => Ok(text),
+                Err(e) => Err(putty_refusal(e)),
+            }
+        }
         Err(e) => Err(putty_refusal(e)),
     }
 }
@@ -68,9 +82,18 @@ pub fn putty_refusal(e: PuttyError) -> ConvertError
     ensures { result ≡ putty_refusal_of e }
 {
     match e {
-        PuttyError::NoMemory => ConvertError::NoMemory,
-        PuttyError::TooLong => ConvertError::TooLong,
-        PuttyError::TooManyLines => ConvertError::TooManyLines,
+        PuttyError::NoMemory => {
+            drop(e);
+            ConvertError::NoMemory
+        }
+        PuttyError::TooLong => {
+            drop(e);
+            ConvertError::TooLong
+        }
+        PuttyError::TooManyLines => {
+            drop(e);
+            ConvertError::TooManyLines
+        }
         e => ConvertError::Putty(e),
     }
 }

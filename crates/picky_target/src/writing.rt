@@ -48,20 +48,34 @@ pub fn write_text<S: Suite>(
                 Key::Private(key) => {
                     write_envelope(alloc, suite, key, comment.as_str(), pass, fresh)
                 }
-                Key::Public(_) => Err(ConvertError::NoPrivateKey),
+                Key::Public(key) => {
+                    drop(key);
+                    Err(ConvertError::NoPrivateKey)
+                }
             }
         }
         KeyTarget::Ppk(version, config) => {
             let Meaning { key, comment } = meaning;
             match key {
                 Key::Private(key) => {
-                    write_file(alloc, suite, version, config, &key, comment, pass, fresh)
+                    let text = write_file(
+                        alloc, suite, version, config, &key, comment, pass, fresh,
+                    );
+                    drop(key);
+                    text
                 }
-                Key::Public(_) => Err(ConvertError::NoPrivateKey),
+                Key::Public(key) => {
+                    drop(key);
+                    Err(ConvertError::NoPrivateKey)
+                }
             }
         }
         KeyTarget::OpenSshPublic => match public_key(alloc, meaning) {
-            Ok(key) => write_line(alloc, &key),
+            Ok(key) => {
+                let line = write_line(alloc, &key);
+                drop(key);
+                line
+            }
             Err(NoMemory) => Err(ConvertError::NoMemory),
         },
         KeyTarget::PuttyPublic => match public_key(alloc, meaning) {

@@ -18,30 +18,30 @@ returns-in-Private-clause-suite g c =
     leaves_as _ _ _ _ _ _ _ _ _ c.write_envelope.result _ _ is c.write_envelope.ensures.suite
 
 pub returns-in-OpenSsh-clause-gives : goal.returns-in-OpenSsh-clause-gives
-returns-in-OpenSsh-clause-gives g c = inr (inr (openssh_wants_private _ _ _ _ c.in-Public.field-0 c.in-OpenSsh.is c.in-Public.is))
+returns-in-OpenSsh-clause-gives g c = inr (inr (openssh_wants_private _ _ _ _ c.in-Public.key c.in-OpenSsh.is c.in-Public.is))
 
 pub returns-in-Private-key-clause-gives : goal.returns-in-Private-key-clause-gives
 returns-in-Private-key-clause-gives g c =
     let is = written_ppk (g.S.Suite.meanings c.args.suite.now) (option_copied c.args.pass) c.args.fresh.now c.args.target c.in-Ppk.version
     c.in-Ppk.config c.args.meaning c.in-Private-key.key c.args.meaning.comment c.in-Ppk.is c.in-Private-key.is refl in
-    gives_as _ _ _ _ _ _ _ errors.NoMemory (λ text. text) c.write_file.result _ is c.write_file.ensures.gives
+    gives_as _ _ _ _ _ _ _ errors.NoMemory (λ text. text) c.write_file-text.result _ is c.write_file-text.ensures.gives
 
 pub returns-in-Private-key-clause-suite : goal.returns-in-Private-key-clause-suite
 returns-in-Private-key-clause-suite g c =
     let is = written_ppk (g.S.Suite.meanings c.args.suite.now) (option_copied c.args.pass) c.args.fresh.now c.args.target c.in-Ppk.version
     c.in-Ppk.config c.args.meaning c.in-Private-key.key c.args.meaning.comment c.in-Ppk.is c.in-Private-key.is refl in
-    leaves_as _ _ _ _ _ _ _ _ _ c.write_file.result _ _ is c.write_file.ensures.suite
+    leaves_as _ _ _ _ _ _ _ _ _ c.write_file-text.result _ _ is c.write_file-text.ensures.suite
 
 pub returns-in-Ppk-clause-gives : goal.returns-in-Ppk-clause-gives
 returns-in-Ppk-clause-gives g c =
-    inr (inr (ppk_wants_private _ _ _ c.in-Ppk.version c.in-Ppk.config _ c.in-Public-key.field-0 c.in-Ppk.is c.in-Public-key.is))
+    inr (inr (ppk_wants_private _ _ _ c.in-Ppk.version c.in-Ppk.config _ c.in-Public-key.key c.in-Ppk.is c.in-Public-key.is))
 
 pub returns-in-Ok-clause-gives : goal.returns-in-Ok-clause-gives
 returns-in-Ok-clause-gives g c =
     let m = g.S.Suite.meanings c.args.suite.now in
     let out : Output = record { pass = option_copied c.args.pass; fresh = c.args.fresh.now } in
     let is = line_is_written m out c.args.target c.args.meaning c.in-Ok.key c.in-OpenSshPublic.is c.in-Ok.ensures in
-    gives_unasked errors.NoMemory _ (λ text. text) c.write_line.result _ _ _ _ is c.write_line.ensures
+    gives_unasked errors.NoMemory _ (λ text. text) c.write_line-line.result _ _ _ _ is c.write_line-line.ensures
 
 pub returns-in-Ok-public_key-clause-gives : goal.returns-in-Ok-public_key-clause-gives
 returns-in-Ok-public_key-clause-gives g c =
