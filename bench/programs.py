@@ -1,4 +1,4 @@
-"""What the benches share: strings of the wire, a program over a copy of the crates, and the runs of a program."""
+"""What the benches share: a program over a copy of the crates, and the runs of a program."""
 import os
 import shutil
 import subprocess
@@ -7,16 +7,6 @@ import time
 from pathlib import Path
 
 ROOT = Path(__file__).resolve().parents[1]
-
-
-def string(content):
-    """A string of RFC 4251, section 5."""
-    return len(content).to_bytes(4, "big") + content
-
-
-def number(magnitude):
-    """An mpint of RFC 4251, section 5, whose first byte isn't zero."""
-    return string(b"\0" + magnitude if magnitude[0] > 127 else magnitude)
 
 
 def build(folder, source, uses, key):
