@@ -1,4 +1,4 @@
-"""What the benches share: a program over a copy of the crates, and the runs of a program."""
+"""Builds and times programs for the scripts of bench/ and for check/refused_memory."""
 import os
 import shutil
 import subprocess
