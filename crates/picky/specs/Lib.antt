@@ -1,0 +1,275 @@
+-- The words of the contracts: the definitions that public clauses of the crates below depend on. Written by check/facade.
+
+pub use Rattle.picky_layout.specs.ByteArray
+pub use Rattle.picky_layout.specs.Combine
+pub use Rattle.picky_layout.specs.Empty
+pub use Rattle.picky_layout.specs.Entry
+pub use Rattle.picky_layout.specs.Fixed
+pub use Rattle.picky_layout.specs.Flaw
+pub use Rattle.picky_layout.specs.Front
+pub use Rattle.picky_layout.specs.Grammar
+pub use Rattle.picky_layout.specs.Inside
+pub use Rattle.picky_layout.specs.Joined as LayoutJoined
+pub use Rattle.picky_layout.specs.Magnitude
+pub use Rattle.picky_layout.specs.Many
+pub use Rattle.picky_layout.specs.Mpint
+pub use Rattle.picky_layout.specs.Named as LayoutNamed
+pub use Rattle.picky_layout.specs.Narrowed
+pub use Rattle.picky_layout.specs.Numbers as LayoutNumbers
+pub use Rattle.picky_layout.specs.OrEmpty
+pub use Rattle.picky_layout.specs.Outcome
+pub use Rattle.picky_layout.specs.Row
+pub use Rattle.picky_layout.specs.Short
+pub use Rattle.picky_layout.specs.Table
+pub use Rattle.picky_layout.specs.When
+pub use Rattle.picky_layout.specs.Wire
+pub use Rattle.picky_layout.specs.Zeros as LayoutZeros
+
+pub use Rattle.picky_text.specs.Appended
+pub use Rattle.picky_text.specs.Base64
+pub use Rattle.picky_text.specs.Lines as TextLines
+pub use Rattle.picky_text.specs.Quote
+pub use Rattle.picky_text.specs.Rows
+pub use Rattle.picky_text.specs.Words
+
+pub use Rattle.picky_wire.specs.Count
+pub use Rattle.picky_wire.specs.Equality
+pub use Rattle.picky_wire.specs.Flaws
+pub use Rattle.picky_wire.specs.Gives
+pub use Rattle.picky_wire.specs.Known
+pub use Rattle.picky_wire.specs.Memory as WireMemory
+pub use Rattle.picky_wire.specs.Moment
+pub use Rattle.picky_wire.specs.Principals
+pub use Rattle.picky_wire.specs.Puts
+pub use Rattle.picky_wire.specs.Reading
+pub use Rattle.picky_wire.specs.Takes
+pub use Rattle.picky_wire.specs.Unread
+pub use Rattle.picky_wire.specs.View as WireView
+
+pub use Rattle.picky_pem.specs.Pem
+pub use Rattle.picky_pem.specs.PemRefusal
+
+pub use Rattle.picky_block.specs.Block
+pub use Rattle.picky_block.specs.BlockRefusal
+pub use Rattle.picky_block.specs.Joined as BlockJoined
+
+pub use Rattle.picky_kv_words.specs.Argon2Keys
+pub use Rattle.picky_kv_words.specs.ChoiceFields
+pub use Rattle.picky_kv_words.specs.Choices
+pub use Rattle.picky_kv_words.specs.Field as KvField
+pub use Rattle.picky_kv_words.specs.Keys as KvKeys
+pub use Rattle.picky_kv_words.specs.Literal
+
+pub use Rattle.picky_kv_values.specs.Blocks
+pub use Rattle.picky_kv_values.specs.ValueFields
+pub use Rattle.picky_kv_values.specs.Values
+
+pub use Rattle.picky_kv.specs.Algorithm as KvAlgorithm
+pub use Rattle.picky_kv.specs.AlgorithmField
+pub use Rattle.picky_kv.specs.Context
+pub use Rattle.picky_kv.specs.Lines as KvLines
+pub use Rattle.picky_kv.specs.NumberFields
+pub use Rattle.picky_kv.specs.Numbers as KvNumbers
+pub use Rattle.picky_kv.specs.Output as KvOutput
+pub use Rattle.picky_kv.specs.Parts as KvParts
+pub use Rattle.picky_kv.specs.ReadBack as KvReadBack
+
+pub use Rattle.picky_keys.specs.NameTables as KeyNameTables
+pub use Rattle.picky_keys.specs.Names as KeyNames
+pub use Rattle.picky_keys.specs.PrivateKey
+pub use Rattle.picky_keys.specs.PublicKey
+
+pub use Rattle.picky_suite.specs.Asked as SuiteAsked
+pub use Rattle.picky_suite.specs.Failures
+pub use Rattle.picky_suite.specs.Fills
+pub use Rattle.picky_suite.specs.Hmac
+pub use Rattle.picky_suite.specs.Mac as SuiteMac
+pub use Rattle.picky_suite.specs.Meanings
+pub use Rattle.picky_suite.specs.Memory as SuiteMemory
+pub use Rattle.picky_suite.specs.Ranges
+pub use Rattle.picky_suite.specs.Signs
+pub use Rattle.picky_suite.specs.Toy
+pub use Rattle.picky_suite.specs.Zeros as SuiteZeros
+
+pub use Rattle.picky_sshpub.specs.Blob as SshPublicBlob
+pub use Rattle.picky_sshpub.specs.BlobLayout as SshPublicBlobLayout
+pub use Rattle.picky_sshpub.specs.BlobRefusal as SshPublicBlobRefusal
+pub use Rattle.picky_sshpub.specs.BlobSpelled
+pub use Rattle.picky_sshpub.specs.FromWire as SshPublicFromWire
+pub use Rattle.picky_sshpub.specs.Key as SshPublicKey
+pub use Rattle.picky_sshpub.specs.Line as SshPublicLine
+pub use Rattle.picky_sshpub.specs.LineRefusal as SshPublicLineRefusal
+pub use Rattle.picky_sshpub.specs.SourceLine as SshPublicSourceLine
+pub use Rattle.picky_sshpub.specs.View as SshPublicView
+
+pub use Rattle.picky_cert_names.specs.ExtensionType
+pub use Rattle.picky_cert_names.specs.FromWire as CertFromWire
+pub use Rattle.picky_cert_names.specs.NameTables as CertNameTables
+pub use Rattle.picky_cert_names.specs.Named as CertNamed
+pub use Rattle.picky_cert_names.specs.Names as CertNames
+
+pub use Rattle.picky_cert_parts.specs.CertNumber
+pub use Rattle.picky_cert_parts.specs.CertType
+pub use Rattle.picky_cert_parts.specs.CriticalOption
+pub use Rattle.picky_cert_parts.specs.Extension
+pub use Rattle.picky_cert_parts.specs.Field as CertPartField
+pub use Rattle.picky_cert_parts.specs.NumberTable
+pub use Rattle.picky_cert_parts.specs.Signature
+pub use Rattle.picky_cert_parts.specs.SignatureSpelled
+
+pub use Rattle.picky_cert_blob.specs.Items
+pub use Rattle.picky_cert_blob.specs.Keeps as CertBlobKeeps
+pub use Rattle.picky_cert_blob.specs.Layout
+pub use Rattle.picky_cert_blob.specs.Listed
+pub use Rattle.picky_cert_blob.specs.Reason
+pub use Rattle.picky_cert_blob.specs.Seen
+pub use Rattle.picky_cert_blob.specs.Shown as CertBlobShown
+pub use Rattle.picky_cert_blob.specs.Spelled as CertBlobSpelled
+pub use Rattle.picky_cert_blob.specs.Subject
+pub use Rattle.picky_cert_blob.specs.Used
+pub use Rattle.picky_cert_blob.specs.View as CertBlobView
+
+pub use Rattle.picky_cert.specs.CertRefusal
+pub use Rattle.picky_cert.specs.Certificate
+pub use Rattle.picky_cert.specs.Keeps as CertKeeps
+pub use Rattle.picky_cert.specs.Line as CertLine
+pub use Rattle.picky_cert.specs.LineRefusal as CertLineRefusal
+pub use Rattle.picky_cert.specs.Shown as CertShown
+pub use Rattle.picky_cert.specs.SourceLine as CertSourceLine
+pub use Rattle.picky_cert.specs.Spelled as CertSpelled
+pub use Rattle.picky_cert.specs.View as CertView
+pub use Rattle.picky_cert.specs.Want as CertWant
+
+pub use Rattle.picky_sshkey_blob.specs.Before
+pub use Rattle.picky_sshkey_blob.specs.Blob as SshPrivateBlob
+pub use Rattle.picky_sshkey_blob.specs.BlobLayout as SshPrivateBlobLayout
+pub use Rattle.picky_sshkey_blob.specs.BlobRefusal as SshPrivateBlobRefusal
+pub use Rattle.picky_sshkey_blob.specs.Copy
+pub use Rattle.picky_sshkey_blob.specs.FromWire as SshPrivateFromWire
+pub use Rattle.picky_sshkey_blob.specs.Key as SshPrivateKey
+pub use Rattle.picky_sshkey_blob.specs.SecretSpelled
+pub use Rattle.picky_sshkey_blob.specs.View as SshPrivateView
+
+pub use Rattle.picky_sshkey.specs.Cipher
+pub use Rattle.picky_sshkey.specs.CipherNames
+pub use Rattle.picky_sshkey.specs.Encodes
+pub use Rattle.picky_sshkey.specs.Envelope
+pub use Rattle.picky_sshkey.specs.Kdf
+pub use Rattle.picky_sshkey.specs.KdfLayout
+pub use Rattle.picky_sshkey.specs.Kept as SshPrivateKept
+pub use Rattle.picky_sshkey.specs.Made as SshPrivateMade
+pub use Rattle.picky_sshkey.specs.Opened as SshPrivateOpened
+pub use Rattle.picky_sshkey.specs.PrivateBlock
+pub use Rattle.picky_sshkey.specs.PrivateRefusal
+pub use Rattle.picky_sshkey.specs.PrivateText
+pub use Rattle.picky_sshkey.specs.Written as SshPrivateWritten
+
+pub use Rattle.picky_cert_builder.specs.Algorithm as BuilderAlgorithm
+pub use Rattle.picky_cert_builder.specs.Built
+pub use Rattle.picky_cert_builder.specs.ByName
+pub use Rattle.picky_cert_builder.specs.Draft
+pub use Rattle.picky_cert_builder.specs.Drafted as BuilderDrafted
+pub use Rattle.picky_cert_builder.specs.Fit
+pub use Rattle.picky_cert_builder.specs.Issuer
+pub use Rattle.picky_cert_builder.specs.Keeps as BuilderKeeps
+pub use Rattle.picky_cert_builder.specs.Permits
+pub use Rattle.picky_cert_builder.specs.Request as BuilderRequest
+pub use Rattle.picky_cert_builder.specs.Terms
+
+pub use Rattle.picky_ppk_parts.specs.Aes
+pub use Rattle.picky_ppk_parts.specs.Algorithm as PpkPartAlgorithm
+pub use Rattle.picky_ppk_parts.specs.Asked as PpkPartAsked
+pub use Rattle.picky_ppk_parts.specs.Config
+pub use Rattle.picky_ppk_parts.specs.Counted
+pub use Rattle.picky_ppk_parts.specs.EdSecret
+pub use Rattle.picky_ppk_parts.specs.KeyParts
+pub use Rattle.picky_ppk_parts.specs.Keys as PpkPartKeys
+pub use Rattle.picky_ppk_parts.specs.Mac as PpkPartMac
+pub use Rattle.picky_ppk_parts.specs.MacFields
+pub use Rattle.picky_ppk_parts.specs.Material
+pub use Rattle.picky_ppk_parts.specs.Number
+pub use Rattle.picky_ppk_parts.specs.Parts as PpkPartParts
+pub use Rattle.picky_ppk_parts.specs.PartsRefusal
+pub use Rattle.picky_ppk_parts.specs.Secret
+pub use Rattle.picky_ppk_parts.specs.Unsupported
+
+pub use Rattle.picky_ppk_file.specs.File
+pub use Rattle.picky_ppk_file.specs.FileRefusal
+pub use Rattle.picky_ppk_file.specs.FileText
+pub use Rattle.picky_ppk_file.specs.Written as PpkFileWritten
+
+pub use Rattle.picky_putty_public.specs.PuttyPublic
+pub use Rattle.picky_putty_public.specs.PuttyRefusal
+
+pub use Rattle.picky_ppk.specs.Changed
+pub use Rattle.picky_ppk.specs.Checked
+pub use Rattle.picky_ppk.specs.Fresh
+pub use Rattle.picky_ppk.specs.KeyOf
+pub use Rattle.picky_ppk.specs.Keyed
+pub use Rattle.picky_ppk.specs.Mac as PpkMac
+pub use Rattle.picky_ppk.specs.Opened as PpkOpened
+pub use Rattle.picky_ppk.specs.Sealed
+pub use Rattle.picky_ppk.specs.Wrappers
+
+pub use Rattle.picky_key_text.specs.Form
+pub use Rattle.picky_key_text.specs.Kept as KeyTextKept
+pub use Rattle.picky_key_text.specs.Key as KeyTextKey
+pub use Rattle.picky_key_text.specs.Order
+pub use Rattle.picky_key_text.specs.PpkText
+pub use Rattle.picky_key_text.specs.Reader
+pub use Rattle.picky_key_text.specs.Reads
+pub use Rattle.picky_key_text.specs.Want as KeyTextWant
+
+pub use Rattle.picky_target.specs.Carried
+pub use Rattle.picky_target.specs.Drafts
+pub use Rattle.picky_target.specs.Judged
+pub use Rattle.picky_target.specs.Output as TargetOutput
+pub use Rattle.picky_target.specs.ReadBack as TargetReadBack
+pub use Rattle.picky_target.specs.Texts as TargetTexts
+pub use Rattle.picky_target.specs.Written as TargetWritten
+
+pub use Rattle.picky_issuing.specs.NamedPayload
+pub use Rattle.picky_issuing.specs.OptionWord
+pub use Rattle.picky_issuing.specs.Options
+pub use Rattle.picky_issuing.specs.Parts as IssuingParts
+pub use Rattle.picky_issuing.specs.Steps
+pub use Rattle.picky_issuing.specs.Value
+
+pub use Rattle.picky_cert_target.specs.Certified
+pub use Rattle.picky_cert_target.specs.Drafted as CertTargetDrafted
+pub use Rattle.picky_cert_target.specs.Request as CertTargetRequest
+
+pub use Rattle.picky_conversion.specs.Certify
+pub use Rattle.picky_conversion.specs.Chain as ConversionChain
+pub use Rattle.picky_conversion.specs.Convert
+pub use Rattle.picky_conversion.specs.Issue
+pub use Rattle.picky_conversion.specs.Made as ConversionMade
+pub use Rattle.picky_conversion.specs.Outside
+pub use Rattle.picky_conversion.specs.Refusal
+pub use Rattle.picky_conversion.specs.To
+pub use Rattle.picky_conversion.specs.Want as ConversionWant
+
+pub use Rattle.picky_sample.specs.Chain as SampleChain
+pub use Rattle.picky_sample.specs.Generator
+pub use Rattle.picky_sample.specs.Keys as SampleKeys
+pub use Rattle.picky_sample.specs.Sample
+pub use Rattle.picky_sample.specs.Texts as SampleTexts
+
+pub use Rattle.picky_convert.specs.Command
+pub use Rattle.picky_convert.specs.Fingerprint
+pub use Rattle.picky_convert.specs.Report
+pub use Rattle.picky_convert.specs.Run
+
+pub use Rattle.picky_cert_names.specs.declared.known_extension.KnownExtension as KnownExtensionType
+pub use Rattle.picky_convert.specs.declared.command.Command as CommandType
+pub use Rattle.picky_issuing.specs.declared.option_word.OptionWord as OptionWordType
+pub use Rattle.picky_sshkey.specs.declared.cipher.Cipher as CipherType
+
+pub use Rattle.base64.specs.Engines
+pub use Rattle.base64.specs.GeneralPurpose
+pub use Rattle.hex.specs.Hex
+pub use Rattle.md5.specs.Md5
+pub use Rattle.rand_core.specs.Stream
+pub use Rattle.sha1.specs.Sha1
+pub use Rattle.sha2.specs.Sha256
+pub use Rattle.sha2.specs.Sha512

@@ -1,0 +1,17 @@
+//! What a key text means in each of its forms, its conversion to a target, certificates issued from one source, and the run of
+//! the program.
+
+pub mod laws;
+
+// Reading and writing.
+pub use picky_key_text::{Form, Key, Meaning, ReadError, form_of, public_key, read_text};
+pub use picky_target::{ConvertError, KeyTarget, carries_comment, write_text};
+
+// The conversion, and certificates.
+pub use picky_cert_target::{CertRequest, write_certificate, write_signed_bytes};
+pub use picky_conversion::{Given, Target, convert, convert_key, issue, print_signed};
+pub use picky_issuing::{CertOptions, Parts, number_of, options_of, parts_of};
+
+// The program.
+pub use picky_convert::{Status, StatusWord, run, word};
+pub use picky_sample::sample;
