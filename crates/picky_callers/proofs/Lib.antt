@@ -1,0 +1,2 @@
+mod IssuedLemmas
+mod PuttyFileLemmas
