@@ -1,5 +1,4 @@
 -- The words of the contracts: the definitions that public clauses of the crates below depend on. Written by check/facade.
-
 pub use Rattle.picky_layout.specs.ByteArray
 pub use Rattle.picky_layout.specs.Combine
 pub use Rattle.picky_layout.specs.Empty
@@ -24,14 +23,12 @@ pub use Rattle.picky_layout.specs.Table
 pub use Rattle.picky_layout.specs.When
 pub use Rattle.picky_layout.specs.Wire
 pub use Rattle.picky_layout.specs.Zeros as LayoutZeros
-
 pub use Rattle.picky_text.specs.Appended
 pub use Rattle.picky_text.specs.Base64
 pub use Rattle.picky_text.specs.Lines as TextLines
 pub use Rattle.picky_text.specs.Quote
 pub use Rattle.picky_text.specs.Rows
 pub use Rattle.picky_text.specs.Words
-
 pub use Rattle.picky_wire.specs.Count
 pub use Rattle.picky_wire.specs.Equality
 pub use Rattle.picky_wire.specs.Flaws
@@ -45,25 +42,20 @@ pub use Rattle.picky_wire.specs.Reading
 pub use Rattle.picky_wire.specs.Takes
 pub use Rattle.picky_wire.specs.Unread
 pub use Rattle.picky_wire.specs.View as WireView
-
 pub use Rattle.picky_pem.specs.Pem
 pub use Rattle.picky_pem.specs.PemRefusal
-
 pub use Rattle.picky_block.specs.Block
 pub use Rattle.picky_block.specs.BlockRefusal
 pub use Rattle.picky_block.specs.Joined as BlockJoined
-
 pub use Rattle.picky_kv_words.specs.Argon2Keys
 pub use Rattle.picky_kv_words.specs.ChoiceFields
 pub use Rattle.picky_kv_words.specs.Choices
 pub use Rattle.picky_kv_words.specs.Field as KvField
 pub use Rattle.picky_kv_words.specs.Keys as KvKeys
 pub use Rattle.picky_kv_words.specs.Literal
-
 pub use Rattle.picky_kv_values.specs.Blocks
 pub use Rattle.picky_kv_values.specs.ValueFields
 pub use Rattle.picky_kv_values.specs.Values
-
 pub use Rattle.picky_kv.specs.Algorithm as KvAlgorithm
 pub use Rattle.picky_kv.specs.AlgorithmField
 pub use Rattle.picky_kv.specs.Context
@@ -73,12 +65,10 @@ pub use Rattle.picky_kv.specs.Numbers as KvNumbers
 pub use Rattle.picky_kv.specs.Output as KvOutput
 pub use Rattle.picky_kv.specs.Parts as KvParts
 pub use Rattle.picky_kv.specs.ReadBack as KvReadBack
-
 pub use Rattle.picky_keys.specs.NameTables as KeyNameTables
 pub use Rattle.picky_keys.specs.Names as KeyNames
 pub use Rattle.picky_keys.specs.PrivateKey
 pub use Rattle.picky_keys.specs.PublicKey
-
 pub use Rattle.picky_suite.specs.Asked as SuiteAsked
 pub use Rattle.picky_suite.specs.Failures
 pub use Rattle.picky_suite.specs.Fills
@@ -90,7 +80,6 @@ pub use Rattle.picky_suite.specs.Ranges
 pub use Rattle.picky_suite.specs.Signs
 pub use Rattle.picky_suite.specs.Toy
 pub use Rattle.picky_suite.specs.Zeros as SuiteZeros
-
 pub use Rattle.picky_sshpub.specs.Blob as SshPublicBlob
 pub use Rattle.picky_sshpub.specs.BlobLayout as SshPublicBlobLayout
 pub use Rattle.picky_sshpub.specs.BlobRefusal as SshPublicBlobRefusal
@@ -101,13 +90,11 @@ pub use Rattle.picky_sshpub.specs.Line as SshPublicLine
 pub use Rattle.picky_sshpub.specs.LineRefusal as SshPublicLineRefusal
 pub use Rattle.picky_sshpub.specs.SourceLine as SshPublicSourceLine
 pub use Rattle.picky_sshpub.specs.View as SshPublicView
-
 pub use Rattle.picky_cert_names.specs.ExtensionType
 pub use Rattle.picky_cert_names.specs.FromWire as CertFromWire
 pub use Rattle.picky_cert_names.specs.NameTables as CertNameTables
 pub use Rattle.picky_cert_names.specs.Named as CertNamed
 pub use Rattle.picky_cert_names.specs.Names as CertNames
-
 pub use Rattle.picky_cert_parts.specs.CertNumber
 pub use Rattle.picky_cert_parts.specs.CertType
 pub use Rattle.picky_cert_parts.specs.CriticalOption
@@ -116,7 +103,6 @@ pub use Rattle.picky_cert_parts.specs.Field as CertPartField
 pub use Rattle.picky_cert_parts.specs.NumberTable
 pub use Rattle.picky_cert_parts.specs.Signature
 pub use Rattle.picky_cert_parts.specs.SignatureSpelled
-
 pub use Rattle.picky_cert_blob.specs.Items
 pub use Rattle.picky_cert_blob.specs.Keeps as CertBlobKeeps
 pub use Rattle.picky_cert_blob.specs.Layout
@@ -128,7 +114,6 @@ pub use Rattle.picky_cert_blob.specs.Spelled as CertBlobSpelled
 pub use Rattle.picky_cert_blob.specs.Subject
 pub use Rattle.picky_cert_blob.specs.Used
 pub use Rattle.picky_cert_blob.specs.View as CertBlobView
-
 pub use Rattle.picky_cert.specs.CertRefusal
 pub use Rattle.picky_cert.specs.Certificate
 pub use Rattle.picky_cert.specs.Keeps as CertKeeps
@@ -139,7 +124,6 @@ pub use Rattle.picky_cert.specs.SourceLine as CertSourceLine
 pub use Rattle.picky_cert.specs.Spelled as CertSpelled
 pub use Rattle.picky_cert.specs.View as CertView
 pub use Rattle.picky_cert.specs.Want as CertWant
-
 pub use Rattle.picky_sshkey_blob.specs.Before
 pub use Rattle.picky_sshkey_blob.specs.Blob as SshPrivateBlob
 pub use Rattle.picky_sshkey_blob.specs.BlobLayout as SshPrivateBlobLayout
@@ -149,7 +133,6 @@ pub use Rattle.picky_sshkey_blob.specs.FromWire as SshPrivateFromWire
 pub use Rattle.picky_sshkey_blob.specs.Key as SshPrivateKey
 pub use Rattle.picky_sshkey_blob.specs.SecretSpelled
 pub use Rattle.picky_sshkey_blob.specs.View as SshPrivateView
-
 pub use Rattle.picky_sshkey.specs.Cipher
 pub use Rattle.picky_sshkey.specs.CipherNames
 pub use Rattle.picky_sshkey.specs.Encodes
@@ -163,7 +146,6 @@ pub use Rattle.picky_sshkey.specs.PrivateBlock
 pub use Rattle.picky_sshkey.specs.PrivateRefusal
 pub use Rattle.picky_sshkey.specs.PrivateText
 pub use Rattle.picky_sshkey.specs.Written as SshPrivateWritten
-
 pub use Rattle.picky_cert_builder.specs.Algorithm as BuilderAlgorithm
 pub use Rattle.picky_cert_builder.specs.Built
 pub use Rattle.picky_cert_builder.specs.ByName
@@ -175,7 +157,6 @@ pub use Rattle.picky_cert_builder.specs.Keeps as BuilderKeeps
 pub use Rattle.picky_cert_builder.specs.Permits
 pub use Rattle.picky_cert_builder.specs.Request as BuilderRequest
 pub use Rattle.picky_cert_builder.specs.Terms
-
 pub use Rattle.picky_ppk_parts.specs.Aes
 pub use Rattle.picky_ppk_parts.specs.Algorithm as PpkPartAlgorithm
 pub use Rattle.picky_ppk_parts.specs.Asked as PpkPartAsked
@@ -192,15 +173,12 @@ pub use Rattle.picky_ppk_parts.specs.Parts as PpkPartParts
 pub use Rattle.picky_ppk_parts.specs.PartsRefusal
 pub use Rattle.picky_ppk_parts.specs.Secret
 pub use Rattle.picky_ppk_parts.specs.Unsupported
-
 pub use Rattle.picky_ppk_file.specs.File
 pub use Rattle.picky_ppk_file.specs.FileRefusal
 pub use Rattle.picky_ppk_file.specs.FileText
 pub use Rattle.picky_ppk_file.specs.Written as PpkFileWritten
-
 pub use Rattle.picky_putty_public.specs.PuttyPublic
 pub use Rattle.picky_putty_public.specs.PuttyRefusal
-
 pub use Rattle.picky_ppk.specs.Changed
 pub use Rattle.picky_ppk.specs.Checked
 pub use Rattle.picky_ppk.specs.Fresh
@@ -210,7 +188,6 @@ pub use Rattle.picky_ppk.specs.Mac as PpkMac
 pub use Rattle.picky_ppk.specs.Opened as PpkOpened
 pub use Rattle.picky_ppk.specs.Sealed
 pub use Rattle.picky_ppk.specs.Wrappers
-
 pub use Rattle.picky_key_text.specs.Form
 pub use Rattle.picky_key_text.specs.Kept as KeyTextKept
 pub use Rattle.picky_key_text.specs.Key as KeyTextKey
@@ -219,7 +196,6 @@ pub use Rattle.picky_key_text.specs.PpkText
 pub use Rattle.picky_key_text.specs.Reader
 pub use Rattle.picky_key_text.specs.Reads
 pub use Rattle.picky_key_text.specs.Want as KeyTextWant
-
 pub use Rattle.picky_target.specs.Carried
 pub use Rattle.picky_target.specs.Drafts
 pub use Rattle.picky_target.specs.Judged
@@ -227,18 +203,15 @@ pub use Rattle.picky_target.specs.Output as TargetOutput
 pub use Rattle.picky_target.specs.ReadBack as TargetReadBack
 pub use Rattle.picky_target.specs.Texts as TargetTexts
 pub use Rattle.picky_target.specs.Written as TargetWritten
-
 pub use Rattle.picky_issuing.specs.NamedPayload
 pub use Rattle.picky_issuing.specs.OptionWord
 pub use Rattle.picky_issuing.specs.Options
 pub use Rattle.picky_issuing.specs.Parts as IssuingParts
 pub use Rattle.picky_issuing.specs.Steps
 pub use Rattle.picky_issuing.specs.Value
-
 pub use Rattle.picky_cert_target.specs.Certified
 pub use Rattle.picky_cert_target.specs.Drafted as CertTargetDrafted
 pub use Rattle.picky_cert_target.specs.Request as CertTargetRequest
-
 pub use Rattle.picky_conversion.specs.Certify
 pub use Rattle.picky_conversion.specs.Chain as ConversionChain
 pub use Rattle.picky_conversion.specs.Convert
@@ -248,23 +221,19 @@ pub use Rattle.picky_conversion.specs.Outside
 pub use Rattle.picky_conversion.specs.Refusal
 pub use Rattle.picky_conversion.specs.To
 pub use Rattle.picky_conversion.specs.Want as ConversionWant
-
 pub use Rattle.picky_sample.specs.Chain as SampleChain
 pub use Rattle.picky_sample.specs.Generator
 pub use Rattle.picky_sample.specs.Keys as SampleKeys
 pub use Rattle.picky_sample.specs.Sample
 pub use Rattle.picky_sample.specs.Texts as SampleTexts
-
 pub use Rattle.picky_convert.specs.Command
 pub use Rattle.picky_convert.specs.Fingerprint
 pub use Rattle.picky_convert.specs.Report
 pub use Rattle.picky_convert.specs.Run
-
 pub use Rattle.picky_cert_names.specs.declared.known_extension.KnownExtension as KnownExtensionType
 pub use Rattle.picky_convert.specs.declared.command.Command as CommandType
 pub use Rattle.picky_issuing.specs.declared.option_word.OptionWord as OptionWordType
 pub use Rattle.picky_sshkey.specs.declared.cipher.Cipher as CipherType
-
 pub use Rattle.base64.specs.Engines
 pub use Rattle.base64.specs.GeneralPurpose
 pub use Rattle.hex.specs.Hex

@@ -4,13 +4,13 @@
 pub mod laws;
 
 // Files.
-pub use picky_text::LineEnd;
 pub use picky_ppk::{
     Argon2Flavour, Argon2Params, KeyMaterialV2, KeyMaterialV3, MAC_SIZE_V3, Ppk,
     PpkEncryptionConfig, PpkEncryptionConfigBuilder, PpkFile, PpkKeyAlgorithm, PpkSealing,
     PpkVersion, PuttyBasePrivateKey, PuttyBasePublicKey, PuttyError, PuttyPrivateKey,
     PuttyPublicKey, aes, can_derive_by, flavour_of,
 };
+pub use picky_text::LineEnd;
 
 // What a file is made of.
 pub use picky_ppk_parts::{
