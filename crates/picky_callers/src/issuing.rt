@@ -1,7 +1,8 @@
 //! A host's certificate issued, with a signer of the caller's own.
 
-ghost use Rattle.std.specs.Prelude.{◌≡◌, ◌+◌, ◌-◌, ◌^◌, IfOk, OnOk, min};
+ghost use Rattle.std.specs.Prelude.{◌≡◌, ◌⊎◌, ◌+◌, ◌-◌, ◌^◌, Err, IfErr, IfOk, OnOk, min};
 ghost use Rattle.std.proofs.Common.{arith};
+ghost use Rattle.picky.specs.Draft.{requested};
 ghost use Rattle.picky.specs.PrivateKey.{issuer_key};
 ghost use Rattle.picky.specs.Signs.{Signs};
 ghost use Rattle.picky_callers.specs.Issued.{host_request, IsIssued};
@@ -93,6 +94,10 @@ pub fn host_certificate<G: Signer>(
 ) -> Result<SshCertificate, SshCertificateGenerationError>
     // It says just that, and its signature is one that the signer calls good, under the issuer's key, of exactly what is said.
     ensures ok { IfOk result (IsIssued (G.signs signer.old) (host_request issuer key_type host names valid_after valid_before) nonce.now) }
+
+    // Else no certificate comes of what is asked, or the signer failed.
+    ensures refused { IfErr result (λ e. (e ≡ SshCertificateGenerationError.NoMemory) ⊎ (e ≡ SshCertificateGenerationError.SignatureError)
+        ⊎ (requested (host_request issuer key_type host names valid_after valid_before) nonce.now ≡ Err e)) }
 {
     let mut builder = request_for(issuer, key_type, host, names, valid_after, valid_before);
     let built = builder.build(alloc, nonce, signer);

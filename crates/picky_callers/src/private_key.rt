@@ -1,9 +1,10 @@
 //! A private key read under a passphrase, with a suite of the caller's own.
 
-ghost use Rattle.std.specs.Prelude.{◌≡◌, ◌≤◌, ◌+◌, ◌-◌, ◌^◌, Some, IfOk, OnOk, length, min};
+ghost use Rattle.std.specs.Prelude.{◌≡◌, ◌⊎◌, ◌≤◌, ◌+◌, ◌-◌, ◌^◌, Some, Err, IfErr, IfOk, OnOk, length, min};
 ghost use Rattle.std.proofs.Common.{arith};
 ghost use Rattle.picky.specs.Fills.{Fills};
 ghost use Rattle.picky.specs.Ranges.{BcryptOk, IsBcryptLen};
+ghost use Rattle.picky.specs.PrivateRefusal.{text_key};
 ghost use Rattle.picky.specs.PrivateText.{IsPrivateText};
 
 use picky::ssh::laws::private_key::private_key_means_what_it_says;
@@ -97,7 +98,11 @@ pub fn key_under_limit<S: Suite>(
     // The text means this key under the passphrase, by PROTOCOL.key and what the inner suite's calls mean.
     ensures ok { IfOk result (IsPrivateText (S.meanings suite.old.suite) (Some passphrase.now) text.now) }
 
-    // What those mean stays, for the next call.
+    // Else it is refused as `SshPrivateKey::from_pem_str` refuses it, or since the suite failed.
+    ensures refused { IfErr result (λ e. (e ≡ SshPrivateKeyError.NoMemory) ⊎ (e ≡ SshPrivateKeyError.SuiteFault)
+        ⊎ (text_key (S.meanings suite.old.suite) (Some passphrase.now) text.now ≡ Err e)) }
+
+    // What its calls mean stays, for the next call.
     ensures kept { S.meanings suite.new.suite ≡ S.meanings suite.old.suite }
 {
     private_key_means_what_it_says();

@@ -1,6 +1,9 @@
 //! A private key written as a PuTTY private key file.
 
-ghost use Rattle.std.specs.Prelude.{IfOk};
+ghost use Rattle.std.specs.Prelude.{◌≡◌, ◌⊎◌, Err, IfErr, IfOk};
+ghost use Rattle.picky.specs.Changed.{of_openssh};
+ghost use Rattle.picky.specs.Outcome.{and_then};
+ghost use Rattle.picky.specs.PpkFileWritten.{written};
 ghost use Rattle.picky.specs.SshPrivateKey.{IsPrivateKey};
 ghost use Rattle.picky.specs.TextLines.{IsLine};
 ghost use Rattle.picky.specs.declared.putty.LineEnd.TheVariants.{Lf};
@@ -21,6 +24,10 @@ pub fn putty_file_of<S: Suite>(
     // Read again it is the same key and comment, unless the comment has a line end, which no such file holds.
     ensures ok { IsPrivateKey key.now.base_key → IsLine Lf key.now.comment
         → IfOk result (λ text. IsFileOf (S.meanings suite.now) key.now text) }
+
+    // Else the key has no such file, or the file no such text.
+    ensures refused { IfErr result (λ e. (e ≡ PuttyError.NoMemory)
+        ⊎ (and_then (of_openssh (S.meanings suite.now) key.now) written ≡ Err e)) }
 {
     openssh_key_comes_back();
     match Ppk::from_openssh_private_key(alloc, suite, key) {
