@@ -179,6 +179,7 @@ pub use Rattle.picky_ppk_file.specs.FileText
 pub use Rattle.picky_ppk_file.specs.Written as PpkFileWritten
 pub use Rattle.picky_putty_public.specs.PuttyPublic
 pub use Rattle.picky_putty_public.specs.PuttyRefusal
+pub use Rattle.picky_ppk.specs.Accepted
 pub use Rattle.picky_ppk.specs.Changed
 pub use Rattle.picky_ppk.specs.Checked
 pub use Rattle.picky_ppk.specs.Fresh

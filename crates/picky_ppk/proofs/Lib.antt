@@ -6,3 +6,4 @@ pub mod SealedLemmas
 pub mod FreshLemmas
 pub mod SealLaws
 pub mod BindLaws
+pub mod AcceptedLaws

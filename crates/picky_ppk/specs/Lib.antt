@@ -2,6 +2,7 @@ pub mod Mac
 pub mod Checked
 pub mod Keyed
 pub mod Opened
+pub mod Accepted
 pub mod Sealed
 pub mod Fresh
 pub mod Changed

@@ -15,6 +15,7 @@ ghost use Rattle.picky_ppk_file.specs.declared.file.PpkFile.{PpkFile as File};
 ghost use Rattle.picky_ppk_file.specs.File.{IsFile, version_of, is_sealed};
 ghost use Rattle.picky_ppk_file.specs.Written.{end_of, written};
 ghost use Rattle.picky_ppk.specs.Mac.{CarriesMac, covered};
+ghost use Rattle.picky_ppk.specs.Accepted.{HaveOneMac, IsAccepted, SayTheSame, mac_key_under};
 ghost use Rattle.picky_ppk.specs.Checked.{ppk_meaning};
 ghost use Rattle.picky_ppk.specs.Opened.{decrypted};
 ghost use Rattle.picky_ppk.specs.Sealed.{padding_len, encrypted};
@@ -25,6 +26,7 @@ ghost use Rattle.picky_ppk.specs.declared.wrappers.PuttyBasePrivateKey.{PuttyBas
 
 use crate::ppk::Ppk;
 use crate::wrappers::{PuttyBasePrivateKey, PuttyBasePublicKey, PuttyPrivateKey};
+pub use picky_ppk_parts::laws::no_mac_input_is_a_front_of_another;
 
 /// What is written of a file that is sealed, or carries its own MAC, is read back, whatever follows it, where the comment
 /// has no LF, and in version 3 no CR at its end.
@@ -68,6 +70,14 @@ pub fn mac_binds_its_fields()
         → covered f a ++ x ≡ covered g b ++ y
         → (f.algorithm ≡ g.algorithm) × (is_sealed f.sealing ≡ is_sealed g.sealing) × (f.comment ≡ g.comment)
         × (f.public_key ≡ g.public_key) × (a ≡ b) }
+{}
+
+/// Two texts that are accepted, whose MACs are equal under equal keys, and that differ in algorithm, encryption, comment, public
+/// blob or opened private bytes, have two different messages with one MAC.
+pub fn accepted_texts_with_one_mac_have_two_messages()
+    ensures { (m : Meanings) (pass other s t : List ℕ) (f g : File) → IsAccepted m pass s f → IsAccepted m other t g
+        → mac_key_under m pass f ≡ mac_key_under m other g → f.mac ≡ g.mac → (SayTheSame m pass other f g → ⊥)
+        → HaveOneMac m pass other f g }
 {}
 
 /// Two files are equal exactly where their fields are, and so are keys without a file.

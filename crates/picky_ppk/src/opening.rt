@@ -7,6 +7,7 @@ ghost use Rattle.picky_wire.specs.Gives.{Gives};
 ghost use Rattle.picky_suite.specs.Asked.{GivesAsked, LeavesSuite};
 ghost use Rattle.picky_ppk_parts.specs.Aes.{is_aligned};
 ghost use Rattle.picky_ppk_parts.specs.Counted.{counted};
+ghost use Rattle.picky_ppk.specs.Accepted.{MacHolds};
 ghost use Rattle.picky_ppk.specs.Mac.{CarriesMac};
 ghost use Rattle.picky_ppk.specs.Opened.{decrypted, is_openable, not_openable};
 ghost use Rattle.picky_ppk.specs.Opened.{opened_file as opened_file_of, unsealed as unsealed_of};
@@ -26,7 +27,7 @@ impl Ppk {
     ///
     /// Refuses, in order: `AlreadyDecrypted`; `Argon2`, where it can't be run with the file's numbers; `Aes`, where the
     /// block isn't whole; `SuiteFault`; `MacValidation`; `IoError(UnexpectedEnd)`, where a counted string is cut.
-    #[tactic(auto, unfolding(crate::specs::Opened::decrypted))]
+    #[tactic(auto, unfolding(crate::specs::Opened::decrypted), using(crate::proofs::AcceptedLaws::decrypted_holds))]
     pub fn decrypt<S: Suite>(
         &self,
         alloc: Global,
@@ -39,7 +40,10 @@ impl Ppk {
         ensures suite { LeavesSuite S.meanings S.faults PuttyError.SuiteFault (is_openable passphrase.now self.now) result
             suite.old suite.new }
 
-        // It carries the MAC of its own version and fields.
+        // The MAC that was kept is that of the fields and of what was opened.
+        ensures covers { OnOk result (MacHolds (S.meanings suite.old) passphrase.now self.now) }
+
+        // The answer carries the MAC of its own version and fields.
         ensures mac { IfOk result (λ ppk. CarriesMac (S.meanings suite.old) ppk) }
     {
         match openable(self.file(), passphrase) {
