@@ -213,6 +213,8 @@ pub use Rattle.picky_issuing.specs.Value
 pub use Rattle.picky_cert_target.specs.Certified
 pub use Rattle.picky_cert_target.specs.Drafted as CertTargetDrafted
 pub use Rattle.picky_cert_target.specs.Request as CertTargetRequest
+pub use Rattle.picky_conversion.specs.AnyChain
+pub use Rattle.picky_conversion.specs.Binds
 pub use Rattle.picky_conversion.specs.Certify
 pub use Rattle.picky_conversion.specs.Chain as ConversionChain
 pub use Rattle.picky_conversion.specs.Convert

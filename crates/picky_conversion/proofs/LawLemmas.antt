@@ -51,7 +51,7 @@ no_need_of_public None key = refl
 no_need_of_public (Some pass) (keys.Private key) = refl
 no_need_of_public (Some pass) (keys.Public key) = refl
 
-judged_kept : (out : Output) (to : KeyTarget) (meaning : Meaning) → judged out to (kept to meaning) ≡ judged out to meaning
+pub judged_kept : (out : Output) (to : KeyTarget) (meaning : Meaning) → judged out to (kept to meaning) ≡ judged out to meaning
 unfolding judged
 judged_kept out targets.OpenSsh meaning = refl
 judged_kept out (targets.Ppk version config) meaning = refl
@@ -60,7 +60,7 @@ judged_kept out targets.OpenSshPublic meaning =
 judged_kept out targets.PuttyPublic meaning =
     rw (no_need_of_public out.pass (keys.Public (public_part meaning.key)), no_need_of_public out.pass meaning.key) refl
 
-text_kept : (m : Meanings) (out : Output) (to : KeyTarget) (meaning : Meaning)
+pub text_kept : (m : Meanings) (out : Output) (to : KeyTarget) (meaning : Meaning)
     → text_for m out to (kept to meaning) ≡ text_for m out to meaning
 text_kept m out targets.OpenSsh meaning = refl
 text_kept m out (targets.Ppk version config) meaning = refl
@@ -68,7 +68,7 @@ text_kept m out targets.OpenSshPublic meaning = refl
 text_kept m out targets.PuttyPublic meaning = refl
 
 -- what is written of a meaning that was read means what is kept of it
-text_means : (o : Outside) (to : KeyTarget) (meaning : Meaning) → IsGiven o → IsTarget to → IsKept meaning
+pub text_means : (o : Outside) (to : KeyTarget) (meaning : Meaning) → IsGiven o → IsTarget to → IsKept meaning
     → judged o.output to meaning ≡ Ok tt
     → reading (under o.meanings o.output.pass) (text_for o.meanings o.output to meaning) ≡ Ok (kept to meaning)
 text_means o to meaning given fits is_kept passed =

@@ -4,5 +4,6 @@ pub mod ConvertLemmas
 pub mod CertifyLemmas
 pub mod IssueLemmas
 pub mod IssuedLemmas
+pub mod KeptLemmas
 pub mod ToLemmas
 pub mod LawLemmas

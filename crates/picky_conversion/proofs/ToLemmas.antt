@@ -8,6 +8,7 @@ use Rattle.picky_target.specs.declared.error.ConvertError.{ConvertError}
 use Rattle.picky_target.specs.declared.error.ConvertError.TheVariants as errors
 use Rattle.picky_cert_target.specs.Certified.{Relation}
 use Rattle.picky_conversion.specs.Certify.{certification}
+use Rattle.picky_conversion.specs.Binds.{BindsTo}
 use Rattle.picky_conversion.specs.Chain.{IsGiven}
 use Rattle.picky_conversion.specs.Convert.{AnswersText, IsFaultOf, conversion}
 use Rattle.picky_conversion.specs.declared.target.Target.{Target}
@@ -18,6 +19,7 @@ use Rattle.picky_conversion.specs.Outside.{Outside, reader}
 use Rattle.picky_conversion.specs.To.{CanConvert, Certified, IsConverted, IsFaultTo, IsWay, Way, Written, converted, way_to}
 use Rattle.picky_conversion.proofs.IssuedLemmas.{certification_from, certified_is, signed_of_it, whole_of}
 use Rattle.picky_conversion.proofs.ConvertLemmas.{conversion_is, conversion_valid}
+use Rattle.picky_conversion.proofs.KeptLemmas.{text_binds}
 
 converted_is : (signs : Relation) (o : Outside) (way : Way) (input text : List ℕ) → IsGiven o → IsWay way → IsUtf8 input
     → Writes signs (converted o way input) text → IsConverted signs o way input text
@@ -40,6 +42,18 @@ pub answered_converts : (signs : Relation) (o : Outside) (way : Way) (input : Li
     → Answers signs (λ text. text) (converted o way input) Faults rose r → IfOk r (λ text. IsConverted signs o way input text)
 answered_converts signs o way input Faults rose (Ok text) given fits utf8 answers = converted_is signs o way input text given fits utf8 answers
 answered_converts signs o way input Faults rose (Err e) given fits utf8 answers = tt
+
+binds_to : (signs : Relation) (o : Outside) (way : Way) (input text : List ℕ) → IsGiven o → IsWay way → IsUtf8 input
+    → Writes signs (converted o way input) text → BindsTo o way input text
+binds_to signs o (Written target) input text given fits utf8 done =
+    text_binds o target input text given fits utf8 (whole_of signs (conversion o target input) text done)
+binds_to signs o (Certified request) input text given fits utf8 done = tt
+
+pub answered_binds : (signs : Relation) (o : Outside) (way : Way) (input : List ℕ) (Faults : ConvertError → Type 0)
+    (rose : Type 0) (r : Result (List ℕ) ConvertError) → IsGiven o → IsWay way → IsUtf8 input
+    → Answers signs (λ text. text) (converted o way input) Faults rose r → IfOk r (BindsTo o way input)
+answered_binds signs o way input Faults rose (Ok text) given fits utf8 answers = binds_to signs o way input text given fits utf8 answers
+answered_binds signs o way input Faults rose (Err e) given fits utf8 answers = tt
 
 pub answered_whole : (signs : Relation) (o : Outside) (way : Way) (input : List ℕ) (Faults : ConvertError → Type 0)
     (rose : Type 0) (r : Result (List ℕ) ConvertError) (meaning : Meaning)

@@ -7,3 +7,5 @@ pub mod Certify
 pub mod To
 pub mod Issue
 pub mod Chain
+pub mod AnyChain
+pub mod Binds

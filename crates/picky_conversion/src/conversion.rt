@@ -12,6 +12,7 @@ ghost use Rattle.picky_key_text.specs.Order.{asks};
 ghost use Rattle.picky_key_text.specs.Reads.{Reads};
 ghost use Rattle.picky_target.specs.ReadBack.{IsConfig, IsTarget};
 ghost use Rattle.picky_conversion.specs.Certify.{IsReadFault, certification, drafting};
+ghost use Rattle.picky_conversion.specs.Binds.{BindsTo};
 ghost use Rattle.picky_conversion.specs.Chain.{IsGiven};
 ghost use Rattle.picky_conversion.specs.Outside.{outside, outside_of, reader};
 ghost use Rattle.picky_conversion.specs.Convert.{AnswersText, LeavesAskedSuite, converting_asks};
@@ -61,6 +62,12 @@ pub fn convert<S: Suite, G: Signer>(
     // A text is of the one meaning, and is read back; and where no device signs it, it is the one spelling.
     ensures converts { IfOk result (λ text. IsConverted (G.signs signer.old)
         (outside_of (S.meanings suite.old) pass_in.entry pass_out.entry fresh.now) (way_to target.now) input.now text) }
+
+    // It equals another conversion's text exactly where the target keeps the same of both.
+    ensures binds { IfOk result (BindsTo
+        (outside_of (S.meanings suite.old) pass_in.entry pass_out.entry fresh.now) (way_to target.now) input.now) }
+
+    // What has a text for the target is answered so.
     ensures complete { (meaning : Meant)
         → Reads (reader (outside_of (S.meanings suite.old) pass_in.entry pass_out.entry fresh.now)) input.now meaning
         → CanConvert (outside_of (S.meanings suite.old) pass_in.entry pass_out.entry fresh.now) (way_to target.now) meaning

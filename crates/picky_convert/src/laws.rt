@@ -10,6 +10,14 @@ ghost use Rattle.picky_convert.specs.Run.{outcome, outcome_signs, IsValid};
 
 use crate::error::Status;
 
+// One meaning, and what conversions keep and bind.
+pub use picky_conversion::laws::{
+    conversions_through_any_targets_keep_public_parts,
+    conversions_through_private_targets_lose_nothing, texts_bind_what_is_kept,
+    written_text_is_kept,
+};
+pub use picky_key_text::laws::text_has_one_meaning;
+
 /// For each valid input of a command there is something that it comes to before a device signs.
 pub fn outcome_is_the_answer_to_its_input()
     ensures { (o : Outside) (c : Named) (input : List ℕ) → IsValid o c input → (made : Made) × (outcome o c input ≡ Ok made) }
