@@ -10,7 +10,7 @@ use picky_sshkey::{SshBasePrivateKey, SshPrivateKey};
 use picky_suite::PlainSuite;
 use picky_wire::{SliceSource, Text};
 use std::alloc::Global;
-use std::mem::ManuallyDrop;
+use std::mem::{ManuallyDrop, replace};
 use std::test::Fail;
 
 /// How many bytes a text here has at most.
@@ -81,12 +81,30 @@ fn converts_as_puttygen_does_and_back(rt: HostRuntime) -> Result<(), Fail> {
     Ok(())
 }
 
-/// Through PuTTY's versions 3 and 2 a text becomes what it is written as directly.
+/// Through five texts of both programs a text becomes what it is written as directly, and its line.
 fn loses_nothing(alloc: Global, text: &str) -> Result<bool, Fail> {
     let own = ManuallyDrop::new(written(alloc, "openssh", text)?);
-    let third = ManuallyDrop::new(written(alloc, "ppk3", text)?);
-    let second = ManuallyDrop::new(written(alloc, "ppk2", third.as_str())?);
-    writes(alloc, "openssh", second.as_str(), own.as_str())
+    let line = ManuallyDrop::new(written(alloc, "ssh-pub", text)?);
+    let last = ManuallyDrop::new(converted_five_times(alloc, text)?);
+    Ok(
+        writes(alloc, "openssh", last.as_str(), own.as_str())?
+            && writes(alloc, "ssh-pub", last.as_str(), line.as_str())?,
+    )
+}
+
+fn converted_five_times(alloc: Global, text: &str) -> Result<String, Fail> {
+    let mut last = String::from_str(alloc, text)?;
+    for command in ["ppk3", "ppk2", "openssh", "ppk2", "ppk3"] {
+        let next = written(alloc, command, last.as_str())?;
+        drop(replace(&mut last, next));
+    }
+    Ok(last)
+}
+
+/// So does the text of the key of a secret.
+fn loses_no_secret(alloc: Global, secret: [u8; 32]) -> Result<bool, Fail> {
+    let text = ManuallyDrop::new(secret_envelope(alloc, secret)?);
+    loses_nothing(alloc, text.as_str())
 }
 
 // base64.b64decode("A8iqDGUDqgxlAwAA").hex() is 03c8 aa0c6503 aa0c6503 0000: the check number twice, which is written as 0.
@@ -99,6 +117,9 @@ fn writes_no_check_number(alloc: Global) -> Result<bool, Fail> {
 fn loses_nothing_by_the_way(rt: HostRuntime) -> Result<(), Fail> {
     assert!(rt; loses_nothing(rt.alloc(), V2)?);
     assert!(rt; loses_nothing(rt.alloc(), ZERO_KEY)?);
+    for row in &SECRET_ROWS {
+        assert!(rt; loses_no_secret(rt.alloc(), row.secret)?, "{}", row.name);
+    }
     assert!(rt; writes_no_check_number(rt.alloc())?);
     Ok(())
 }
