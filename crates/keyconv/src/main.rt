@@ -1,13 +1,11 @@
 //! The program: its words, its environment, standard input, standard output and standard error.
 #![tactic(auto)]
 
-use hex::FromHexError;
 use picky_convert::{Status, run, word};
+use picky_main::{GivenError, bytes_given, hex_variable, text_given, variable, words};
 use picky_suite::{HandedSigner, PlainSuite};
-use picky_wire::{Bytes, SizeError, StdSink, StdSource, Text};
-use std::env::VarError;
+use picky_wire::{Bytes, StdSink, StdSource, Text};
 use std::process::ExitCode;
-use std::{env, io};
 
 const HELP: &str = "usage: keyconv COMMAND [OPTION VALUE]... < KEY
        keyconv sample N
@@ -73,16 +71,16 @@ const SIGNATURE: &str = "KEYCONV_SIGNATURE";
 /// What the environment gives.
 #[derive(Drop)]
 struct Given {
-    pass_in: Option<String>,
-    pass_out: Option<String>,
-    fresh: Vec<u8>,
+    pass_in: Option<Text>,
+    pass_out: Option<Text>,
+    fresh: Option<Bytes>,
     signature: Option<Bytes>,
 }
 
 fn main(rt: HostRuntime) -> ExitCode {
     match words(&rt) {
         Ok(words) => answer(&rt, words.as_slice()),
-        Err(status) => end(&rt, status),
+        Err(e) => end(&rt, status_of(e)),
     }
 }
 
@@ -99,7 +97,7 @@ fn answer(rt: &HostRuntime, words: &[Text]) -> ExitCode {
 fn perform(rt: &HostRuntime, words: &[Text]) -> ExitCode {
     match from_environment(rt) {
         Ok(given) => start(rt, words, given),
-        Err(status) => end(rt, status),
+        Err(e) => end(rt, status_of(e)),
     }
 }
 
@@ -119,9 +117,9 @@ fn start(rt: &HostRuntime, words: &[Text], given: Given) -> ExitCode {
     let status = run(
         rt.alloc(),
         words,
-        text_of(&pass_in),
-        text_of(&pass_out),
-        fresh.as_slice(),
+        text_given(&pass_in),
+        text_given(&pass_out),
+        bytes_given(&fresh),
         &mut suite,
         &mut signer,
         &mut source,
@@ -131,39 +129,12 @@ fn start(rt: &HostRuntime, words: &[Text], given: Given) -> ExitCode {
     exit_code(status)
 }
 
-/// The words of the command line.
-fn words(rt: &HostRuntime) -> Result<Vec<Text>, Status> {
-    let mut words = Vec::new(rt.alloc());
-    let args = match env::args(rt) {
-        Ok(args) => args,
-        Err(e) if e.kind() == io::ErrorKind::OutOfMemory => return Err(Status::NoMemory),
-        Err(_) => return Err(Status::Usage),
-    };
-    for arg in args.skip(1) {
-        let word = match Text::new(rt.alloc(), arg.as_str()) {
-            Ok(word) => word,
-            Err(SizeError::TooLong) => return Err(Status::Usage),
-            Err(SizeError::NoMemory) => return Err(Status::NoMemory),
-        };
-        if words.push(word).is_err() {
-            return Err(Status::NoMemory);
-        }
-    }
-    Ok(words)
-}
-
 /// The passphrases, the fresh bytes and the signature.
-fn from_environment(rt: &HostRuntime) -> Result<Given, Status> {
+fn from_environment(rt: &HostRuntime) -> Result<Given, GivenError> {
     let pass_in = variable(rt, PASS_IN)?;
     let pass_out = variable(rt, PASS_OUT)?;
-    let fresh = match variable(rt, FRESH)? {
-        Some(digits) => bytes_in(rt, digits.as_str())?,
-        None => Vec::new(rt.alloc()),
-    };
-    let signature = match variable(rt, SIGNATURE)? {
-        Some(digits) => signature_in(rt, digits.as_str())?,
-        None => None,
-    };
+    let fresh = hex_variable(rt, FRESH)?;
+    let signature = hex_variable(rt, SIGNATURE)?;
     Ok(Given {
         pass_in,
         pass_out,
@@ -172,40 +143,11 @@ fn from_environment(rt: &HostRuntime) -> Result<Given, Status> {
     })
 }
 
-/// The signature in hex digits.
-fn signature_in(rt: &HostRuntime, digits: &str) -> Result<Option<Bytes>, Status> {
-    let bytes = bytes_in(rt, digits)?;
-    match Bytes::new(rt.alloc(), bytes.as_slice()) {
-        Ok(signature) => Ok(Some(signature)),
-        Err(SizeError::TooLong) => Err(Status::Usage),
-        Err(SizeError::NoMemory) => Err(Status::NoMemory),
-    }
-}
-
-/// The value of a variable, of fewer than 2^32 bytes, where it has one.
-fn variable(rt: &HostRuntime, name: &str) -> Result<Option<String>, Status> {
-    match env::var(rt, name) {
-        Ok(value) if value.len() >= 1 << 32 => Err(Status::Usage),
-        Ok(value) => Ok(Some(value)),
-        Err(VarError::NotPresent) => Ok(None),
-        Err(VarError::NotUnicode) => Err(Status::Usage),
-        Err(VarError::OutOfMemory) => Err(Status::NoMemory),
-    }
-}
-
-/// The bytes of hex digits.
-fn bytes_in(rt: &HostRuntime, digits: &str) -> Result<Vec<u8>, Status> {
-    match hex::decode(rt.alloc(), digits) {
-        Ok(bytes) => Ok(bytes),
-        Err(FromHexError::OutOfMemory) => Err(Status::NoMemory),
-        Err(_) => Err(Status::Usage),
-    }
-}
-
-fn text_of(value: &Option<String>) -> Option<&str> {
-    match value {
-        Some(value) => Some(value.as_str()),
-        None => None,
+/// The status for what can't be taken.
+fn status_of(e: GivenError) -> Status {
+    match e {
+        GivenError::Unfit => Status::Usage,
+        GivenError::NoMemory => Status::NoMemory,
     }
 }
 

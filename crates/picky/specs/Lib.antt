@@ -34,6 +34,7 @@ pub use Rattle.picky_wire.specs.Equality
 pub use Rattle.picky_wire.specs.Flaws
 pub use Rattle.picky_wire.specs.Gives
 pub use Rattle.picky_wire.specs.Known
+pub use Rattle.picky_wire.specs.LengthFirst
 pub use Rattle.picky_wire.specs.Memory as WireMemory
 pub use Rattle.picky_wire.specs.Moment
 pub use Rattle.picky_wire.specs.Principals
@@ -42,6 +43,8 @@ pub use Rattle.picky_wire.specs.Reading
 pub use Rattle.picky_wire.specs.Takes
 pub use Rattle.picky_wire.specs.Unread
 pub use Rattle.picky_wire.specs.View as WireView
+pub use Rattle.picky_input.specs.Input
+pub use Rattle.picky_input.specs.SourceText
 pub use Rattle.picky_pem.specs.Pem
 pub use Rattle.picky_pem.specs.PemRefusal
 pub use Rattle.picky_block.specs.Block
@@ -155,6 +158,7 @@ pub use Rattle.picky_cert_builder.specs.Fit
 pub use Rattle.picky_cert_builder.specs.Issuer
 pub use Rattle.picky_cert_builder.specs.Keeps as BuilderKeeps
 pub use Rattle.picky_cert_builder.specs.Permits
+pub use Rattle.picky_cert_builder.specs.RefusalName
 pub use Rattle.picky_cert_builder.specs.Request as BuilderRequest
 pub use Rattle.picky_cert_builder.specs.Terms
 pub use Rattle.picky_ppk_parts.specs.Aes

@@ -12,6 +12,7 @@ pub use picky_cert_target::{CertRequest, write_certificate, write_signed_bytes};
 pub use picky_conversion::{Given, Target, convert, convert_key, issue, print_signed};
 pub use picky_issuing::{CertOptions, Parts, number_of, options_of, parts_of};
 
-// The program.
+// The program, and a source that is read to its end.
 pub use picky_convert::{Status, StatusWord, run, word};
+pub use picky_input::{InputError, SourceError, as_text, read_input, take_text};
 pub use picky_sample::sample;

@@ -28,11 +28,11 @@ pub use picky_cert::{
     CertPart, CertView, OtherName, SshCertKeyType, SshCertType, SshCertTypeError, SshCertificate,
     SshCertificateError, SshCriticalOption, SshCriticalOptionError, SshCriticalOptionType,
     SshExtension, SshExtensionError, SshExtensionType, SshSignature, SshSignatureBlob,
-    SshSignatureError, SshSignatureFormat, names,
+    SshSignatureError, SshSignatureFormat, certificate_keeps_its_ranges, names,
 };
 
 // Certificates that are made and signed.
 pub use picky_cert_builder::{
     BuildCertificate, Draft, FitTerms, IssuerKey, RequestTerms, SshCertificateBuilder,
-    SshCertificateGenerationError, default_algorithm, format_of,
+    SshCertificateGenerationError, default_algorithm, format_of, private_issuer,
 };

@@ -1,2 +1,3 @@
 mod IssuedLemmas
 mod PuttyFileLemmas
+mod UnaskedLemmas

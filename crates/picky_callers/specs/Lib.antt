@@ -1,3 +1,4 @@
 pub mod Login
 pub mod Issued
 pub mod PuttyFile
+pub mod Alone

@@ -1,7 +1,8 @@
 //! A host's certificate issued, with a signer of the caller's own.
 
-ghost use Rattle.std.specs.Prelude.{◌≡◌, ◌⊎◌, ◌+◌, ◌-◌, ◌^◌, Err, IfErr, IfOk, OnOk, min};
+ghost use Rattle.std.specs.Prelude.{◌≡◌, ◌⊎◌, ◌+◌, ◌-◌, ◌^◌, Err, IfErr, IfOk, IsOk, OnOk, min};
 ghost use Rattle.std.proofs.Common.{arith};
+ghost use Rattle.picky.specs.Count.{Rose};
 ghost use Rattle.picky.specs.Draft.{requested};
 ghost use Rattle.picky.specs.PrivateKey.{issuer_key};
 ghost use Rattle.picky.specs.Signs.{Signs};
@@ -95,8 +96,10 @@ pub fn host_certificate<G: Signer>(
     // It says just that, and its signature is one that the signer calls good, under the issuer's key, of exactly what is said.
     ensures ok { IfOk result (IsIssued (G.signs signer.old) (host_request issuer key_type host names valid_after valid_before) nonce.now) }
 
-    // Else no certificate comes of what is asked, or the signer failed.
-    ensures refused { IfErr result (λ e. (e ≡ SshCertificateGenerationError.NoMemory) ⊎ (e ≡ SshCertificateGenerationError.SignatureError)
+    // Else no certificate comes of what is asked, or it does and the signer, asked to sign it, counted a fault.
+    ensures refused { IfErr result (λ e. (e ≡ SshCertificateGenerationError.NoMemory)
+        ⊎ ((e ≡ SshCertificateGenerationError.SignatureError) × IsOk (requested (host_request issuer key_type host names valid_after valid_before) nonce.now)
+        × Rose (G.faults signer.old) (G.faults signer.new))
         ⊎ (requested (host_request issuer key_type host names valid_after valid_before) nonce.now ≡ Err e)) }
 {
     let mut builder = request_for(issuer, key_type, host, names, valid_after, valid_before);

@@ -2,9 +2,11 @@
 
 ghost use Rattle.std.specs.Prelude.{◌≡◌, ◌⊎◌, ◌≤◌, ◌+◌, ◌-◌, ◌^◌, Some, Err, IfErr, IfOk, OnOk, length, min};
 ghost use Rattle.std.proofs.Common.{arith};
+ghost use Rattle.picky.specs.Count.{Rose};
+ghost use Rattle.picky.specs.Failures.{IsAskedFault};
 ghost use Rattle.picky.specs.Fills.{Fills};
 ghost use Rattle.picky.specs.Ranges.{BcryptOk, IsBcryptLen};
-ghost use Rattle.picky.specs.PrivateRefusal.{text_key};
+ghost use Rattle.picky.specs.PrivateRefusal.{text_asks, text_key};
 ghost use Rattle.picky.specs.PrivateText.{IsPrivateText};
 
 use picky::ssh::laws::private_key::private_key_means_what_it_says;
@@ -98,8 +100,10 @@ pub fn key_under_limit<S: Suite>(
     // The text means this key under the passphrase, by PROTOCOL.key and what the inner suite's calls mean.
     ensures ok { IfOk result (IsPrivateText (S.meanings suite.old.suite) (Some passphrase.now) text.now) }
 
-    // Else it is refused as `SshPrivateKey::from_pem_str` refuses it, or since the suite failed.
-    ensures refused { IfErr result (λ e. (e ≡ SshPrivateKeyError.NoMemory) ⊎ (e ≡ SshPrivateKeyError.SuiteFault)
+    // Else it is refused as `SshPrivateKey::from_pem_str` refuses it, or since the suite was asked and counted a fault.
+    ensures refused { IfErr result (λ e. (e ≡ SshPrivateKeyError.NoMemory)
+        ⊎ ((e ≡ SshPrivateKeyError.SuiteFault) × IsAskedFault (text_asks (Some passphrase.now) text.now)
+        (Rose (min (S.faults suite.old.suite + suite.old.refused) (2 ^ 64 - 1)) (min (S.faults suite.new.suite + suite.new.refused) (2 ^ 64 - 1))))
         ⊎ (text_key (S.meanings suite.old.suite) (Some passphrase.now) text.now ≡ Err e)) }
 
     // What its calls mean stays, for the next call.

@@ -1,77 +1,30 @@
 -- Two certificates are equal exactly where their fields are, and two views where what they show is.
-use Rattle.std.specs.Prelude.{◌≡◌, ◌↔◌, ◌&&◌, Bool, IsTrue, List, ℕ, Option, nat_eq}
+use Rattle.std.specs.Prelude.{◌≡◌, ◌↔◌, ◌&&◌, Bool, IsTrue, ℕ, Option, nat_eq}
 use Rattle.std.specs.Option.{option_eq}
-use Rattle.std.proofs.Common.{rules, ap, refl}
+use Rattle.std.proofs.Common.{rules, ap}
 use Rattle.std.proofs.lemmas.Bool.Decides.{Decides-and, Decides-like}
-use Rattle.std.proofs.lemmas.Slice.Eq.{slice_eq-Decides}
-use lib.Pointwise.{pointwise}
-use Rattle.picky_wire.specs.contracts.timestamp.TimestampPartialEq.TheImpl as moment
-use Rattle.picky_wire.specs.declared.timestamp.Timestamp.{Timestamp}
 use Rattle.picky_wire.specs.contracts.view.PartPartialEq.TheImpl as place
 use Rattle.picky_wire.specs.declared.view.Part.{Part}
 use Rattle.picky_wire.specs.View.{part_shown}
-use Rattle.picky_sshpub.specs.contracts.key.SshPublicKeyPartialEq.TheImpl as key
-use Rattle.picky_sshpub.specs.declared.key.SshPublicKey.{SshPublicKey}
 use Rattle.picky_sshpub.specs.contracts.view.PublicViewPartialEq.TheImpl as seen
 use Rattle.picky_sshpub.specs.declared.view.PublicView.{PublicView}
 use Rattle.picky_sshpub.specs.View.{view_shown}
-use Rattle.picky_cert_names.specs.contracts.cert_key_type.SshCertKeyTypePartialEq.TheImpl as key_type
-use Rattle.picky_cert_names.specs.declared.cert_key_type.SshCertKeyType.{SshCertKeyType}
 use Rattle.picky_cert_names.specs.contracts.signature_format.SshSignatureFormatPartialEq.TheImpl as format
 use Rattle.picky_cert_names.specs.declared.signature_format.SshSignatureFormat.{SshSignatureFormat}
-use Rattle.picky_cert_parts.specs.contracts.cert_type.SshCertTypePartialEq.TheImpl as cert_type
-use Rattle.picky_cert_parts.specs.declared.cert_type.SshCertType.{SshCertType}
-use Rattle.picky_cert_parts.specs.contracts.critical_option.SshCriticalOptionPartialEq.TheImpl as option
-use Rattle.picky_cert_parts.specs.declared.critical_option.SshCriticalOption.{SshCriticalOption}
-use Rattle.picky_cert_parts.specs.contracts.extension.SshExtensionPartialEq.TheImpl as extension
-use Rattle.picky_cert_parts.specs.declared.extension.SshExtension.{SshExtension}
 use Rattle.picky_cert_parts.specs.contracts.signature.SshSignaturePartialEq.TheImpl as signature
 use Rattle.picky_cert_parts.specs.declared.signature.SshSignature.{SshSignature}
+use Rattle.picky_cert_parts.proofs.EqualityLemmas.{bytes_equal, extensions_equal, key_equal, key_type_equal, moment_equal, number_equal}
+use Rattle.picky_cert_parts.proofs.EqualityLemmas.{options_equal, texts_equal, type_equal}
 use Rattle.picky_cert.specs.contracts.certificate.SshCertificatePartialEq.TheImpl as whole
 use Rattle.picky_cert.specs.declared.certificate.SshCertificate.{SshCertificate}
 use Rattle.picky_cert.specs.contracts.view.CertViewPartialEq.TheImpl as view
 use Rattle.picky_cert.specs.declared.view.CertView.{CertView}
 use Rattle.picky_cert.specs.Shown.{CertShown, cert_shown}
 
--- ---- the fields of each type
-
-key_type_equal : (a b : SshCertKeyType) → IsTrue (key_type.ghosts.eq a b) ↔ (a ≡ b)
-key_type_equal = search rules
-
-key_equal : (a b : SshPublicKey) → IsTrue (key.ghosts.eq a b) ↔ (a ≡ b)
-key_equal = search rules
-
-bytes_equal : (a b : List ℕ) → IsTrue (pointwise nat_eq a b) ↔ (a ≡ b)
-bytes_equal = search rules
-
-number_equal : (a b : ℕ) → IsTrue (nat_eq a b) ↔ (a ≡ b)
-number_equal = search rules
-
-type_equal : (a b : SshCertType) → IsTrue (cert_type.ghosts.eq a b) ↔ (a ≡ b)
-type_equal = search rules
-
-texts_equal : (a b : List (List ℕ)) → IsTrue (pointwise (pointwise nat_eq) a b) ↔ (a ≡ b)
-texts_equal a b = slice_eq-Decides bytes_equal a b _ refl
-
-moment_equal : (a b : Timestamp) → IsTrue (moment.ghosts.eq a b) ↔ (a ≡ b)
-moment_equal = search rules
-
-option_equal : (a b : SshCriticalOption) → IsTrue (option.ghosts.eq a b) ↔ (a ≡ b)
-option_equal = search rules
-
-options_equal : (a b : List SshCriticalOption) → IsTrue (pointwise option.ghosts.eq a b) ↔ (a ≡ b)
-options_equal a b = slice_eq-Decides option_equal a b _ refl
-
-extension_equal : (a b : SshExtension) → IsTrue (extension.ghosts.eq a b) ↔ (a ≡ b)
-extension_equal = search rules
-
-extensions_equal : (a b : List SshExtension) → IsTrue (pointwise extension.ghosts.eq a b) ↔ (a ≡ b)
-extensions_equal a b = slice_eq-Decides extension_equal a b _ refl
+-- ---- the certificates
 
 signature_equal : (a b : SshSignature) → IsTrue (signature.ghosts.eq a b) ↔ (a ≡ b)
 signature_equal = search rules
-
--- ---- the certificates
 
 -- each field is the same
 abbrev SameFields : SshCertificate → SshCertificate → Type 0

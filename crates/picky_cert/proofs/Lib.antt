@@ -12,4 +12,5 @@ pub mod WrittenLemmas
 pub mod WrittenLaws
 pub mod ReadBackLaws
 pub mod CanonicalLaws
+pub mod ViewLineLaws
 pub mod FormedLaws

@@ -43,7 +43,7 @@ use Rattle.picky_cert.proofs.KeepLaws.{cert_piece, spelled_keeps}
 -- ---- the name of a type
 
 -- the name of a type names it
-word_type_of : (word : List ℕ) (t : SshCertKeyType) → word ≡ cert_key_type_name t → word_type word ≡ Ok t
+pub word_type_of : (word : List ℕ) (t : SshCertKeyType) → word ≡ cert_key_type_name t → word_type word ≡ Ok t
 unfolding word_type
 word_type_of word t is =
     let utf8 = ap is_utf8 is ∙ is_utf8-from_IsUtf8 _ (cert_key_type_name_utf8 t) in

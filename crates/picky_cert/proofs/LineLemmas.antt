@@ -2,7 +2,7 @@
 use Rattle.std.specs.Prelude.{◌≡◌, ◌≢◌, ◌≤◌, ◌⊎◌, List, ℕ, length, Some, Ok, Err}
 use Rattle.std.proofs.Common.{sym, ◌∙◌, ap, arith, inl, inr}
 use Rattle.picky_layout.specs.Numbers.{IsBytes}
-use Rattle.picky_layout.specs.Outcome.{and_then, map_err}
+use Rattle.picky_layout.specs.Outcome.{and_then, map_err, map_ok}
 use Rattle.picky_text.specs.Base64.{decoded}
 use Rattle.picky_text.proofs.Base64Laws.{base64_is_of_what_it_gives, length_base64}
 use Rattle.picky_wire.specs.declared.error.WireError.TheVariants as wire
@@ -11,7 +11,7 @@ use Rattle.picky_cert_names.specs.declared.error.SshCertificateError.TheVariants
 use Rattle.picky_cert_names.specs.FromWire.{certificate_error}
 use Rattle.picky_cert_blob.specs.Reason.{CertReason}
 use Rattle.picky_cert.specs.declared.certificate.SshCertificate.{SshCertificate}
-use Rattle.picky_cert.specs.Certificate.{certificate}
+use Rattle.picky_cert.specs.Certificate.{certificate, subject_key}
 use Rattle.picky_cert.specs.CertRefusal.{cert_error}
 use Rattle.picky_cert.specs.LineRefusal.{blob_certificate}
 use Rattle.picky_cert.specs.carried.LineOwn.{cert_is_own, own_is_no_fault}
@@ -37,6 +37,12 @@ pub refused_as : (bytes : List ℕ) (reason : CertReason) (e : SshCertificateErr
     → (e ≡ cert_error reason) ⊎ (e ≡ errors.NoMemory) → (e ≡ errors.NoMemory) ⊎ (blob_certificate bytes ≡ Err e)
 refused_as bytes reason e read (inl is) = inr (blob_certificate_refused bytes reason read ∙ ap (λ x. Err x) (sym is))
 refused_as bytes reason e read (inr want) = inl want
+
+-- nor has it a subject then
+pub no_subject : (bytes : List ℕ) (e : SshCertificateError) → (e ≡ errors.NoMemory) ⊎ (blob_certificate bytes ≡ Err e)
+    → (e ≡ errors.NoMemory) ⊎ (map_ok subject_key (blob_certificate bytes) ≡ Err e)
+no_subject bytes e (inl want) = inl want
+no_subject bytes e (inr refused) = inr (ap (map_ok subject_key) refused)
 
 -- and no part is refused for a fault
 pub part_is_no_fault : (reason : CertReason) → cert_error reason ≢ certificate_error wire.ReadFault

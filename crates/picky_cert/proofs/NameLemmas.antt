@@ -10,7 +10,6 @@ use Rattle.picky_layout.specs.Grammar.{Grammar}
 use Rattle.picky_layout.specs.Named.{named}
 use Rattle.picky_layout.specs.Mpint.{mpint}
 use Rattle.picky_layout.specs.Numbers.{byte, uint64}
-use Rattle.picky_layout.specs.Row.{after}
 use Rattle.picky_layout.specs.Table.{find_entry}
 use Rattle.picky_layout.specs.Wire.{of_length, string, text, uint32}
 use Rattle.picky_wire.specs.Moment.{moment}

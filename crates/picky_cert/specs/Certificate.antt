@@ -59,6 +59,13 @@ certificate = do
   s ← signature_part
   done (certified b s)
 
+-- the subject's key, and the same with the certificate's comment
+abbrev pub subject_key : SshCertificate → SshBasePublicKey
+subject_key c = c.public_key.inner_key
+
+abbrev pub subject : SshCertificate → SshPublicKey
+subject c = record { inner_key = subject_key c; comment = c.comment }
+
 -- the bytes before the signature, as they were read
 abbrev pub signed_in : List ℕ → List ℕ
 signed_in blob = take (body.used blob) blob

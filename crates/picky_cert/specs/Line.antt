@@ -1,6 +1,6 @@
 -- A certificate's line (sshd(8), "AUTHORIZED_KEYS FILE FORMAT"; OpenSSH's PROTOCOL.certkeys): its type, its bytes in base64,
 -- a comment.
-use Rattle.std.specs.Prelude.{◌≡◌, List, ℕ, ◌<◌, ◌^◌, length, IsUtf8, true}
+use Rattle.std.specs.Prelude.{◌≡◌, ◌++◌, ◌∷◌, List, ℕ, ◌<◌, ◌^◌, length, IsUtf8, true}
 use Rattle.std.specs.Str.{trim_end}
 use Rattle.picky_layout.specs.Numbers.{IsBytes}
 use Rattle.picky_layout.specs.Grammar.{Fits}
@@ -30,6 +30,10 @@ pub record IsCertificateLine (text : List ℕ) (c : SshCertificate) : Type 0 whe
   pub bare : c ≡ record (certified (said c) c.signature) { comment = comment_of text }
   pub comment_utf8 : IsUtf8 (line_in_front (after_body text))
   pub comment_short : length (comment_of text) < 2 ^ 32
+
+-- a line without a comment: the name of a type, a space and the base64 of the bytes
+abbrev pub bare_line : SshCertKeyType → (blob_bytes : List ℕ) → List ℕ
+bare_line key_type blob_bytes = cert_key_type_name key_type ++ 32 ∷ base64_of blob_bytes
 
 -- ---- what is written is read back
 

@@ -1,6 +1,6 @@
 //! A certificate's bytes, written.
 
-ghost use Rattle.std.specs.Prelude.{◌≡◌, ◌++◌, ◌∷◌, [], ◌^◌, ◌<◌, ◌≤◌, length, IfErr, IfOk, OnOk};
+ghost use Rattle.std.specs.Prelude.{◌≡◌, ◌++◌, ◌∷◌, [], ◌^◌, ◌<◌, ◌≤◌, ℕ, List, length, IfErr, IfOk, OnOk};
 ghost use Rattle.std.specs.Int.{w32, w64, to_be_bytes};
 ghost use Rattle.std.specs.List.{concat};
 ghost use Rattle.picky_layout.specs.Wire.{string_of};
@@ -11,9 +11,12 @@ ghost use Rattle.picky_wire.specs.Gives.{Gives};
 ghost use Rattle.picky_cert.specs.Certificate.{said};
 ghost use Rattle.picky_cert.specs.LineRefusal.{signed_text};
 ghost use Rattle.picky_cert.specs.Spelled.{signed_of};
+ghost use Rattle.picky_cert.specs.Keeps.{IsCertificate, IsWellFormed};
+ghost use Rattle.picky_cert.specs.declared.certificate.SshCertificate.{SshCertificate as Certificate};
 
 use crate::certificate::SshCertificate;
 use crate::lists::{TOO_MANY, block_of};
+use crate::ranges::certificate_keeps_its_ranges;
 use picky_cert_blob::fits_subject;
 use picky_cert_parts::SshCertificateError;
 use picky_sshpub::{SshBasePublicKey, bytes_of, pieces_behind};
@@ -25,18 +28,35 @@ impl SshCertificate {
     ///
     /// Refuses, in order: `SubjectMismatch`, where the type isn't for the subject's key; `TooLong`, where there are 2^32
     /// bytes or more.
-    #[tactic(auto, unfolding(crate::specs::LineRefusal::signed_text))]
+    #[tactic(auto, using(crate::proofs::WrittenLaws::written_binds, crate::proofs::FormedLaws::signed_is_formed))]
     pub fn signed_bytes(&self, alloc: Global) -> Result<Bytes, SshCertificateError>
-        ensures { Gives SshCertificateError.NoMemory (λ bytes. bytes) result (signed_text self.now) }
+        ensures gives { Gives SshCertificateError.NoMemory (λ bytes. bytes) result (signed_text self.now) }
+
+        // They are a prefix of another well-formed certificate's signed bytes, or have those as a prefix, only where both
+        // certificates are equal in all fields but the signature and the comments.
+        ensures prefix { IfOk result (λ bytes. (d : Certificate) (more : List ℕ) → IsCertificate d → IsWellFormed d
+            → signed_of d ≡ bytes ++ more → said self.now ≡ said d) }
+        ensures extension { IfOk result (λ bytes. (d : Certificate) (more : List ℕ) → IsCertificate d → IsWellFormed d
+            → bytes ≡ signed_of d ++ more → said self.now ≡ said d) }
     {
-        if !fits_subject(self.cert_key_type, &self.public_key.inner_key) {
-            return Err(SshCertificateError::SubjectMismatch);
-        }
-        match signed_vec(alloc, self) {
-            Ok(bytes) => Ok(Bytes::from_vec(bytes)),
-            Err(SizeError::TooLong) => Err(SshCertificateError::TooLong),
-            Err(SizeError::NoMemory) => Err(SshCertificateError::NoMemory),
-        }
+        certificate_keeps_its_ranges(self);
+        one_spelling(alloc, self)
+    }
+}
+
+/// The one spelling of what is signed. Refuses as `signed_bytes`.
+#[tactic(auto, unfolding(crate::specs::LineRefusal::signed_text))]
+fn one_spelling(alloc: Global, certificate: &SshCertificate) -> Result<Bytes, SshCertificateError>
+    ensures gives { Gives SshCertificateError.NoMemory (λ bytes. bytes) result (signed_text certificate.now) }
+    ensures spelled { IfOk result (λ bytes. bytes ≡ signed_of certificate.now) }
+{
+    if !fits_subject(certificate.cert_key_type, &certificate.public_key.inner_key) {
+        return Err(SshCertificateError::SubjectMismatch);
+    }
+    match signed_vec(alloc, certificate) {
+        Ok(bytes) => Ok(Bytes::from_vec(bytes)),
+        Err(SizeError::TooLong) => Err(SshCertificateError::TooLong),
+        Err(SizeError::NoMemory) => Err(SshCertificateError::NoMemory),
     }
 }
 

@@ -1,23 +1,31 @@
 //! The laws of this crate, each as the contract of a function that does nothing else.
 
-ghost use Rattle.std.specs.Prelude.{◌≡◌, ◌++◌, ◌∷◌, List, ℕ, Ok, Err, IsUtf8, ◌<◌, ◌^◌, true};
+ghost use Rattle.std.specs.Prelude.{◌≡◌, ◌++◌, ◌∷◌, List, ℕ, Some, Ok, Err, IsUtf8, ◌<◌, ◌^◌, length, true};
+ghost use Rattle.picky_layout.specs.Flaw.{Why};
 ghost use Rattle.picky_layout.specs.Numbers.{IsBytes};
+ghost use Rattle.picky_layout.specs.Outcome.{map_err};
+ghost use Rattle.picky_text.specs.Base64.{base64_of};
 ghost use Rattle.picky_text.specs.Words.{after_body, line_in_front};
 ghost use Rattle.picky_wire.specs.Equality.{IsEquality, IsEqualityOf};
+ghost use Rattle.picky_wire.specs.View.{Sees};
+ghost use Rattle.picky_cert_names.specs.declared.cert_key_type.SshCertKeyType.{SshCertKeyType as KeyType};
 ghost use Rattle.picky_cert_names.specs.declared.error.SshCertificateError.{SshCertificateError as CertificateError};
+ghost use Rattle.picky_cert_blob.specs.declared.part.CertPart.{CertPart as Part};
 ghost use Rattle.picky_cert_blob.specs.Keeps.{FitsSubject};
+ghost use Rattle.picky_cert_blob.specs.Reason.{why_in};
 ghost use Rattle.picky_cert.specs.declared.certificate.SshCertificate.{SshCertificate as Certificate};
 ghost use Rattle.picky_cert.specs.declared.view.CertView.{CertView as View};
-ghost use Rattle.picky_cert.specs.Certificate.{certificate, said, signed_in, certified};
+ghost use Rattle.picky_cert.specs.Certificate.{certificate, certified, refused_part, said, signed_in};
+ghost use Rattle.picky_cert.specs.CertRefusal.{cert_error};
 ghost use Rattle.picky_cert.specs.Keeps.{IsCertificate, IsWellFormed};
-ghost use Rattle.picky_cert.specs.Line.{IsCertificateLine, IsKept};
+ghost use Rattle.picky_cert.specs.Line.{bare_line, IsCertificateLine, IsKept};
 ghost use Rattle.picky_cert.specs.LineRefusal.{line_meaning, line_text, signed_text};
 ghost use Rattle.picky_cert.specs.Want.{IsReadFault, WantsMemory};
 ghost use Rattle.picky_cert_parts.specs.Signature.{blob_fits, total_of};
 ghost use Rattle.picky_cert.specs.Shown.{cert_shown};
 ghost use Rattle.picky_cert.specs.SourceLine.{source_meaning};
 ghost use Rattle.picky_cert.specs.Spelled.{blob_of, line_of, signed_of};
-ghost use Rattle.picky_cert.specs.View.{CertLies};
+ghost use Rattle.picky_cert.specs.View.{CertLies, cert_seen};
 
 use crate::certificate::SshCertificate;
 use crate::view::CertView;
@@ -89,6 +97,20 @@ pub fn bytes_are_read_back()
     ensures back { (c : Certificate) (more : List ℕ) → IsCertificate c → IsWellFormed c
         → blob_fits c.signature.format c.signature.blob ≡ true → total_of c.signature < 2 ^ 32
         → certificate.read (blob_of c ++ more) ≡ Ok (certified (said c) c.signature, more) }
+{}
+
+/// Of a line without a comment, which is a type's name, a space and the base64 of bytes, `from_str` answers the certificate that
+/// `CertView::read` sees in these bytes, or refuses as the view does. Bytes after the certificate say nothing to either.
+///
+/// `value` is of `CertView::read`; with `stuck_at` so is `refusal`.
+#[tactic(auto, using(crate::proofs::ViewLineLaws::view_line_laws))]
+pub fn view_is_the_line_reader()
+    ensures value { (key_type : KeyType) (blob : List ℕ) (view : View) (next : ℕ) → IsBytes blob → length (base64_of blob) < 2 ^ 32
+        → Sees cert_seen why_in certificate blob 0 (Ok (view, next)) → line_meaning (bare_line key_type blob) ≡ Ok (cert_seen view) }
+    ensures refusal { (key_type : KeyType) (blob : List ℕ) (stuck : Why) (part : Part) → IsBytes blob
+        → length (base64_of blob) < 2 ^ 32 → map_err why_in (certificate.read blob) ≡ Err stuck
+        → refused_part (certificate.read blob) ≡ Some part
+        → line_meaning (bare_line key_type blob) ≡ Err (cert_error (part, stuck)) }
 {}
 
 /// A line that is written is read back, whatever follows it: as a text, and from a source, where LF and what follows are left.

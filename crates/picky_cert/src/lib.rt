@@ -7,6 +7,7 @@ mod copy;
 pub mod laws;
 mod line;
 mod lists;
+mod ranges;
 mod refusal;
 mod source_line;
 mod view;
@@ -20,4 +21,5 @@ pub use picky_cert_parts::{
     SshExtensionError, SshExtensionType, SshSignature, SshSignatureBlob, SshSignatureError,
     SshSignatureFormat, names,
 };
+pub use ranges::certificate_keeps_its_ranges;
 pub use view::CertView;

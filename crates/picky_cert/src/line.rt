@@ -1,16 +1,25 @@
 //! A certificate's line (sshd(8)), read.
 
-ghost use Rattle.std.specs.Prelude.{◌≡◌, ◌≢◌, ◌^◌, ◌<◌, IfErr, length, not};
+ghost use Rattle.std.specs.Prelude.{◌≡◌, ◌≢◌, ◌^◌, ◌<◌, ℕ, List, Some, IfErr, length, not};
 ghost use Rattle.std.specs.Option.{option_copied};
+ghost use Rattle.picky_layout.specs.Front.{read_front};
+ghost use Rattle.picky_layout.specs.Numbers.{IsBytes};
+ghost use Rattle.picky_layout.specs.Outcome.{map_err, map_ok};
+ghost use Rattle.picky_text.specs.Base64.{base64_of};
 ghost use Rattle.picky_wire.specs.Gives.{Gives};
 ghost use Rattle.picky_wire.specs.declared.error.IoKind.TheVariants as io_kinds;
 ghost use Rattle.picky_sshpub.specs.LineRefusal.{is_short_text};
+ghost use Rattle.picky_cert_names.specs.declared.cert_key_type.SshCertKeyType.{SshCertKeyType as KeyType};
+ghost use Rattle.picky_cert.specs.Certificate.{certificate, subject, subject_key};
+ghost use Rattle.picky_cert.specs.CertRefusal.{cert_error};
+ghost use Rattle.picky_cert.specs.Line.{bare_line};
 ghost use Rattle.picky_cert.specs.LineRefusal.{blob_certificate, body_certificate, line_meaning, word_type, words_meaning};
 
 use crate::certificate::SshCertificate;
 use crate::refusal::refusal;
 use crate::view::certificate_at;
 use picky_cert_parts::{SshCertKeyType, SshCertificateError};
+use picky_sshpub::{SshBasePublicKey, SshPublicKey};
 use picky_text::{Base64Error, decode, rest_of_line, rest_of_text, split_word};
 use picky_wire::{NoMemory, Text};
 use std::alloc::Global;
@@ -24,15 +33,97 @@ impl SshCertificate {
     ///
     /// `name SP base64 [SP comment]`, and what follows the line is ignored. The name inside the bytes decides the type.
     /// Refuses, in order: `InvalidCertificateKeyType`, `TooLong`, `Base64DecodeError`, the bytes' by field.
-    #[tactic(auto, unfolding(crate::specs::LineRefusal::line_meaning), using(picky_text::proofs::WordLaws::text_rests))]
+    #[tactic(auto, using(crate::proofs::ViewLineLaws::bare_line_gives))]
     pub fn from_str(alloc: Global, text: &str) -> Result<SshCertificate, SshCertificateError>
-        ensures { Gives SshCertificateError.NoMemory (λ c. c) result (line_meaning text.now) }
+        ensures gives { Gives SshCertificateError.NoMemory (λ c. c) result (line_meaning text.now) }
+
+        // Of a type's name, a space and the base64 of bytes these are the values and refusals of `CertView::read` of the bytes.
+        ensures view { (key_type : KeyType) (blob : List ℕ) → IsBytes blob → length (base64_of blob) < 2 ^ 32
+            → text.now ≡ bare_line key_type blob
+            → Gives SshCertificateError.NoMemory (λ c. c) result (map_err cert_error (read_front certificate blob)) }
+    {
+        certificate_of_text(alloc, text)
+    }
+
+    /// The subject's key of one line, with the certificate's comment. All of the line is read, as by `from_str`, and nothing
+    /// else of it is copied.
+    ///
+    /// Refuses as `from_str`.
+    #[tactic(auto, unfolding(crate::specs::LineRefusal::line_meaning), using(picky_text::proofs::WordLaws::text_rests))]
+    pub fn subject_from_str(alloc: Global, text: &str) -> Result<SshPublicKey, SshCertificateError>
+        ensures { Gives SshCertificateError.NoMemory (λ key. key) result (map_ok subject (line_meaning text.now)) }
     {
         let (name, after_name) = split_word(text.as_bytes());
         let (body, after_body) = split_word(after_name);
         let comment = rest_of_text(text, text.len() - after_body.len());
-        certificate_of_words(alloc, name, body, Some(comment))
+        subject_of_words(alloc, name, body, comment)
     }
+}
+
+/// The subject's key of a name and a body, with this comment. Refuses as `certificate_of_words`.
+#[tactic(auto, unfolding(crate::specs::LineRefusal::words_meaning))]
+fn subject_of_words(
+    alloc: Global,
+    name: &[u8],
+    body: &[u8],
+    comment: &str,
+) -> Result<SshPublicKey, SshCertificateError>
+    ensures { Gives SshCertificateError.NoMemory (λ key. key) result
+        (map_ok subject (words_meaning name.now body.now (Some comment.now))) }
+{
+    match type_of_word(alloc, name) {
+        Ok(_) => {}
+        Err(e) => return Err(e),
+    }
+    if body.len() >= TOO_MANY || comment.len() >= TOO_MANY {
+        return Err(SshCertificateError::TooLong);
+    }
+    match subject_of_body(alloc, body) {
+        Ok(inner_key) => match Text::new(alloc, comment) {
+            Ok(comment) => Ok(SshPublicKey { inner_key, comment }),
+            Err(_) => Err(SshCertificateError::NoMemory),
+        },
+        Err(e) => Err(e),
+    }
+}
+
+/// The subject's key of a body.
+#[tactic(auto, unfolding(crate::specs::LineRefusal::body_certificate), using(crate::proofs::LineLemmas::no_longer_than_base64))]
+fn subject_of_body(alloc: Global, body: &[u8]) -> Result<SshBasePublicKey, SshCertificateError>
+    requires { length body.now < 2 ^ 32 }
+    ensures { Gives SshCertificateError.NoMemory (λ key. key) result (map_ok subject_key (body_certificate body.now)) }
+{
+    match decode(alloc, body) {
+        Ok(blob) => subject_of_blob(alloc, blob.as_slice()),
+        Err(Base64Error::NotBase64) => Err(SshCertificateError::Base64DecodeError),
+        Err(Base64Error::NoMemory) => Err(SshCertificateError::NoMemory),
+    }
+}
+
+/// The subject's key of the certificate that the bytes begin with.
+#[tactic(auto, unfolding(crate::specs::LineRefusal::blob_certificate))]
+fn subject_of_blob(alloc: Global, blob: &[u8]) -> Result<SshBasePublicKey, SshCertificateError>
+    requires { length blob.now < 2 ^ 32 }
+    ensures { Gives SshCertificateError.NoMemory (λ key. key) result (map_ok subject_key (blob_certificate blob.now)) }
+{
+    match certificate_at(blob) {
+        Ok((view, _)) => match view.public_key.to_key(alloc) {
+            Ok(key) => Ok(key),
+            Err(NoMemory) => Err(SshCertificateError::NoMemory),
+        },
+        Err(stopped) => Err(refusal(alloc, &stopped)),
+    }
+}
+
+/// What a text means. Refuses as `from_str`.
+#[tactic(auto, unfolding(crate::specs::LineRefusal::line_meaning), using(picky_text::proofs::WordLaws::text_rests))]
+fn certificate_of_text(alloc: Global, text: &str) -> Result<SshCertificate, SshCertificateError>
+    ensures { Gives SshCertificateError.NoMemory (λ c. c) result (line_meaning text.now) }
+{
+    let (name, after_name) = split_word(text.as_bytes());
+    let (body, after_body) = split_word(after_name);
+    let comment = rest_of_text(text, text.len() - after_body.len());
+    certificate_of_words(alloc, name, body, Some(comment))
 }
 
 /// What a line means. Its bytes need not be UTF-8.

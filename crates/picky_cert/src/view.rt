@@ -1,9 +1,10 @@
 //! A certificate's bytes, seen where they stand: its parts are slices of them.
 
-ghost use Rattle.std.specs.Prelude.{◌≡◌, ◌^◌, ◌<◌, IfErr, IfOk, length};
+ghost use Rattle.std.specs.Prelude.{◌≡◌, ◌^◌, ◌<◌, ◌++◌, ℕ, List, Ok, IfErr, IfOk, length};
 ghost use Rattle.picky_wire.specs.View.{Seen};
-ghost use Rattle.picky_cert.specs.Certificate.{certificate as certificate_layout, refused_part};
+ghost use Rattle.picky_cert.specs.Certificate.{certificate as certificate_layout, refused_part, said, signed_in};
 ghost use Rattle.picky_cert.specs.Keeps.{IsCertificate};
+ghost use Rattle.picky_cert.specs.declared.certificate.SshCertificate.{SshCertificate as Certificate};
 ghost use Rattle.picky_cert.specs.View.{body_in, cert_seen, CertLies, IsRefusal};
 ghost use Rattle.picky_cert_blob.specs.Reason.{why_in};
 ghost use Rattle.picky_cert_blob.specs.Seen.{HasItems};
@@ -44,11 +45,18 @@ impl<'a> CertView<'a> {
     /// The view of the certificate that the bytes begin with, and how many bytes it takes. The signature isn't verified.
     ///
     /// OpenSSH's PROTOCOL.certkeys. Refuses, in order, by field: `Short`, `NotUtf8`, `Name`, `Length`, `Number`.
+    #[tactic(auto, using(crate::proofs::SignedLaws::signed_binds, crate::proofs::SignedLaws::signed_part_is_front))]
     pub fn read(blob: &'a [u8]) -> Result<(CertView<'a>, usize), Stuck<'a>>
         requires { length blob.now < 2 ^ 32 }
         ensures seen { Seen cert_seen (CertLies blob.now) why_in certificate_layout blob.now 0 result }
         ensures is_certificate { IfOk result (λ found. IsCertificate (cert_seen found.0)) }
         ensures items { IfOk result (λ found. HasItems (body_in found.0)) }
+
+        // What is signed, as it was read, is a prefix of what is signed of another certificate that is read only where both
+        // are equal in all fields but the signature.
+        ensures prefix { IfOk result (λ found. (other : List ℕ) (d : Certificate) (rest more : List ℕ)
+            → certificate_layout.read other ≡ Ok (d, rest) → signed_in other ≡ found.0.signed.bytes.now ++ more
+            → said (cert_seen found.0) ≡ said d) }
     {
         match certificate_at(blob) {
             Ok(found) => Ok(found),

@@ -1,3 +1,4 @@
+mod EqualityLemmas
 mod FitLaws
 mod IssuerLemmas
 pub mod MadeLaws

@@ -1,3 +1,4 @@
+pub mod RefusalName
 pub mod ByName
 pub mod Algorithm
 pub mod Terms

@@ -16,7 +16,7 @@ use picky_wire::{List, Text, Timestamp};
 use std::mem::replace;
 
 /// A certificate that is to be made. Each field may be unset.
-#[derive(Drop)]
+#[derive(Debug, Drop, PartialEq, Eq)]
 pub struct SshCertificateBuilder {
     pub cert_key_type: Option<SshCertKeyType>,
     pub public_key: Option<SshPublicKey>,

@@ -1,5 +1,8 @@
 //! Why a certificate is not made.
 
+ghost use Rattle.std.specs.Prelude.{◌≡◌};
+ghost use Rattle.picky_cert_builder.specs.RefusalName.{request_name};
+
 use picky_cert_names::SshCertKeyType;
 use thiserror::Error;
 
@@ -42,4 +45,32 @@ pub enum SshCertificateGenerationError {
     /// Memory ran out.
     #[error("NoMemory")]
     NoMemory,
+}
+
+impl SshCertificateGenerationError {
+    /// The variant's name, without what it carries.
+    pub fn name(&self) -> &'static str
+        ensures { result.now ≡ request_name self.now }
+    {
+        match self {
+            SshCertificateGenerationError::UnsupportedCertificateKeyType(_) => {
+                "UnsupportedCertificateKeyType"
+            }
+            SshCertificateGenerationError::IncorrectSignatureAlgorithm => {
+                "IncorrectSignatureAlgorithm"
+            }
+            SshCertificateGenerationError::MissingPublicKey => "MissingPublicKey",
+            SshCertificateGenerationError::MissingCertificateType => "MissingCertificateType",
+            SshCertificateGenerationError::InvalidTime => "InvalidTime",
+            SshCertificateGenerationError::MissingSignatureKey => "MissingSignatureKey",
+            SshCertificateGenerationError::HostCertificateExtensions => "HostCertificateExtensions",
+            SshCertificateGenerationError::HostCertificateCriticalOptions => {
+                "HostCertificateCriticalOptions"
+            }
+            SshCertificateGenerationError::NoKeyType => "NoKeyType",
+            SshCertificateGenerationError::SignatureError => "SignatureError",
+            SshCertificateGenerationError::TooLong => "TooLong",
+            SshCertificateGenerationError::NoMemory => "NoMemory",
+        }
+    }
 }

@@ -65,8 +65,9 @@ impl TryClone for IssuerKey {
     }
 }
 
-/// A private key as an issuer; one whose secret another device keeps, by its public key.
-fn private_issuer(alloc: Global, key: &SshBasePrivateKey) -> Result<Issuer, NoMemory>
+/// The issuer that a device signs for by a private key: with its secret; a hardware key, whose secret stays in the device, by its
+/// public key. Refuses: `NoMemory`.
+pub fn private_issuer(alloc: Global, key: &SshBasePrivateKey) -> Result<Issuer, NoMemory>
     ensures { IfOk result (λ issuer. issuer ≡ private_issuer_of key.now) }
 {
     match key {

@@ -19,6 +19,7 @@ ghost use Rattle.picky_cert_builder.specs.Fit.{IsFit};
 ghost use Rattle.picky_cert_builder.specs.Keeps.{IsRequest, without_key_comments};
 ghost use Rattle.picky_cert_builder.specs.Terms.{judged};
 
+use crate::builder::SshCertificateBuilder;
 use crate::error::SshCertificateGenerationError;
 use crate::issuer::IssuerKey;
 
@@ -63,4 +64,5 @@ pub fn order_answers_no_fault()
 pub fn equality_is_of_contents()
     ensures error { IsEquality ⟦<SshCertificateGenerationError as PartialEq>⟧.eq }
     ensures issuer { IsEquality ⟦<IssuerKey as PartialEq>⟧.eq }
+    ensures builder { IsEquality ⟦<SshCertificateBuilder as PartialEq>⟧.eq }
 {}

@@ -4,6 +4,7 @@
 mod algorithm;
 mod build;
 mod builder;
+mod copy;
 mod defaults;
 mod draft;
 mod error;
@@ -18,6 +19,6 @@ pub use algorithm::{default_algorithm, format_of};
 pub use builder::{BuildCertificate, SshCertificateBuilder};
 pub use draft::Draft;
 pub use error::SshCertificateGenerationError;
-pub use issuer::IssuerKey;
+pub use issuer::{IssuerKey, private_issuer};
 pub use ranges::{request_keeps_its_ranges, signature_keeps_its_ranges};
 pub use terms::{FitTerms, RequestTerms};

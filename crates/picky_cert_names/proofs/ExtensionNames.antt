@@ -1,5 +1,6 @@
 -- An extension and its name.
 use Rattle.std.specs.Prelude.{◌≡◌, ◌<◌, ◌^◌, List, ℕ, Option, Some, None, length, IsUtf8}
+use Rattle.std.specs.Prelude.{true, nat_lt, if◌then◌else◌, Ok, Err}
 use Rattle.std.proofs.Common.{refl, sym, ap, subst, ◌∙◌}
 use Rattle.picky_layout.specs.Table.{find_entry}
 use Rattle.picky_layout.specs.carried.Table.{found_has_key}
@@ -42,6 +43,27 @@ name_of_known known.PermitUserPc = refl
 known_key : (name : List ℕ) (k : KnownExtension) → find_entry known_extensions name ≡ Some k → known_name k ≡ name
 unfolding known_extensions
 known_key name k found = found_has_key known_extensions name k found
+
+known_name_short : (k : KnownExtension) → nat_lt (length (known_name k)) (2 ^ 32) ≡ true
+unfolding known_name
+known_name_short known.NoTouchRequired = refl
+known_name_short known.PermitX11Forwarding = refl
+known_name_short known.PermitAgentForwarding = refl
+known_name_short known.PermitPortForwarding = refl
+known_name_short known.PermitPty = refl
+known_name_short known.PermitUserPc = refl
+
+known_name_answers : {E : Type 0} (big : E) (k : KnownExtension)
+    → (if nat_lt (length (known_name k)) (2 ^ 32) then Ok (extension_named (known_name k)) else Err big) ≡ Ok (type_of k)
+known_name_answers big k =
+    ap (λ short. if short then Ok (extension_named (known_name k)) else Err big) (known_name_short k) ∙ ap Ok (known_named k)
+
+-- A known name is short enough for an answer, which is its extension.
+pub known_answers : {E : Type 0} (big : E) (name : List ℕ) (k : KnownExtension) → find_entry known_extensions name ≡ Some k
+    → (if nat_lt (length name) (2 ^ 32) then Ok (extension_named name) else Err big) ≡ Ok (type_of k)
+known_answers big name k found =
+    subst (λ n. (if nat_lt (length n) (2 ^ 32) then Ok (extension_named n) else Err big) ≡ Ok (type_of k))
+    (known_key name k found) (known_name_answers big k)
 
 kept : (name : List ℕ) (o : Option KnownExtension) → find_entry known_extensions name ≡ o
     → extension_name (known_or_other name o) ≡ name

@@ -1,13 +1,13 @@
 //! The types of certificates by the kind of their subject's key.
 
-ghost use Rattle.std.specs.Prelude.{◌≡◌, ◌≤◌, bytes_eq, length};
+ghost use Rattle.std.specs.Prelude.{◌≡◌, ◌≤◌, IfOk, IsOk, bytes_eq, length};
 ghost use Rattle.picky_layout.specs.Table.{find_entry};
 ghost use Rattle.picky_wire.specs.Gives.{Gives};
 ghost use Rattle.picky_cert_names.specs.declared.error.SshCertificateError.TheVariants as errors;
 
 use crate::error::SshCertificateError;
 use crate::names;
-use picky_wire::{SizeError, Text};
+use picky_wire::{NoMemory, SizeError, Text, TryClone};
 use std::alloc::Global;
 
 /// A type of certificates by the kind of its subject's key (OpenSSH's PROTOCOL.certkeys).
@@ -77,6 +77,15 @@ impl SshCertKeyType {
                 Err(SizeError::NoMemory) => Err(SshCertificateError::NoMemory),
             },
         }
+    }
+}
+
+impl TryClone for SshCertKeyType {
+    fn try_clone(&self, _alloc: Global) -> Result<SshCertKeyType, NoMemory>
+        ensures ok { IfOk result (λ copy. copy ≡ self.now) }
+        ensures always { IsOk result }
+    {
+        Ok(*self)
     }
 }
 

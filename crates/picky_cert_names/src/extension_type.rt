@@ -1,7 +1,7 @@
 //! Extensions by name. One that isn't known is kept by its name.
 
 ghost use Rattle.std.specs.Prelude.{◌≡◌, ◌<◌, ◌^◌, None, IsUtf8, length, nat_eq, nat_lt, if◌then◌else◌};
-ghost use Rattle.std.specs.Prelude.{Ok, Err};
+ghost use Rattle.std.specs.Prelude.{Ok, Err, IsOk, IsSome};
 ghost use Rattle.std.specs.Cmp.{partial_equiv_from_equiv};
 ghost use Rattle.std.specs.Cmp.Lexicographic.{pointwise, nat_list_eq_equiv};
 ghost use Rattle.picky_layout.specs.Table.{find_entry};
@@ -101,27 +101,23 @@ impl SshExtensionType {
         }
     }
 
-    /// The extension with this name, `Other` for one that isn't known. PROTOCOL.certkeys, "Extensions".
+    /// The extension with this name, `Other` for one that isn't known, with a copy. PROTOCOL.certkeys, "Extensions".
     ///
     /// Refuses: `TooLong`, for such a name of 2^32 bytes or more.
     pub fn try_from_name(alloc: Global, name: &str) -> Result<SshExtensionType, SshExtensionError>
-        ensures { Gives SshExtensionError.NoMemory (λ t. t) result
+        ensures gives { Gives SshExtensionError.NoMemory (λ t. t) result
             (if nat_lt (length name.now) (2 ^ 32) then Ok (extension_named name.now) else Err errors.TooLong) }
-    {
-        match Text::new(alloc, name) {
-            Ok(name) => Ok(SshExtensionType::of_text(name)),
-            Err(SizeError::TooLong) => Err(SshExtensionError::TooLong),
-            Err(SizeError::NoMemory) => Err(SshExtensionError::NoMemory),
-        }
-    }
 
-    /// The extension with this name, `Other` for one that isn't known, without a copy.
-    pub fn of_text(name: Text) -> SshExtensionType
-        ensures { result ≡ extension_named name }
+        // A known name takes no memory.
+        ensures known { IsSome (find_entry known_extensions name.now) → IsOk result }
     {
-        match KnownExtension::of_name(name.as_str()) {
-            Some(row) => SshExtensionType::of_known(row),
-            None => SshExtensionType::Other(OtherName { name }),
+        match KnownExtension::of_name(name) {
+            Some(row) => Ok(SshExtensionType::of_known(row)),
+            None => match Text::new(alloc, name) {
+                Ok(name) => Ok(SshExtensionType::Other(OtherName { name })),
+                Err(SizeError::TooLong) => Err(SshExtensionError::TooLong),
+                Err(SizeError::NoMemory) => Err(SshExtensionError::NoMemory),
+            },
         }
     }
 

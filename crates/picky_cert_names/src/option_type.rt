@@ -1,17 +1,18 @@
 //! The critical options by name.
 
-ghost use Rattle.std.specs.Prelude.{◌≡◌, ◌≤◌, bytes_eq, length};
+ghost use Rattle.std.specs.Prelude.{◌≡◌, ◌≤◌, IfOk, IsOk, bytes_eq, length};
 ghost use Rattle.picky_layout.specs.Table.{find_entry};
 ghost use Rattle.picky_wire.specs.Gives.{Gives};
 ghost use Rattle.picky_cert_names.specs.declared.error.SshCriticalOptionError.TheVariants as errors;
 
 use crate::error::SshCriticalOptionError;
 use crate::names;
-use picky_wire::{SizeError, Text};
+use picky_wire::{NoMemory, SizeError, Text, TryClone};
 use std::alloc::Global;
+use std::hash::Hash;
 
 /// What a critical option demands (OpenSSH's PROTOCOL.certkeys, "Critical options").
-#[derive(Clone, Copy, Debug, PartialEq, Eq)]
+#[derive(Clone, Copy, Debug, PartialEq, Eq, Hash)]
 pub enum SshCriticalOptionType {
     ForceCommand,
     SourceAddress,
@@ -66,6 +67,15 @@ impl SshCriticalOptionType {
                 Err(SizeError::NoMemory) => Err(SshCriticalOptionError::NoMemory),
             },
         }
+    }
+}
+
+impl TryClone for SshCriticalOptionType {
+    fn try_clone(&self, _alloc: Global) -> Result<SshCriticalOptionType, NoMemory>
+        ensures ok { IfOk result (λ copy. copy ≡ self.now) }
+        ensures always { IsOk result }
+    {
+        Ok(*self)
     }
 }
 

@@ -1,13 +1,13 @@
 //! The formats of signatures.
 
-ghost use Rattle.std.specs.Prelude.{◌≡◌, ◌≤◌, bytes_eq, length};
+ghost use Rattle.std.specs.Prelude.{◌≡◌, ◌≤◌, IfOk, IsOk, bytes_eq, length};
 ghost use Rattle.picky_layout.specs.Table.{find_entry};
 ghost use Rattle.picky_wire.specs.Gives.{Gives};
 ghost use Rattle.picky_cert_names.specs.declared.error.SshSignatureError.TheVariants as errors;
 
 use crate::error::SshSignatureError;
 use crate::names;
-use picky_wire::{SizeError, Text};
+use picky_wire::{NoMemory, SizeError, Text, TryClone};
 use std::alloc::Global;
 
 /// A format of signatures (RFC 4253, section 6.6; RFC 8332, section 3; RFC 5656, section 3.1.2; RFC 8709, section 6;
@@ -92,6 +92,15 @@ impl SshSignatureFormat {
                 Err(SizeError::NoMemory) => Err(SshSignatureError::NoMemory),
             },
         }
+    }
+}
+
+impl TryClone for SshSignatureFormat {
+    fn try_clone(&self, _alloc: Global) -> Result<SshSignatureFormat, NoMemory>
+        ensures ok { IfOk result (λ copy. copy ≡ self.now) }
+        ensures always { IsOk result }
+    {
+        Ok(*self)
     }
 }
 

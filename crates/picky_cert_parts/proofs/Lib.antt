@@ -8,3 +8,4 @@ pub mod LawLemmas
 pub mod SpellingLaws
 pub mod RefusesLemmas
 pub mod MismatchLaws
+pub mod EqualityLemmas

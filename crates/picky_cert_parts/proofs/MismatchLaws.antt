@@ -1,5 +1,5 @@
 -- Reading never refuses a signature for a blob that doesn't fit its format.
-use Rattle.std.specs.Prelude.{◌≡◌, ◌≢◌, Bool, true, false, List, ℕ, Err}
+use Rattle.std.specs.Prelude.{◌≢◌, Bool, true, false, List, ℕ, Err}
 use Rattle.std.proofs.Common.{refl}
 use Rattle.picky_layout.specs.Flaw.{Flaw, Short, NotUtf8, Big}
 use Rattle.picky_layout.specs.Combine.{done, ◌>>=◌}

@@ -11,6 +11,7 @@ ghost use Rattle.picky_cert_parts.specs.carried.CertType.{cert_type_spells, cert
 ghost use Rattle.picky_cert_parts.specs.CertNumber.{cert_type_number};
 ghost use Rattle.picky_cert_parts.specs.NumberTable.{cert_types};
 ghost use Rattle.picky_cert_names.specs.declared.error.SshCertTypeError.TheVariants as errors;
+ghost use Rattle.picky_cert_names.specs.FromWire.{cert_type_error};
 
 use crate::fields::uint32_field;
 use picky_cert_names::SshCertTypeError;
@@ -101,7 +102,16 @@ impl SshComplexTypeDecode for SshCertType {
     ///
     /// Refuses, in order: `IoError(ReadFault)`; `IoError(UnexpectedEnd)`; `InvalidCertificateType`, as `try_from_number`.
     #[tactic(auto, unfolding(crate::specs::CertType::cert_type), using(crate::proofs::CertTypeLemmas::cert_type_causes))]
-    fn decode<S: Source>(_alloc: Global, stream: &mut S) -> Result<SshCertType, SshCertTypeError> {
+    fn decode<S: Source>(_alloc: Global, stream: &mut S) -> Result<SshCertType, SshCertTypeError>
+        // It takes no memory.
+        ensures no_want { IfErr result (λ e. e ≢ SshCertTypeError.NoMemory) }
+
+        // What every element promises.
+        ensures takes { Takes S.tells S.left S.known S.faults (causes_of cert_type_error) cert_type.read cert_type.used
+            result stream.old stream.new }
+        ensures cause { IfErr result (HasCause (causes_of cert_type_error) cert_type.read
+            (Rose (S.faults stream.old) (S.faults stream.new))) }
+    {
         match uint32_field::<SshCertTypeError, S>(stream) {
             Ok(number) => match SshCertType::try_from_number(number) {
                 Ok(cert_type) => Ok(cert_type),

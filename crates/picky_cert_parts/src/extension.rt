@@ -12,7 +12,7 @@ use crate::fields::{bytes_field, text_field};
 use picky_cert_names::{SshExtensionError, SshExtensionType};
 use picky_wire::{
     Bytes, NoMemory, Piece, Sink, Source, SshComplexTypeDecode, SshComplexTypeEncode, SshElement,
-    SshLayout, TryClone, WireError, pieces_len, write_pieces,
+    SshLayout, Text, TryClone, WireError, pieces_len, write_pieces,
 };
 use std::alloc::Global;
 
@@ -91,8 +91,12 @@ fn take_type<S: Source>(
     ensures takes { Takes S.tells S.left S.known S.faults (causes_of extension_error) extension_type.read extension_type.used result stream.old stream.new }
     ensures cause { IfErr result (HasCause (causes_of extension_error) extension_type.read (Rose (S.faults stream.old) (S.faults stream.new))) }
 {
-    match text_field::<SshExtensionError, S>(alloc, stream) {
-        Ok(name) => Ok(SshExtensionType::of_text(name)),
+    let name: Text = match text_field::<SshExtensionError, S>(alloc, stream) {
+        Ok(name) => name,
+        Err(e) => return Err(e),
+    };
+    match SshExtensionType::try_from_name(alloc, name.as_str()) {
+        Ok(extension_type) => Ok(extension_type),
         Err(e) => Err(e),
     }
 }

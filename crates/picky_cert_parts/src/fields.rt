@@ -1,6 +1,7 @@
 //! The fields of a layout, read from a source with the layer's own error, which may carry what stood there.
 
-ghost use Rattle.std.specs.Prelude.{IfErr};
+ghost use Rattle.std.specs.Prelude.{IfErr, ◌≢◌};
+ghost use Rattle.picky_wire.specs.declared.error.WireError.TheVariants as wire_errors;
 ghost use Rattle.picky_layout.specs.Numbers.{byte};
 ghost use Rattle.picky_layout.specs.Wire.{string, text, uint32};
 ghost use Rattle.picky_wire.specs.Count.{Rose};
@@ -39,6 +40,7 @@ pub fn bytes_field<E: CodecError, S: Source>(alloc: Global, stream: &mut S) -> R
 #[tactic(auto, using(crate::proofs::FieldLemmas::layer_fields))]
 pub fn uint32_field<E: CodecError, S: Source>(stream: &mut S) -> Result<u32, E>
     ensures takes { Takes S.tells S.left S.known S.faults (causes_of E.of_wire) (field E.of_wire uint32).read uint32.used result stream.old stream.new }
+    ensures no_want { IfErr result (λ e. e ≢ E.of_wire wire_errors.NoMemory) }
     ensures cause { IfErr result (HasCause (causes_of E.of_wire) (field E.of_wire uint32).read (Rose (S.faults stream.old) (S.faults stream.new))) }
 {
     match read_uint32(stream) {
@@ -51,6 +53,7 @@ pub fn uint32_field<E: CodecError, S: Source>(stream: &mut S) -> Result<u32, E>
 #[tactic(auto, using(crate::proofs::FieldLemmas::layer_fields))]
 pub fn byte_field<E: CodecError, S: Source>(stream: &mut S) -> Result<u8, E>
     ensures takes { Takes S.tells S.left S.known S.faults (causes_of E.of_wire) (field E.of_wire byte).read byte.used result stream.old stream.new }
+    ensures no_want { IfErr result (λ e. e ≢ E.of_wire wire_errors.NoMemory) }
     ensures cause { IfErr result (HasCause (causes_of E.of_wire) (field E.of_wire byte).read (Rose (S.faults stream.old) (S.faults stream.new))) }
 {
     match read_byte(stream) {

@@ -2,6 +2,7 @@
 use Rattle.std.specs.Prelude.{◌≡◌, ◌≢◌, ◌↔◌, ◌⊎◌, List, ℕ, Result, Ok, Err, IfErr}
 use Rattle.picky_keys.specs.declared.algorithm.SignatureAlgorithm.{SignatureAlgorithm}
 use Rattle.picky_keys.specs.declared.public_key.PublicKey.{PublicKey}
+pub use Rattle.picky_suite.specs.Signs.{Relation}
 use Rattle.picky_cert_names.specs.declared.error.SshCertificateError.TheVariants as lines
 use Rattle.picky_cert.specs.declared.certificate.SshCertificate.{SshCertificate}
 use Rattle.picky_cert.specs.Line.{IsKept}
@@ -11,10 +12,6 @@ use Rattle.picky_cert_builder.specs.Draft.{IsSigned, Unsigned}
 use Rattle.picky_cert_builder.specs.Keeps.{without_key_comments}
 use Rattle.picky_target.specs.declared.error.ConvertError.{ConvertError}
 use Rattle.picky_target.specs.declared.error.ConvertError.TheVariants as errors
-
--- which signatures are good: of a message, under a public key and an algorithm
-abbrev pub Relation : Type 1
-Relation = PublicKey → SignatureAlgorithm → List ℕ → List ℕ → Type 0
 
 -- the text is the line of the certificate with a good signature of exactly its signed bytes, and one that is read back, the
 -- comments of its keys aside

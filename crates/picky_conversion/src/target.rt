@@ -2,6 +2,8 @@
 
 use picky_cert_target::CertRequest;
 use picky_ppk::{PpkEncryptionConfig, PpkVersion};
+use picky_wire::{NoMemory, TryClone};
+use std::alloc::Global;
 
 /// What a key text is converted to.
 #[derive(Drop)]
@@ -16,4 +18,19 @@ pub enum Target {
     PuttyPublic,
     /// A certificate's line.
     Certificate(CertRequest),
+}
+
+impl TryClone for Target {
+    fn try_clone(&self, alloc: Global) -> Result<Target, NoMemory> {
+        match self {
+            Target::OpenSsh => Ok(Target::OpenSsh),
+            Target::Ppk(version, config) => Ok(Target::Ppk(*version, *config)),
+            Target::OpenSshPublic => Ok(Target::OpenSshPublic),
+            Target::PuttyPublic => Ok(Target::PuttyPublic),
+            Target::Certificate(request) => match request.try_clone(alloc) {
+                Ok(request) => Ok(Target::Certificate(request)),
+                Err(e) => Err(e),
+            },
+        }
+    }
 }

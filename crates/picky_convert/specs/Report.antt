@@ -10,8 +10,7 @@ use Rattle.picky_ppk_parts.specs.declared.error.PuttyError.{PuttyError}
 use Rattle.picky_ppk_parts.specs.declared.error.PuttyError.TheVariants as putty
 use Rattle.picky_key_text.specs.declared.error.ReadError.{ReadError}
 use Rattle.picky_key_text.specs.declared.error.ReadError.TheVariants as input
-use Rattle.picky_cert_builder.specs.declared.error.SshCertificateGenerationError.{SshCertificateGenerationError}
-use Rattle.picky_cert_builder.specs.declared.error.SshCertificateGenerationError.TheVariants as requests
+pub use Rattle.picky_cert_builder.specs.RefusalName.{request_name}
 use Rattle.picky_target.specs.declared.error.ConvertError.{ConvertError}
 use Rattle.picky_target.specs.declared.error.ConvertError.TheVariants as convert
 use Rattle.picky_convert.specs.declared.error.Status.{Status}
@@ -108,20 +107,6 @@ issuer_path (input.Public e) = codes "refused: issuer.public."
 issuer_path (input.Certificate e) = codes "refused: issuer.cert."
 issuer_path (input.Putty e) = codes "refused: issuer.putty."
 issuer_path input.NoMemory = codes "refused: issuer."
-
-abbrev pub request_name : SshCertificateGenerationError → List ℕ
-request_name (requests.UnsupportedCertificateKeyType t) = codes "UnsupportedCertificateKeyType"
-request_name requests.IncorrectSignatureAlgorithm = codes "IncorrectSignatureAlgorithm"
-request_name requests.MissingPublicKey = codes "MissingPublicKey"
-request_name requests.MissingCertificateType = codes "MissingCertificateType"
-request_name requests.InvalidTime = codes "InvalidTime"
-request_name requests.MissingSignatureKey = codes "MissingSignatureKey"
-request_name requests.HostCertificateExtensions = codes "HostCertificateExtensions"
-request_name requests.HostCertificateCriticalOptions = codes "HostCertificateCriticalOptions"
-request_name requests.NoKeyType = codes "NoKeyType"
-request_name requests.SignatureError = codes "SignatureError"
-request_name requests.TooLong = codes "TooLong"
-request_name requests.NoMemory = codes "NoMemory"
 
 -- of a conversion's
 abbrev pub path : ConvertError → List ℕ

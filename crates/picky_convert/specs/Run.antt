@@ -1,9 +1,10 @@
 -- A run: what it writes for the bytes of its source, and how it ends.
-use Rattle.std.specs.Prelude.{◌≡◌, ◌⊎◌, ◌<◌, ◌+◌, ◌++◌, ◌≤◌, ◌&&◌, List, [], ℕ, Bool, true, length, take, nat_lt, nat_le, Result, Err}
+use Rattle.std.specs.Prelude.{◌≡◌, ◌⊎◌, ◌<◌, ◌++◌, ◌≤◌, ◌&&◌, List, [], ℕ, Bool, true, length, take, nat_lt, nat_le, Result, Err}
 use Rattle.std.specs.Prelude.{Ok, if◌then◌else◌}
 use Rattle.std.specs.Str.{IsUtf8, is_utf8}
 use Rattle.picky_layout.specs.Outcome.{map_err}
 use Rattle.picky_wire.specs.Puts.{Puts}
+pub use Rattle.picky_input.specs.Input.{input_limit, TakesInput}
 use Rattle.picky_wire.specs.declared.error.WireError.{WireError}
 use Rattle.picky_wire.specs.declared.error.WireError.TheVariants as wire
 use Rattle.picky_target.specs.declared.error.ConvertError.{ConvertError}
@@ -19,16 +20,6 @@ use Rattle.picky_conversion.specs.Made.{CanBeTooLong, Made, is_signed}
 -- the bytes that the command reads of what a source has left: all of them, or none
 abbrev pub input_for : Command → (left : List ℕ) → List ℕ
 input_for command left = if reads_source command then left else []
-
--- how many bytes a source may have
-abbrev pub input_limit : ℕ
-input_limit = 16777216
-
--- a front of the source's bytes was taken, and of those past the limit no more than one
-pub record TakesInput (before after : List ℕ) : Type 0 where
-  pub taken : List ℕ
-  pub are : before ≡ taken ++ after
-  pub few : length taken ≤ input_limit + 1
 
 -- where the command reads the source, the status comes only once that was read to its end
 abbrev pub ReadsToEnd : Status → Type 0

@@ -1,8 +1,7 @@
 //! The commands.
 
-ghost use Rattle.std.specs.Prelude.{◌≡◌, ◌⊎◌, ◌≤◌, ◌∷◌, length, string_bytes, IfOk, MatchOption};
+ghost use Rattle.std.specs.Prelude.{◌≡◌, ◌⊎◌, ◌≤◌, ◌∷◌, length, string_bytes, IfOk};
 ghost use Rattle.std.specs.Option.{option_copied};
-ghost use Rattle.std.specs.Str.{IsUtf8};
 ghost use Rattle.picky_wire.specs.Count.{Rose};
 ghost use Rattle.picky_ppk_parts.specs.Config.{default_config};
 ghost use Rattle.picky_key_text.specs.Order.{asks};
@@ -18,6 +17,7 @@ use crate::error::Status;
 use crate::fingerprint::fingerprint_text;
 use picky_cert_builder::SshCertificateGenerationError;
 use picky_conversion::{Given, convert_key, input_refusal, issue, print_signed};
+use picky_input::as_text;
 use picky_issuing::{CertOptions, number_of, options_of};
 use picky_key_text::{ReadError, public_key, read_text};
 use picky_ppk::{PpkEncryptionConfig, PpkVersion, PuttyError};
@@ -27,7 +27,6 @@ use picky_suite::{Signer, Suite};
 use picky_target::{ConvertError, KeyTarget};
 use picky_wire::{NoMemory, Text};
 use std::alloc::Global;
-use std::str;
 
 const OPENSSH: &str = "openssh";
 
@@ -228,13 +227,6 @@ fn status_of(e: ConvertError) -> Status
         }
         e => Status::Refused(e),
     }
-}
-
-/// The bytes as a text, where they are UTF-8.
-fn as_text(bytes: &[u8]) -> Option<&str>
-    ensures { MatchOption result (IsUtf8 bytes.now → ⊥) (λ text. (text.now ≡ bytes.now) × IsUtf8 bytes.now) }
-{
-    str::from_utf8(bytes).ok()
 }
 
 /// The text that the command writes for a source's text.

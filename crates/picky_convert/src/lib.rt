@@ -4,7 +4,6 @@
 mod command;
 mod error;
 mod fingerprint;
-mod input;
 pub mod laws;
 mod program;
 mod reports;

@@ -12,15 +12,16 @@ ghost use Rattle.picky_convert.specs.Command.{Names, reads_source as reads_sourc
 ghost use Rattle.picky_conversion.specs.Made.{Writes};
 ghost use Rattle.picky_conversion.specs.Want.{IsFault, IsSignerFault, WantsMemory};
 ghost use Rattle.picky_convert.specs.Report.{report as report_of};
-ghost use Rattle.picky_convert.specs.Run.{input_for, input_limit, outcome, outcome_asks, outcome_signs, CanRefuse, Explains, IsOutsideFault, IsTooLongFor, IsValid};
-ghost use Rattle.picky_convert.specs.Run.{ReadsToEnd, Refuses, Says, TakesInput, WritesAnswer, WritesPrefix};
+ghost use Rattle.picky_input.specs.Input.{input_limit, TakesInput};
+ghost use Rattle.picky_convert.specs.Run.{input_for, outcome, outcome_asks, outcome_signs, CanRefuse, Explains, IsOutsideFault, IsTooLongFor, IsValid};
+ghost use Rattle.picky_convert.specs.Run.{ReadsToEnd, Refuses, Says, WritesAnswer, WritesPrefix};
 ghost use Rattle.picky_convert.specs.inner.Causes.{CanCome};
 
 use crate::command::{Command, command_of, perform, reads_source};
 use crate::error::Status;
-use crate::input::{InputError, read_input};
 use crate::reports::word;
 use picky_conversion::{Given, is_given};
+use picky_input::{InputError, read_input};
 use picky_suite::{Signer, Suite};
 use picky_target::ConvertError;
 use picky_wire::{NoMemory, Piece, Sink, Source, Text, write_all, write_pieces};

@@ -1,11 +1,10 @@
 //! The line that says on standard error how a run ended.
 
 ghost use Rattle.std.specs.Prelude.{◌≡◌, ◌++◌, []};
-ghost use Rattle.picky_convert.specs.Report.{certificate_name as certificate_name_of, input_name as input_name_of, input_path as input_path_of, issuer_path as issuer_path_of, name as name_of, path as path_of, private_name as private_name_of, public_name as public_name_of, putty_name as putty_name_of, request_name as request_name_of, status_path, word as word_of};
+ghost use Rattle.picky_convert.specs.Report.{certificate_name as certificate_name_of, input_name as input_name_of, input_path as input_path_of, issuer_path as issuer_path_of, name as name_of, path as path_of, private_name as private_name_of, public_name as public_name_of, putty_name as putty_name_of, status_path, word as word_of};
 
 use crate::error::Status;
 use picky_cert::SshCertificateError;
-use picky_cert_builder::SshCertificateGenerationError;
 use picky_key_text::ReadError;
 use picky_ppk::PuttyError;
 use picky_sshkey::SshPrivateKeyError;
@@ -102,7 +101,7 @@ fn name(e: &ConvertError) -> &'static str
 {
     match e {
         ConvertError::Input(e) | ConvertError::Issuer(e) => input_name(e),
-        ConvertError::Request(e) => request_name(e),
+        ConvertError::Request(e) => e.name(),
         ConvertError::NoPrivateKey => "NoPrivateKey",
         ConvertError::CommentNotCarried => "CommentNotCarried",
         ConvertError::Private(e) => private_name(e),
@@ -211,28 +210,5 @@ fn putty_name(e: &PuttyError) -> &'static str
         PuttyError::TooLong => "TooLong",
         PuttyError::TooManyLines => "TooManyLines",
         PuttyError::NoMemory => "NoMemory",
-    }
-}
-
-fn request_name(e: &SshCertificateGenerationError) -> &'static str
-    ensures { result.now ≡ request_name_of e.now }
-{
-    match e {
-        SshCertificateGenerationError::UnsupportedCertificateKeyType(_) => {
-            "UnsupportedCertificateKeyType"
-        }
-        SshCertificateGenerationError::IncorrectSignatureAlgorithm => "IncorrectSignatureAlgorithm",
-        SshCertificateGenerationError::MissingPublicKey => "MissingPublicKey",
-        SshCertificateGenerationError::MissingCertificateType => "MissingCertificateType",
-        SshCertificateGenerationError::InvalidTime => "InvalidTime",
-        SshCertificateGenerationError::MissingSignatureKey => "MissingSignatureKey",
-        SshCertificateGenerationError::HostCertificateExtensions => "HostCertificateExtensions",
-        SshCertificateGenerationError::HostCertificateCriticalOptions => {
-            "HostCertificateCriticalOptions"
-        }
-        SshCertificateGenerationError::NoKeyType => "NoKeyType",
-        SshCertificateGenerationError::SignatureError => "SignatureError",
-        SshCertificateGenerationError::TooLong => "TooLong",
-        SshCertificateGenerationError::NoMemory => "NoMemory",
     }
 }

@@ -13,6 +13,8 @@ mod fakes;
 #[cfg(test)]
 mod fields;
 #[cfg(test)]
+mod given;
+#[cfg(test)]
 mod issuers;
 #[cfg(test)]
 mod keys;
@@ -24,6 +26,8 @@ mod macs;
 mod ppk_blocks;
 #[cfg(test)]
 mod ppk_lines;
+#[cfg(test)]
+mod source_texts;
 #[cfg(test)]
 mod suites;
 #[cfg(test)]

@@ -165,7 +165,8 @@ fn grants(alloc: Global, row: &IssuedRow) -> bool {
     }
 }
 
-fn is_line_of(alloc: Global, cert: &SshCertificate, line: &str) -> bool {
+/// The line is the certificate's.
+pub fn is_line_of(alloc: Global, cert: &SshCertificate, line: &str) -> bool {
     match &*ManuallyDrop::new(cert.to_string(alloc)) {
         Ok(text) => text.as_str() == line,
         Err(_) => false,

@@ -6,6 +6,8 @@ mod devices;
 #[cfg(test)]
 mod issued;
 #[cfg(test)]
+mod issuers;
+#[cfg(test)]
 mod openssh;
 #[cfg(test)]
 mod refused_requests;

@@ -1,70 +1,11 @@
 -- What is asked of two certificates is equal exactly where its fields are.
-use Rattle.std.specs.Prelude.{◌≡◌, ◌↔◌, Bool, IsTrue, List, ℕ, Option, Some, None, nat_eq}
-use Rattle.std.specs.Option.{option_eq}
-use Rattle.std.proofs.Common.{rules, ap, refl}
+use Rattle.std.specs.Prelude.{◌≡◌, ◌↔◌, IsTrue}
+use Rattle.std.proofs.Common.{ap}
 use Rattle.std.proofs.lemmas.Bool.Decides.{Decides-and, Decides-like}
-use Rattle.std.proofs.lemmas.Slice.Eq.{slice_eq-Decides}
-use lib.Pointwise.{pointwise}
-use Rattle.picky_keys.specs.contracts.algorithm.SignatureAlgorithmPartialEq.TheImpl as algorithm
-use Rattle.picky_keys.specs.declared.algorithm.SignatureAlgorithm.{SignatureAlgorithm}
-use Rattle.picky_wire.specs.contracts.timestamp.TimestampPartialEq.TheImpl as moment
-use Rattle.picky_wire.specs.declared.timestamp.Timestamp.{Timestamp}
-use Rattle.picky_cert_names.specs.contracts.cert_key_type.SshCertKeyTypePartialEq.TheImpl as key_type
-use Rattle.picky_cert_names.specs.declared.cert_key_type.SshCertKeyType.{SshCertKeyType}
-use Rattle.picky_cert_parts.specs.contracts.cert_type.SshCertTypePartialEq.TheImpl as cert_type
-use Rattle.picky_cert_parts.specs.declared.cert_type.SshCertType.{SshCertType}
-use Rattle.picky_cert_parts.specs.contracts.critical_option.SshCriticalOptionPartialEq.TheImpl as option
-use Rattle.picky_cert_parts.specs.declared.critical_option.SshCriticalOption.{SshCriticalOption}
-use Rattle.picky_cert_parts.specs.contracts.extension.SshExtensionPartialEq.TheImpl as extension
-use Rattle.picky_cert_parts.specs.declared.extension.SshExtension.{SshExtension}
+use Rattle.picky_cert_parts.proofs.EqualityLemmas.{algorithm_equal, bytes_equal, extensions_equal, key_type_equal, may_equal, moment_equal}
+use Rattle.picky_cert_parts.proofs.EqualityLemmas.{number_equal, options_equal, texts_equal, type_equal}
 use Rattle.picky_issuing.specs.contracts.options.CertOptionsPartialEq.TheImpl as whole
 use Rattle.picky_issuing.specs.declared.options.CertOptions.{CertOptions}
-
--- ---- the fields
-
--- values that may be absent are equal where what compares them tells
-may_equal : {A : Type 0} (eq : A → A → Bool) → ((x y : A) → IsTrue (eq x y) ↔ (x ≡ y)) → (a b : Option A)
-    → IsTrue (option_eq eq a b) ↔ (a ≡ b)
-may_equal eq each None None = (λ is. refl, λ same. refl)
-may_equal eq each None (Some y) = (λ is. absurd (cc is), λ same. absurd (cc same))
-may_equal eq each (Some x) None = (λ is. absurd (cc is), λ same. absurd (cc same))
-may_equal eq each (Some x) (Some y) =
-    (λ is. ap Some ((each x y).0 is), λ same. let inner : x ≡ y = cc same in (each x y).1 inner)
-
-key_type_equal : (a b : SshCertKeyType) → IsTrue (key_type.ghosts.eq a b) ↔ (a ≡ b)
-key_type_equal = search rules
-
-type_equal : (a b : SshCertType) → IsTrue (cert_type.ghosts.eq a b) ↔ (a ≡ b)
-type_equal = search rules
-
-number_equal : (a b : ℕ) → IsTrue (nat_eq a b) ↔ (a ≡ b)
-number_equal = search rules
-
-text_equal : (a b : List ℕ) → IsTrue (pointwise nat_eq a b) ↔ (a ≡ b)
-text_equal = search rules
-
-texts_equal : (a b : List (List ℕ)) → IsTrue (pointwise (pointwise nat_eq) a b) ↔ (a ≡ b)
-texts_equal a b = slice_eq-Decides text_equal a b _ refl
-
-moment_equal : (a b : Timestamp) → IsTrue (moment.ghosts.eq a b) ↔ (a ≡ b)
-moment_equal = search rules
-
-option_equal : (a b : SshCriticalOption) → IsTrue (option.ghosts.eq a b) ↔ (a ≡ b)
-option_equal = search rules
-
-options_equal : (a b : List SshCriticalOption) → IsTrue (pointwise option.ghosts.eq a b) ↔ (a ≡ b)
-options_equal a b = slice_eq-Decides option_equal a b _ refl
-
-extension_equal : (a b : SshExtension) → IsTrue (extension.ghosts.eq a b) ↔ (a ≡ b)
-extension_equal = search rules
-
-extensions_equal : (a b : List SshExtension) → IsTrue (pointwise extension.ghosts.eq a b) ↔ (a ≡ b)
-extensions_equal a b = slice_eq-Decides extension_equal a b _ refl
-
-algorithm_equal : (a b : SignatureAlgorithm) → IsTrue (algorithm.ghosts.eq a b) ↔ (a ≡ b)
-algorithm_equal = search rules
-
--- ---- all of them
 
 -- each field is the same
 abbrev SameFields : CertOptions → CertOptions → Type 0
@@ -130,7 +71,7 @@ cert_options_equal c d =
     (Decides-and _ _ (may_equal _ key_type_equal c.cert_key_type d.cert_key_type)
     (Decides-and _ _ (may_equal _ type_equal c.cert_type d.cert_type)
     (Decides-and _ _ (may_equal _ number_equal c.serial d.serial)
-    (Decides-and _ _ (may_equal _ text_equal c.key_id d.key_id)
+    (Decides-and _ _ (may_equal _ bytes_equal c.key_id d.key_id)
     (Decides-and _ _ (texts_equal c.principals d.principals)
     (Decides-and _ _ (may_equal _ moment_equal c.valid_after d.valid_after)
     (Decides-and _ _ (may_equal _ moment_equal c.valid_before d.valid_before)

@@ -36,14 +36,14 @@ pub by_lines : (P : List ℕ → Type 0) → ((line : List ℕ) → HasNo 10 lin
 by_lines P last next text = by_lines_from P last next [] text tt
 
 -- a line up to its LF is the first
-lines_at_lf : (line more : List ℕ) → HasNo 10 line
+pub lines_at_lf : (line more : List ℕ) → HasNo 10 line
     → lines_with_ends (line ++ 10 ∷ more) ≡ (line ++ 10 ∷ []) ∷ lines_with_ends more
 lines_at_lf [] more none = refl
 lines_at_lf (b ∷ line) more none =
     rw (ne_eqb b 10 none.0) (ap (onto_first b) (lines_at_lf line more none.1))
 
 -- a text without LF is one line
-one_line_left : (b : ℕ) (line : List ℕ) → HasNo 10 (b ∷ line) → lines_with_ends (b ∷ line) ≡ (b ∷ line) ∷ []
+pub one_line_left : (b : ℕ) (line : List ℕ) → HasNo 10 (b ∷ line) → lines_with_ends (b ∷ line) ≡ (b ∷ line) ∷ []
 one_line_left b [] none = rw (ne_eqb b 10 none.0) refl
 one_line_left b (c ∷ line) none =
     rw (ne_eqb b 10 none.0) (ap (onto_first b) (one_line_left c line none.1))
@@ -53,7 +53,7 @@ joined_onto b [] = refl
 joined_onto b (part ∷ parts) = refl
 
 -- the lines with their ends are the text
-lines_joined : (text : List ℕ) → concat (lines_with_ends text) ≡ text
+pub lines_joined : (text : List ℕ) → concat (lines_with_ends text) ≡ text
 lines_joined [] = refl
 lines_joined (b ∷ text) = elim (cases_Bool (b == 10)) [
   | inl lf ↦ rw lf (ap (λ l. 10 ∷ l) (lines_joined text) ∙ ap (λ c. c ∷ text) (sym (eqb-true b 10 lf)))
@@ -92,7 +92,7 @@ word_cr_is_mark : (line : List ℕ) → line ≡ mark_word ++ 13 ∷ [] → stri
 word_cr_is_mark line is = ap strip_carriage_return is ∙ cr_is_stripped mark_word
 
 -- a line with an LF that is the mark is `%%` without its end
-marked_line : (line : List ℕ) → is_mark (line ++ 10 ∷ []) ≡ true → strip_carriage_return line ≡ mark_word
+pub marked_line : (line : List ℕ) → is_mark (line ++ 10 ∷ []) ≡ true → strip_carriage_return line ≡ mark_word
 marked_line line is =
     let whole : List ℕ = line ++ 10 ∷ [] in
     elim (or_cases (bytes_eq whole mark_word || bytes_eq whole mark_lf) (bytes_eq whole mark_cr_lf) is) [
@@ -108,7 +108,7 @@ marked_line line is =
     ]
 
 -- and one without an LF is `%%`
-marked_end : (line : List ℕ) → HasNo 10 line → is_mark line ≡ true → line ≡ mark_word
+pub marked_end : (line : List ℕ) → HasNo 10 line → is_mark line ≡ true → line ≡ mark_word
 marked_end line none is =
     let P : List ℕ → Type 0 = HasNo 10 in
     elim (or_cases (bytes_eq line mark_word || bytes_eq line mark_lf) (bytes_eq line mark_cr_lf) is) [

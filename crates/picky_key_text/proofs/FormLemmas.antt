@@ -1,6 +1,6 @@
 -- Lemmas on the first word of a text.
 use Rattle.std.specs.Prelude.{◌≡◌, false, is_some, List, ℕ, IsUtf8}
-use Rattle.std.proofs.Common.{ap, sym, ◌∙◌, subst, refl}
+use Rattle.std.proofs.Common.{ap, sym, ◌∙◌, subst}
 use Rattle.picky_layout.proofs.Table.{none_is_found}
 use Rattle.picky_layout.specs.Table.{find_entry}
 use Rattle.picky_cert_names.specs.NameTables.{cert_key_types}

@@ -7,3 +7,4 @@ pub mod RefusalLaws
 pub mod Utf8Laws
 pub mod ReadingLaws
 pub mod KeptLaws
+mod SubjectLemmas

@@ -7,9 +7,10 @@ ghost use Rattle.picky_suite.specs.Asked.{GivesAsked, LeavesSuite};
 ghost use Rattle.picky_suite.specs.Failures.{IsAskedFault};
 ghost use Rattle.picky_wire.specs.Count.{Rose};
 ghost use Rattle.picky_wire.specs.Gives.{Gives};
-ghost use Rattle.picky_layout.specs.Outcome.{and_then};
+ghost use Rattle.picky_layout.specs.Outcome.{and_then, map_err};
 ghost use Rattle.picky_putty_public.specs.PuttyRefusal.{putty_meaning, to_openssh};
-ghost use Rattle.picky_key_text.specs.Key.{certificate_meaning as certificate_meaning_of, public_meaning as public_meaning_of};
+ghost use Rattle.picky_cert.specs.LineRefusal.{line_meaning as certificate_line};
+ghost use Rattle.picky_key_text.specs.Key.{certificate_meaning, public_meaning as public_meaning_of};
 ghost use Rattle.picky_key_text.specs.Order.{asks, asks_as, envelope_meaning, fault_of, fault_as, reading, reading_as};
 ghost use Rattle.picky_key_text.specs.Reads.{Reads};
 ghost use Rattle.picky_key_text.specs.inner.Refusals.{certificate_refusal as certificate_refusal_of, envelope_refusal as envelope_refusal_of, putty_refusal as putty_refusal_of, line_refusal as line_refusal_of};
@@ -95,9 +96,9 @@ fn read_as<S: Suite>(
             Ok(key) => Ok(public_meaning(key)),
             Err(e) => Err(putty_refusal(e)),
         },
-        Form::Certificate => match SshCertificate::from_str(alloc, input) {
-            Ok(certificate) => Ok(certificate_meaning(certificate)),
-            Err(e) => Err(certificate_refusal(e)),
+        Form::Certificate => match certificate_key(alloc, input) {
+            Ok(meaning) => Ok(meaning),
+            Err(e) => Err(e),
         },
         Form::PublicLine => match SshPublicKey::from_str(alloc, input) {
             Ok(key) => Ok(public_meaning(key)),
@@ -122,6 +123,18 @@ fn putty_public_key(alloc: Global, input: &str) -> Result<SshPublicKey, PuttyErr
     }
 }
 
+/// The key of a certificate's subject, and the certificate's comment.
+#[tactic(auto, using(crate::proofs::SubjectLemmas::subjects))]
+fn certificate_key(alloc: Global, input: &str) -> Result<Meaning, ReadError>
+    ensures { Gives ReadError.NoMemory (λ meaning. meaning) result
+        (and_then (map_err ReadError.Certificate (certificate_line input.now)) (λ c. Ok (certificate_meaning c))) }
+{
+    match SshCertificate::subject_from_str(alloc, input) {
+        Ok(key) => Ok(public_meaning(key)),
+        Err(e) => Err(certificate_refusal(e)),
+    }
+}
+
 /// The key of an envelope, without what the envelope says.
 fn private_meaning(key: SshPrivateKey) -> Meaning
     ensures { result ≡ envelope_meaning key }
@@ -143,38 +156,13 @@ fn private_meaning(key: SshPrivateKey) -> Meaning
     }
 }
 
-/// The key of a line.
+/// The key and the comment of a line.
 fn public_meaning(key: SshPublicKey) -> Meaning
     ensures { result ≡ public_meaning_of key }
 {
     let SshPublicKey { inner_key, comment } = key;
     Meaning {
         key: Key::Public(inner_key),
-        comment,
-    }
-}
-
-/// The subject's key of a certificate, and its comment.
-fn certificate_meaning(certificate: SshCertificate) -> Meaning
-    ensures { result ≡ certificate_meaning_of certificate }
-{
-    let SshCertificate {
-        public_key,
-        valid_principals,
-        critical_options,
-        extensions,
-        signature_key,
-        signature,
-        comment,
-        ..
-    } = certificate;
-    drop(valid_principals);
-    drop(critical_options);
-    drop(extensions);
-    drop(signature_key);
-    drop(signature);
-    Meaning {
-        key: Key::Public(public_key.inner_key),
         comment,
     }
 }

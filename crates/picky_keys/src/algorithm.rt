@@ -1,5 +1,10 @@
 //! Digests and signature algorithms by name.
 
+ghost use Rattle.std.specs.Prelude.{◌≡◌, IfOk, IsOk};
+
+use picky_wire::{NoMemory, TryClone};
+use std::alloc::Global;
+
 /// A digest (RFC 1321; FIPS 180-4).
 #[derive(Clone, Copy, Debug, PartialEq, Eq)]
 pub enum HashAlgorithm {
@@ -11,10 +16,28 @@ pub enum HashAlgorithm {
     SHA2_512,
 }
 
+impl TryClone for HashAlgorithm {
+    fn try_clone(&self, _alloc: Global) -> Result<HashAlgorithm, NoMemory>
+        ensures ok { IfOk result (λ copy. copy ≡ self.now) }
+        ensures always { IsOk result }
+    {
+        Ok(*self)
+    }
+}
+
 /// A signature algorithm, with its digest where the key's kind leaves a choice (RFC 8017; RFC 5656; RFC 8032).
 #[derive(Clone, Copy, Debug, PartialEq, Eq)]
 pub enum SignatureAlgorithm {
     RsaPkcs1v15(HashAlgorithm),
     Ecdsa(HashAlgorithm),
     Ed25519,
+}
+
+impl TryClone for SignatureAlgorithm {
+    fn try_clone(&self, _alloc: Global) -> Result<SignatureAlgorithm, NoMemory>
+        ensures ok { IfOk result (λ copy. copy ≡ self.now) }
+        ensures always { IsOk result }
+    {
+        Ok(*self)
+    }
 }

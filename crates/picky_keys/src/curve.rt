@@ -1,8 +1,10 @@
 //! The curves and the Edwards algorithm, with the names that SSH has for them.
 
-ghost use Rattle.std.specs.Prelude.{◌≡◌, ◌≤◌, length};
+ghost use Rattle.std.specs.Prelude.{◌≡◌, ◌≤◌, IfOk, IsOk, length};
 
 use crate::{key_identifier, key_type};
+use picky_wire::{NoMemory, TryClone};
+use std::alloc::Global;
 
 /// A curve of ECDSA (RFC 5656, section 10.1).
 #[derive(Clone, Copy, Debug, PartialEq, Eq)]
@@ -12,10 +14,28 @@ pub enum EcCurve {
     NistP521,
 }
 
+impl TryClone for EcCurve {
+    fn try_clone(&self, _alloc: Global) -> Result<EcCurve, NoMemory>
+        ensures ok { IfOk result (λ copy. copy ≡ self.now) }
+        ensures always { IsOk result }
+    {
+        Ok(*self)
+    }
+}
+
 /// A signature algorithm on an Edwards curve (RFC 8709).
 #[derive(Clone, Copy, Debug, PartialEq, Eq)]
 pub enum EdAlgorithm {
     Ed25519,
+}
+
+impl TryClone for EdAlgorithm {
+    fn try_clone(&self, _alloc: Global) -> Result<EdAlgorithm, NoMemory>
+        ensures ok { IfOk result (λ copy. copy ≡ self.now) }
+        ensures always { IsOk result }
+    {
+        Ok(*self)
+    }
 }
 
 /// A curve's names.

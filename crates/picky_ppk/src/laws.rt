@@ -24,9 +24,19 @@ ghost use Rattle.picky_ppk.specs.KeyOf.{base_key_of};
 ghost use Rattle.picky_ppk.specs.Wrappers.{base_of_openssh, base_to_openssh};
 ghost use Rattle.picky_ppk.specs.declared.wrappers.PuttyBasePrivateKey.{PuttyBasePrivateKey as Base};
 
+use crate::MAC_SIZE_V3;
+use crate::aes::{BLOCK_SIZE, KEY_SIZE};
 use crate::ppk::Ppk;
 use crate::wrappers::{PuttyBasePrivateKey, PuttyBasePublicKey, PuttyPrivateKey};
 pub use picky_ppk_parts::laws::no_mac_input_is_a_front_of_another;
+
+/// AES-256 has keys of 32 bytes and blocks of 16 (FIPS 197, section 5), and HMAC-SHA-256 gives the 32 bytes of a MAC of
+/// version 3.
+pub fn sizes_are_those_of_the_ciphers()
+    ensures key { KEY_SIZE ≡ 32 }
+    ensures block { BLOCK_SIZE ≡ 16 }
+    ensures mac { MAC_SIZE_V3 ≡ 32 }
+{}
 
 /// What is written of a file that is sealed, or carries its own MAC, is read back, whatever follows it, where the comment
 /// has no LF, and in version 3 no CR at its end.

@@ -1,10 +1,12 @@
 //! How a file of version 3 is sealed.
 
-ghost use Rattle.std.specs.Prelude.{◌≡◌};
+ghost use Rattle.std.specs.Prelude.{◌≡◌, IfOk, IsOk};
 ghost use Rattle.picky_ppk_parts.specs.Config.{default_config};
 ghost use Rattle.picky_ppk_parts.specs.declared.config.PpkEncryptionConfig.{PpkEncryptionConfig as Config};
 
 use crate::names::Argon2Flavour;
+use picky_wire::{NoMemory, TryClone};
+use std::alloc::Global;
 use std::marker::Model;
 
 /// What Argon2 is run with where a file of version 3 is sealed, and how long its salt is.
@@ -44,6 +46,15 @@ impl Default for PpkEncryptionConfig {
             argon2_parallelism: 1,
             argon2_salt_size: 16,
         }
+    }
+}
+
+impl TryClone for PpkEncryptionConfig {
+    fn try_clone(&self, _alloc: Global) -> Result<PpkEncryptionConfig, NoMemory>
+        ensures ok { IfOk result (λ copy. copy ≡ self.now) }
+        ensures always { IsOk result }
+    {
+        Ok(*self)
     }
 }
 
@@ -112,5 +123,14 @@ impl PpkEncryptionConfigBuilder {
         ensures { result ≡ self }
     {
         self.config
+    }
+}
+
+impl TryClone for PpkEncryptionConfigBuilder {
+    fn try_clone(&self, _alloc: Global) -> Result<PpkEncryptionConfigBuilder, NoMemory>
+        ensures ok { IfOk result (λ copy. copy ≡ self.now) }
+        ensures always { IsOk result }
+    {
+        Ok(*self)
     }
 }

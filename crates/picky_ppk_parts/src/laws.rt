@@ -12,10 +12,20 @@ ghost use Rattle.picky_ppk_parts.specs.PartsRefusal.{parts_key};
 ghost use Rattle.picky_ppk_parts.specs.KeyParts.{key_parts};
 ghost use Rattle.picky_ppk_parts.specs.Counted.{counted};
 
+use crate::aes::{BLOCK_SIZE, KEY_SIZE};
 use crate::config::{PpkEncryptionConfig, PpkEncryptionConfigBuilder};
 use crate::error::PuttyError;
 use crate::key_parts::KeyParts;
-use crate::material::Argon2Params;
+use crate::mac::MAC_SIZE_V3;
+use crate::material::{Argon2Params, KeyMaterialV2, KeyMaterialV3};
+
+/// AES-256 has keys of 32 bytes and blocks of 16 (FIPS 197, section 5), and HMAC-SHA-256 gives the 32 bytes of a MAC of
+/// version 3.
+pub fn sizes_are_those_of_the_ciphers()
+    ensures key { KEY_SIZE ≡ 32 }
+    ensures block { BLOCK_SIZE ≡ 16 }
+    ensures mac { MAC_SIZE_V3 ≡ 32 }
+{}
 
 /// What the MAC covers is no front of what the MAC of other fields covers.
 #[tactic(auto, using(crate::proofs::MacLaws::input_has_one_front))]
@@ -53,11 +63,14 @@ pub fn padding_says_nothing()
         → counted parts.algorithm parts.private_bytes ≡ Ok (length parts.private_bytes) }
 {}
 
-/// Two refusals are equal exactly where their contents are, and so are parts, parameters and configurations.
+/// Two refusals are equal exactly where their contents are, and so are parts, parameters, keys of a passphrase and
+/// configurations.
 pub fn equality_is_of_contents()
     ensures error { IsEquality ⟦<PuttyError as PartialEq>⟧.eq }
     ensures parts { IsEquality ⟦<KeyParts as PartialEq>⟧.eq }
     ensures params { IsEquality ⟦<Argon2Params as PartialEq>⟧.eq }
+    ensures material_v2 { IsEquality ⟦<KeyMaterialV2 as PartialEq>⟧.eq }
+    ensures material_v3 { IsEquality ⟦<KeyMaterialV3 as PartialEq>⟧.eq }
     ensures config { IsEquality ⟦<PpkEncryptionConfig as PartialEq>⟧.eq }
     ensures builder { IsEquality ⟦<PpkEncryptionConfigBuilder as PartialEq>⟧.eq }
 {}

@@ -1,6 +1,6 @@
 //! The keys that a passphrase makes.
 
-ghost use Rattle.std.specs.Prelude.{◌≡◌, ℕ, List, length, Ok};
+ghost use Rattle.std.specs.Prelude.{◌≡◌, ℕ, List, length, Ok, IfOk, IsOk};
 ghost use Rattle.picky_suite.specs.Asked.{LeavesSuite};
 ghost use Rattle.picky_wire.specs.Count.{Rose};
 ghost use Rattle.picky_ppk_parts.specs.Asked.{GivesUnlessFault};
@@ -53,7 +53,7 @@ pub fn flavour_of(value: &Argon2FlavourValue) -> Flavour
 }
 
 /// What a passphrase makes in version 2: the cipher's key. Its iv is zeros.
-#[derive(Drop)]
+#[derive(Debug, Drop, PartialEq, Eq)]
 pub struct KeyMaterialV2 {
     key: [u8; 32],
 }
@@ -62,6 +62,8 @@ impl Model for KeyMaterialV2 {
     ghost Value = { List ℕ };
 
     ghost view = { λ material. material.key };
+
+    ghost inverse = { λ key. record { key = key } };
 }
 
 impl KeyMaterialV2 {
@@ -102,6 +104,15 @@ impl KeyMaterialV2 {
     }
 }
 
+impl TryClone for KeyMaterialV2 {
+    fn try_clone(&self, _alloc: Global) -> Result<KeyMaterialV2, NoMemory>
+        ensures ok { IfOk result (λ copy. copy ≡ self.now) }
+        ensures always { IsOk result }
+    {
+        Ok(KeyMaterialV2 { key: self.key })
+    }
+}
+
 /// SHA-1 of a counter and the passphrase.
 fn counted_digest(n: u32, passphrase: &str) -> [u8; 20]
     ensures { result ≡ counted_digest n passphrase.now }
@@ -113,7 +124,7 @@ fn counted_digest(n: u32, passphrase: &str) -> [u8; 20]
 }
 
 /// What a passphrase makes in version 3: the cipher's key and iv, and the MAC's key.
-#[derive(Drop)]
+#[derive(Debug, Drop, PartialEq, Eq)]
 pub struct KeyMaterialV3 {
     key: [u8; 32],
     iv: [u8; 16],
@@ -124,6 +135,8 @@ impl Model for KeyMaterialV3 {
     ghost Value = { Keys };
 
     ghost view = { λ material. record { key = material.key; iv = material.iv; mac_key = material.hmac_key } };
+
+    ghost inverse = { λ keys. record { key = keys.key; iv = keys.iv; hmac_key = keys.mac_key } };
 }
 
 impl KeyMaterialV3 {
@@ -215,5 +228,18 @@ impl KeyMaterialV3 {
         ensures { result.now ≡ self.now.iv }
     {
         &self.iv
+    }
+}
+
+impl TryClone for KeyMaterialV3 {
+    fn try_clone(&self, _alloc: Global) -> Result<KeyMaterialV3, NoMemory>
+        ensures ok { IfOk result (λ copy. copy ≡ self.now) }
+        ensures always { IsOk result }
+    {
+        Ok(KeyMaterialV3 {
+            key: self.key,
+            iv: self.iv,
+            hmac_key: self.hmac_key,
+        })
     }
 }

@@ -11,6 +11,8 @@ mod ppk_files;
 #[cfg(test)]
 mod ppk_key_refusals;
 #[cfg(test)]
+mod ppk_parts;
+#[cfg(test)]
 mod ppk_refusals;
 #[cfg(test)]
 mod ppk_sealed;

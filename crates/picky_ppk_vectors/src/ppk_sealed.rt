@@ -239,7 +239,7 @@ fn draws_a_salt_and_then_a_padding(rt: HostRuntime) -> Result<(), Fail> {
 }
 
 /// The bytes are these in hex.
-fn is_hex(alloc: Global, bytes: &[u8], hex: &str) -> Result<bool, Fail> {
+pub fn is_hex(alloc: Global, bytes: &[u8], hex: &str) -> Result<bool, Fail> {
     let text = kept(hex_of(alloc, bytes))?;
     Ok(text.as_str() == hex)
 }

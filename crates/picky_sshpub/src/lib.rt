@@ -16,5 +16,6 @@ pub use blob::pieces_behind;
 pub use blob_bytes::bytes_of;
 pub use error::SshPublicKeyError;
 pub use key::{SshBasePublicKey, SshPublicKey};
+pub use line::names_key_type;
 pub use source_line::take_line;
 pub use view::{PublicView, ed_key_at, ed_key_of, fields_at, key_at, kind_at};

@@ -123,9 +123,10 @@ fn key_of_words(
     }
 }
 
-/// Whether the word is the name of a key type.
+/// Whether the word is the name of a key type that is read here, as the first word of a line has to be (sshd(8)). Bytes that
+/// aren't UTF-8 are no name.
 #[tactic(auto, using(crate::proofs::LineLemmas::no_text_is_no_name))]
-fn names_key_type(word: &[u8]) -> bool
+pub fn names_key_type(word: &[u8]) -> bool
     ensures { result ≡ is_key_type word.now }
 {
     match str::from_utf8(word) {

@@ -1,11 +1,12 @@
 -- The laws of lines: a text that is written as lines is read as them.
-use Rattle.std.proofs.Common.{◌≡◌, ◌≢◌, ℕ, zero, suc, ◌-◌, ◌==◌, false, List, [], ◌∷◌, ◌++◌, length, slice_index, refl}
-use Rattle.std.proofs.Common.{sym, ◌∙◌, ap, arith}
+use Rattle.std.proofs.Common.{◌≡◌, ◌≢◌, ℕ, zero, suc, ◌-◌, ◌≤◌, ◌==◌, Bool, true, false, List, [], ◌∷◌, ◌++◌, length, take, slice_index, refl}
+use Rattle.std.proofs.Common.{sym, ◌∙◌, ap, arith, subst}
 use Rattle.std.proofs.lemmas.Bool.{eq-eqb, ne_eqb}
-use Rattle.std.proofs.lemmas.List.{append_assoc, append-nil, length_push, get_or_push, take_at}
+use Rattle.std.proofs.lemmas.List.{append_assoc, append-nil, length_push, length-append, length-take, get_or_push, take_at}
 use Rattle.std.proofs.lemmas.List.Elements.{All-from_recursion}
-use Rattle.std.proofs.lemmas.List.Splits.{slice_split_at, length-slice_split}
-use Rattle.std.specs.List.{flat_map, slice_split}
+use Rattle.std.proofs.lemmas.List.Splits.{slice_split_at, length-slice_split, join_with_byte-slice_split}
+use Rattle.std.specs.List.{All, AllByRecursion, flat_map, join_with_byte, slice_split}
+use Rattle.std.specs.Prelude.{if◌then◌else◌}
 use Rattle.std.specs.Str.Lines.{lines_of_parts, strip_carriage_return}
 use Rattle.picky_text.specs.Lines.{HasNo, lines, end_bytes, text_of, IsLine, AreLines, AreReadFirst}
 use Rattle.picky_text.proofs.ListLaws.{all_weaker, all_append}
@@ -86,5 +87,58 @@ pub one_line : (end : LineEnd) (text : List ℕ) → HasNo 13 text × HasNo 10 t
 one_line Lf text none = (none.1, at_no_place 13 text (λ same. cc same) none.0 (length text - 1))
 one_line CrLf text none = none.1
 
+-- ---- how many lines there are, and how long they are
+
+front_or_whole : (b : Bool) (n : ℕ) (line : List ℕ) → length (if b then take n line else line) ≤ length line
+front_or_whole true n line = omega (arith, length-take n line)
+front_or_whole false n line = omega arith
+
+stripped_within : (line : List ℕ) → length (strip_carriage_return line) ≤ length line
+stripped_within line = front_or_whole (slice_index line (length line - 1) == 13) (length line - 1) line
+
+-- the last part is no line where it is empty
+last_count : (part : List ℕ) → length (lines_of_parts (part ∷ [])) ≤ length part
+last_count [] = omega arith
+last_count (b ∷ part) = rw (ne_eqb (length (b ∷ part)) 0 (omega arith)) (omega arith)
+
+last_within : (part : List ℕ)
+    → AllByRecursion (λ line. length line ≤ length part) (lines_of_parts (part ∷ []))
+last_within [] = tt
+last_within (b ∷ part) = rw (ne_eqb (length (b ∷ part)) 0 (omega arith)) (omega arith, tt)
+
+-- the same of parts, and of the text that they make
+parts_count : (parts : List (List ℕ)) → length (lines_of_parts parts) ≤ length (join_with_byte 10 parts)
+parts_count [] = omega arith
+parts_count (part ∷ []) = last_count part
+parts_count (part ∷ next ∷ more) =
+    omega (arith, length-append part (10 ∷ join_with_byte 10 (next ∷ more)), parts_count (next ∷ more))
+
+parts_within : (parts : List (List ℕ))
+    → AllByRecursion (λ line. length line ≤ length (join_with_byte 10 parts)) (lines_of_parts parts)
+parts_within [] = tt
+parts_within (part ∷ []) = last_within part
+parts_within (part ∷ next ∷ more) =
+    let rest = join_with_byte 10 (next ∷ more) in
+    let long = length-append part (10 ∷ rest) in (
+      omega (arith, long, stripped_within part),
+      all_weaker (λ line. length line ≤ length rest) (λ line. length line ≤ length (part ++ 10 ∷ rest))
+          (λ line fits. omega (arith, long, fits)) (lines_of_parts (next ∷ more)) (parts_within (next ∷ more)),
+    )
+
+-- A text has no more lines than bytes.
+pub lines_count : (text : List ℕ) → length (lines text) ≤ length text
+lines_count text =
+    subst (λ t. length (lines text) ≤ length t) (join_with_byte-slice_split 10 text)
+    (parts_count (slice_split (λ b. b == 10) text))
+
+-- None of its lines is longer than it.
+pub each_line_within : (text : List ℕ) → AllByRecursion (λ line. length line ≤ length text) (lines text)
+each_line_within text =
+    subst (λ t. AllByRecursion (λ line. length line ≤ length t) (lines text)) (join_with_byte-slice_split 10 text)
+    (parts_within (slice_split (λ b. b == 10) text))
+
+pub lines_within : (text : List ℕ) → All (λ line. length line ≤ length text) (lines text)
+lines_within text = All-from_recursion (λ line. length line ≤ length text) (lines text) (each_line_within text)
+
 -- what `laws` states of lines
-pub ruleset line_laws = (lines_are_read_first, text_is_its_lines)
+pub ruleset line_laws = (lines_are_read_first, text_is_its_lines, lines_count, lines_within)

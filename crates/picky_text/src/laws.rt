@@ -1,7 +1,7 @@
 //! The laws of the rules of text, each as the contract of a function that does nothing.
 
-ghost use Rattle.std.specs.Prelude.{◌≡◌, ◌≢◌, ◌↔◌, ℕ, Bool, false, IsTrue, Option, List, ◌++◌};
-ghost use Rattle.std.specs.List.{AllByRecursion};
+ghost use Rattle.std.specs.Prelude.{◌≡◌, ◌≢◌, ◌≤◌, ◌↔◌, ℕ, Bool, false, IsTrue, Option, List, ◌++◌, length};
+ghost use Rattle.std.specs.List.{All, AllByRecursion};
 ghost use Rattle.std.specs.Str.{IsAscii, IsUtf8, trim_end};
 ghost use Rattle.base64.specs.GeneralPurpose.{IsBytes};
 ghost use Rattle.picky_text.specs.Base64.{base64_of, decoded};
@@ -87,6 +87,13 @@ pub fn text_has_its_rows_alone()
 pub fn lines_are_read_back()
     ensures alone { (e : End) (ls : List (List ℕ)) → AreLines e ls → lines (text_of e ls) ≡ ls }
     ensures first { (e : End) (ls : List (List ℕ)) → AreLines e ls → AreReadFirst e ls }
+{}
+
+/// A text has no more lines than bytes, and none of its lines is longer than the text.
+#[tactic(auto, using(crate::proofs::LineLaws::line_laws))]
+pub fn lines_are_within_their_text()
+    ensures count { (text : List ℕ) → length (lines text) ≤ length text }
+    ensures each { (text : List ℕ) → All (λ line. length line ≤ length text) (lines text) }
 {}
 
 /// What was quoted is read back, and quoting adds backslashes alone: so no LF and no CR.

@@ -1,6 +1,6 @@
 //! Private keys converted by a run: between OpenSSH's and PuTTY's forms, and refused.
 
-use crate::runs::{End, ends, run_on, written_text};
+use crate::runs::{ROOM, Refusal, refuses, run_on, writes, written_text};
 use picky_key_rows::{
     ENDS_IN_CR, PPK_ROWS, PRIVATE_ROWS, PpkRow, PrivateRow, SECRET_ROWS, SecretRow, V2, VERSIONS,
     ZERO_KEY, ZERO_TEXT, secret_text_of, text_of,
@@ -13,36 +13,11 @@ use std::alloc::Global;
 use std::mem::{ManuallyDrop, replace};
 use std::test::Fail;
 
-/// How many bytes a text here has at most.
-pub const ROOM: usize = 9999;
-
 fn word_of(version: PpkVersion) -> &'static str {
     match version {
         PpkVersion::V2 => "ppk2",
         PpkVersion::V3 => "ppk3",
     }
-}
-
-/// The command writes the text for the input.
-pub fn writes(alloc: Global, command: &str, input: &str, text: &str) -> Result<bool, Fail> {
-    let mut source = SliceSource::new(input.as_bytes());
-    let end = End {
-        code: 0,
-        out: text.as_bytes(),
-        err: "",
-    };
-    ends(alloc, command, &mut source, (ROOM, 999), end)
-}
-
-/// The command refuses the input so.
-pub fn refuses(alloc: Global, command: &str, input: &str, line: &str) -> Result<bool, Fail> {
-    let mut source = SliceSource::new(input.as_bytes());
-    let end = End {
-        code: 1,
-        out: b"",
-        err: line,
-    };
-    ends(alloc, command, &mut source, (ROOM, 999), end)
 }
 
 /// What the command writes for the input.
@@ -174,53 +149,71 @@ fn converts_a_secret_as_a_number(rt: HostRuntime) -> Result<(), Fail> {
     Ok(())
 }
 
-fn writes_without_line_ends(alloc: Global) -> Result<bool, Fail> {
-    let text = ManuallyDrop::new(ZERO_KEY.replace(alloc, "\n", "")?);
-    writes(alloc, "openssh", text.as_str(), ZERO_KEY)
+// A command, a text, what is replaced in it, and what is written.
+static SPELLINGS: [(&str, &str, [&str; 2], &str); 6] = [
+    ("openssh", ZERO_KEY, ["", ""], ZERO_KEY),
+    ("ppk3", ZERO_KEY, ["", ""], ZERO_TEXT),
+    ("openssh", ZERO_TEXT, ["", ""], ZERO_KEY),
+    ("openssh", ZERO_KEY, ["\n", ""], ZERO_KEY),
+    (
+        "openssh",
+        ZERO_TEXT,
+        ["Public-Lines: 2", "Public-Lines: +02"],
+        ZERO_KEY,
+    ),
+    ("ppk2", ENDS_IN_CR, ["", ""], ENDS_IN_CR),
+];
+
+/// The text with this in place of that, if there is one.
+fn changed(alloc: Global, text: &str, change: [&str; 2]) -> Result<String, Fail> {
+    let [old, new] = change;
+    if old.is_empty() {
+        return Ok(String::from_str(alloc, text)?);
+    }
+    Ok(text.replace(alloc, old, new)?)
 }
 
-fn writes_with_plus(alloc: Global) -> Result<bool, Fail> {
-    let text = ManuallyDrop::new(ZERO_TEXT.replace(alloc, "Public-Lines: 2", "Public-Lines: +02")?);
-    writes(alloc, "openssh", text.as_str(), ZERO_KEY)
+fn writes_changed(alloc: Global, row: &(&str, &str, [&str; 2], &str)) -> Result<bool, Fail> {
+    let (command, text, change, wanted) = row;
+    let input = ManuallyDrop::new(changed(alloc, text, *change)?);
+    writes(alloc, command, input.as_str(), wanted)
 }
 
 #[test]
 fn writes_the_one_spelling(rt: HostRuntime) -> Result<(), Fail> {
-    assert!(rt; writes(rt.alloc(), "openssh", ZERO_KEY, ZERO_KEY)?);
-    assert!(rt; writes(rt.alloc(), "ppk3", ZERO_KEY, ZERO_TEXT)?);
-    assert!(rt; writes(rt.alloc(), "openssh", ZERO_TEXT, ZERO_KEY)?);
-    assert!(rt; writes_without_line_ends(rt.alloc())?);
-    assert!(rt; writes_with_plus(rt.alloc())?);
-    assert!(rt; writes(rt.alloc(), "ppk2", ENDS_IN_CR, ENDS_IN_CR)?);
+    for row in &SPELLINGS {
+        let (command, _, [_, new], _) = row;
+        assert!(rt; writes_changed(rt.alloc(), row)?, "{command}, {new}");
+    }
     Ok(())
 }
 
 // A command, a text, what is replaced in it, and the refusal. AQAA at the end of ZERO_KEY's second row makes the last byte of
 // the public key 1, and AAEA in front of its fifth row the first byte of the copy behind the secret.
-static REFUSALS: [(&str, &str, [&str; 2], &str); 12] = [
+static REFUSALS: [(&str, &str, [&str; 2], Refusal); 12] = [
     (
         "openssh",
         ZERO_KEY,
         ["AAAAAAAAABAAAAMwAAAAtz", "AAAAAAAAACAAAAMwAAAAtz"],
-        "keyconv: refused: input.private.InvalidKeysAmount\n",
+        (1, "keyconv: refused: input.private.InvalidKeysAmount\n"),
     ),
     (
         "openssh",
         ZERO_KEY,
         ["\nAJAAAA", "\nAJABAA"],
-        "keyconv: refused: input.private.InvalidCheckNumbers\n",
+        (1, "keyconv: refused: input.private.InvalidCheckNumbers\n"),
     ),
     (
         "openssh",
         ZERO_KEY,
         ["\n-----END OPENSSH PRIVATE KEY-----", ""],
-        "keyconv: refused: input.private.PemError\n",
+        (1, "keyconv: refused: input.private.PemError\n"),
     ),
     (
         "openssh",
         ZERO_KEY,
         ["AAAA\nAJAA", "AQAA\nAJAA"],
-        "keyconv: refused: input.private.PublicKeyMismatch\n",
+        (1, "keyconv: refused: input.private.PublicKeyMismatch\n"),
     ),
     (
         "openssh",
@@ -229,68 +222,66 @@ static REFUSALS: [(&str, &str, [&str; 2], &str); 12] = [
             "\nAAAAAAAAAAAAAAAAAAAAAAAAAAAAAAAAAAAAAAAAAAAAAAAABWhl",
             "\nAAEAAAAAAAAAAAAAAAAAAAAAAAAAAAAAAAAAAAAAAAAAAAAABWhl",
         ],
-        "keyconv: refused: input.private.InvalidKeyFormat\n",
+        (1, "keyconv: refused: input.private.InvalidKeyFormat\n"),
     ),
     (
         "openssh",
         ZERO_TEXT,
         ["Public-Lines: 2", "Public-Lines: 65536"],
-        "keyconv: refused: input.putty.InvalidInput\n",
+        (1, "keyconv: refused: input.putty.InvalidInput\n"),
     ),
     (
         "openssh",
         ZERO_TEXT,
         ["Public-Lines: 2", "Public-Lines: 65535"],
-        "keyconv: refused: input.putty.EndOfInput\n",
+        (1, "keyconv: refused: input.putty.EndOfInput\n"),
     ),
     (
         "ssh-pub",
         ZERO_TEXT,
         ["AAAAAA==", "AAAAAQA="],
-        "keyconv: refused: input.putty.MacValidation\n",
+        (1, "keyconv: refused: input.putty.MacValidation\n"),
     ),
     (
         "putty-pub",
         ZERO_TEXT,
         ["File-3", "File-1"],
-        "keyconv: refused: input.putty.InvalidInput\n",
+        (1, "keyconv: refused: input.putty.InvalidInput\n"),
     ),
     (
         "ppk3",
         ENDS_IN_CR,
         ["", ""],
-        "keyconv: refused: CommentNotCarried\n",
+        (1, "keyconv: refused: CommentNotCarried\n"),
     ),
     (
         "openssh",
         ENDS_IN_CR,
         ["", ""],
-        "keyconv: refused: CommentNotCarried\n",
+        (1, "keyconv: refused: CommentNotCarried\n"),
     ),
     (
         "ppk3",
         "ssh-ed25519 AAAAC3NzaC1lZDI1NTE5AAAAIAAAAAAAAAAAAAAAAAAAAAAAAAAAAAAAAAAAAAAAAAAA k\n",
         ["", ""],
-        "keyconv: refused: NoPrivateKey\n",
+        (1, "keyconv: refused: NoPrivateKey\n"),
     ),
 ];
 
-fn refuses_changed(alloc: Global, row: &(&str, &str, [&str; 2], &str)) -> Result<bool, Fail> {
-    let (command, text, [old, new], line) = row;
-    if old.is_empty() {
-        return refuses(alloc, command, text, line);
-    }
-    let changed = ManuallyDrop::new(text.replace(alloc, old, new)?);
-    refuses(alloc, command, changed.as_str(), line)
+fn refuses_changed(alloc: Global, row: &(&str, &str, [&str; 2], Refusal)) -> Result<bool, Fail> {
+    let (command, text, change, refusal) = row;
+    let input = ManuallyDrop::new(changed(alloc, text, *change)?);
+    refuses(alloc, command, input.as_str().as_bytes(), *refusal)
 }
 
 #[test]
 fn refuses_by_the_first_reason(rt: HostRuntime) -> Result<(), Fail> {
     for row in &REFUSALS {
-        let (command, _, [_, new], line) = row;
+        let (command, _, [_, new], refusal) = row;
         assert!(rt;
             refuses_changed(rt.alloc(), row)?,
-            "{command}, {new}: {line}"
+            "{command}, {new}: {}",
+            refusal.1
         );
     }
     Ok(())
@@ -316,8 +307,8 @@ fn is_held_by_envelope(alloc: Global, comment: &str) -> Result<bool, Fail> {
 
 fn is_not_carried(alloc: Global, command: &str, comment: &str) -> Result<bool, Fail> {
     let text = ManuallyDrop::new(envelope_with(alloc, [0; 32], comment)?);
-    let line = "keyconv: refused: CommentNotCarried\n";
-    refuses(alloc, command, text.as_str(), line)
+    let refusal = (1, "keyconv: refused: CommentNotCarried\n");
+    refuses(alloc, command, text.as_str().as_bytes(), refusal)
 }
 
 #[test]
@@ -337,13 +328,10 @@ fn makes_no_lines_of_a_comment(rt: HostRuntime) -> Result<(), Fail> {
 /// Of a key whose secret a device keeps.
 fn has_no_file(alloc: Global, key: &PrivateRow) -> Result<bool, Fail> {
     let own = ManuallyDrop::new(written(alloc, "openssh", key.text)?);
+    let refusal = (1, "keyconv: refused: output.putty.NotSupported\n");
     Ok(
-        refuses(
-            alloc,
-            "ppk3",
-            key.text,
-            "keyconv: refused: output.putty.NotSupported\n",
-        )? && writes(alloc, "openssh", key.text, own.as_str())?,
+        refuses(alloc, "ppk3", key.text.as_bytes(), refusal)?
+            && writes(alloc, "openssh", key.text, own.as_str())?,
     )
 }
 

@@ -1,6 +1,6 @@
 //! Files of ssh-keygen and PuTTYgen: the line and the fingerprints that both programs print, written for each form of a key.
 
-use crate::private_conversions::writes;
+use crate::runs::writes;
 use picky_key_rows::{
     KEY_ROWS, KeyRow, PPK_ROWS, PRIVATE_ROWS, PUBLIC, PpkRow, PrivateRow, V2, VERSIONS, text_of,
 };

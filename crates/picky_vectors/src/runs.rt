@@ -7,6 +7,9 @@ use std::alloc::Global;
 use std::mem::ManuallyDrop;
 use std::test::Fail;
 
+/// How many bytes a text here has at most.
+pub const ROOM: usize = 9999;
+
 /// The words that name a command.
 pub const COMMANDS: [&str; 3] = ["ssh-pub", "putty-pub", "fingerprint"];
 
@@ -122,13 +125,30 @@ pub fn writes(alloc: Global, command: &str, input: &str, text: &str) -> Result<b
         out: text.as_bytes(),
         err: "",
     };
-    ends(alloc, command, &mut source, (999, 999), end)
+    ends(alloc, command, &mut source, (ROOM, 999), end)
 }
 
 /// An exit code, and the line on `err`.
 pub type Refusal = (u8, &'static str);
 
-/// The command refuses the input so, and alike where `err` takes nothing.
+/// The command over the input, where `out` has so much room, ends so, and alike but for its line where `err` takes nothing.
+pub fn ends_alike(
+    alloc: Global,
+    command: &str,
+    input: &[u8],
+    room: usize,
+    end: End<'_>,
+) -> Result<bool, Fail> {
+    let unsaid = End { err: "", ..end };
+    let mut source = SliceSource::new(input);
+    let mut again = SliceSource::new(input);
+    Ok(
+        ends(alloc, command, &mut source, (room, 999), end)?
+            && ends(alloc, command, &mut again, (room, 0), unsaid)?,
+    )
+}
+
+/// The command refuses the input so.
 pub fn refuses(alloc: Global, command: &str, input: &[u8], refusal: Refusal) -> Result<bool, Fail> {
     let (code, err) = refusal;
     let end = End {
@@ -136,13 +156,7 @@ pub fn refuses(alloc: Global, command: &str, input: &[u8], refusal: Refusal) -> 
         out: b"",
         err,
     };
-    let unsaid = End { err: "", ..end };
-    let mut source = SliceSource::new(input);
-    let mut again = SliceSource::new(input);
-    Ok(
-        ends(alloc, command, &mut source, (999, 999), end)?
-            && ends(alloc, command, &mut again, (999, 0), unsaid)?,
-    )
+    ends_alike(alloc, command, input, ROOM, end)
 }
 
 /// What the call answers for the line.

@@ -1,7 +1,7 @@
 //! Private keys that a run seals and opens, by the suite for tests and by one that fails.
 
-use crate::private_conversions::{ROOM, secret_envelope};
-use crate::runs::{End, Given, NOTHING, Ran, ended, run_given, written_text};
+use crate::private_conversions::secret_envelope;
+use crate::runs::{End, Given, NOTHING, ROOM, Ran, ended, run_given, written_text};
 use picky_key_rows::{HIGH, PASS, TOY_V3, ZERO_KEY, ZERO_TEXT};
 use picky_suite::{MemorySuite, PlainSuite};
 use picky_wire::SliceSource;
@@ -11,6 +11,23 @@ use std::test::Fail;
 
 // 16 bytes of salt and 12 of padding: the key's private bytes are 4.
 const FRESH: &[u8] = &[7; 28];
+
+const SEAL: Given<'static> = Given {
+    pass_in: None,
+    pass_out: Some("p"),
+    fresh: FRESH,
+};
+
+const OPEN: Given<'static> = Given {
+    pass_in: Some("p"),
+    ..NOTHING
+};
+
+const DONE: (u8, &str) = (0, "");
+
+const TOO_SHORT: (u8, &str) = (1, "keyconv: refused: FreshTooShort\n");
+
+const FAULT: (u8, &str) = (5, "keyconv: outside fault\n");
 
 /// A run of the command over the suite for tests, whose calls of these numbers fail.
 fn run_over(
@@ -56,70 +73,55 @@ fn sealed(alloc: Global, command: &str, input: &str, fresh: &[u8]) -> Result<Str
     written_text(alloc, &run_over(alloc, command, input, given, &[])?)
 }
 
+// The calls of the suite that fail, and how a sealed text ends under its passphrase.
+static OPENINGS: [(&[u64], (u8, &str)); 3] = [(&[], DONE), (&[0], FAULT), (&[1], FAULT)];
+
 /// The sealed text opens under its passphrase alone, and the suite's fault stands in its place.
 fn opens(alloc: Global, text: &str, locked: &str) -> Result<bool, Fail> {
-    let given = Given {
-        pass_in: Some("p"),
-        ..NOTHING
-    };
-    Ok(
-        ends_over(alloc, "openssh", text, given, &[], (0, ""))?
-            && ends_over(alloc, "openssh", text, NOTHING, &[], (1, locked))?
-            && ends_over(
-                alloc,
-                "openssh",
-                text,
-                given,
-                &[0],
-                (5, "keyconv: outside fault\n"),
-            )?
-            && ends_over(
-                alloc,
-                "openssh",
-                text,
-                given,
-                &[1],
-                (5, "keyconv: outside fault\n"),
-            )?,
-    )
+    for (failing, end) in &OPENINGS {
+        if !ends_over(alloc, "openssh", text, OPEN, failing, *end)? {
+            return Ok(false);
+        }
+    }
+    ends_over(alloc, "openssh", text, NOTHING, &[], (1, locked))
 }
 
-fn opens_file(alloc: Global) -> Result<bool, Fail> {
-    let text = ManuallyDrop::new(sealed(alloc, "ppk3", ZERO_KEY, FRESH)?);
-    opens(
-        alloc,
-        text.as_str(),
-        "keyconv: refused: input.putty.Encrypted\n",
-    )
-}
-
-fn opens_envelope(alloc: Global) -> Result<bool, Fail> {
-    let text = ManuallyDrop::new(sealed(alloc, "openssh", ZERO_KEY, FRESH)?);
-    opens(
-        alloc,
-        text.as_str(),
+// A command that seals, and why what it sealed doesn't open without a passphrase.
+static LOCKED: [(&str, &str); 2] = [
+    ("ppk3", "keyconv: refused: input.putty.Encrypted\n"),
+    (
+        "openssh",
         "keyconv: refused: input.private.MissingPassphrase\n",
-    )
+    ),
+];
+
+/// What the command seals opens.
+fn seals(alloc: Global, command: &str, locked: &str) -> Result<bool, Fail> {
+    let text = ManuallyDrop::new(sealed(alloc, command, ZERO_KEY, FRESH)?);
+    opens(alloc, text.as_str(), locked)
 }
 
 #[test]
 fn seals_and_opens(rt: HostRuntime) -> Result<(), Fail> {
-    assert!(rt; opens_file(rt.alloc())?);
-    assert!(rt; opens_envelope(rt.alloc())?);
+    for (command, locked) in &LOCKED {
+        assert!(rt; seals(rt.alloc(), command, locked)?, "{command}");
+    }
     Ok(())
 }
 
-// A command, the passphrase that it seals under, how many fresh bytes there are, the calls that fail, and how it ends.
-static SEALINGS: [(&str, &str, usize, &[u64], (u8, &str)); 10] = [
-    ("ppk3", "p", 28, &[], (0, "")),
-    (
-        "ppk3",
-        "p",
-        27,
-        &[],
-        (1, "keyconv: refused: FreshTooShort\n"),
-    ),
-    ("ppk2", "p", 12, &[], (0, "")),
+/// A command, the passphrase that it seals under, how many fresh bytes there are, the calls that fail, and how it ends.
+type Sealing = (
+    &'static str,
+    &'static str,
+    usize,
+    &'static [u64],
+    (u8, &'static str),
+);
+
+static SEALINGS: [Sealing; 10] = [
+    ("ppk3", "p", 28, &[], DONE),
+    ("ppk3", "p", 27, &[], TOO_SHORT),
+    ("ppk2", "p", 12, &[], DONE),
     (
         "openssh",
         "",
@@ -127,78 +129,45 @@ static SEALINGS: [(&str, &str, usize, &[u64], (u8, &str)); 10] = [
         &[],
         (1, "keyconv: refused: output.private.HashingError\n"),
     ),
-    (
-        "openssh",
-        "p",
-        15,
-        &[],
-        (1, "keyconv: refused: FreshTooShort\n"),
-    ),
-    ("ppk3", "p", 28, &[0], (5, "keyconv: outside fault\n")),
-    ("ppk3", "p", 28, &[1], (5, "keyconv: outside fault\n")),
-    ("openssh", "p", 16, &[0], (5, "keyconv: outside fault\n")),
-    ("openssh", "p", 16, &[1], (5, "keyconv: outside fault\n")),
-    ("ppk3", "p", 28, &[2, 3, 4, 5, 6, 7, 8, 9], (0, "")),
+    ("openssh", "p", 15, &[], TOO_SHORT),
+    ("ppk3", "p", 28, &[0], FAULT),
+    ("ppk3", "p", 28, &[1], FAULT),
+    ("openssh", "p", 16, &[0], FAULT),
+    ("openssh", "p", 16, &[1], FAULT),
+    ("ppk3", "p", 28, &[2, 3, 4, 5, 6, 7, 8, 9], DONE),
 ];
+
+// Of a secret whose private bytes are 37, a length and 33 bytes of a number: 11 are padding.
+static SECRET_SEALINGS: [Sealing; 5] = [
+    ("ppk3", "p", 27, &[], DONE),
+    ("ppk3", "p", 26, &[], TOO_SHORT),
+    ("ppk3", "p", 27, &[0], FAULT),
+    ("ppk3", "p", 27, &[1], FAULT),
+    ("ppk3", "p", 27, &[2, 3, 4, 5, 6, 7, 8, 9], DONE),
+];
+
+/// The row's command over the text ends so.
+fn seals_so(alloc: Global, input: &str, row: &Sealing) -> Result<bool, Fail> {
+    let (command, pass, len, failing, end) = row;
+    let (fresh, _) = FRESH.split_at((*len).min(FRESH.len()));
+    let given = Given {
+        pass_in: None,
+        pass_out: Some(pass),
+        fresh,
+    };
+    ends_over(alloc, command, input, given, failing, *end)
+}
 
 #[test]
 fn seals_with_fresh_bytes(rt: HostRuntime) -> Result<(), Fail> {
-    for (command, pass, len, failing, end) in &SEALINGS {
-        let given = Given {
-            pass_in: None,
-            pass_out: Some(pass),
-            fresh: &FRESH[..*len],
-        };
+    for row in &SEALINGS {
+        let (command, _, len, failing, _) = row;
         assert!(rt;
-            ends_over(rt.alloc(), command, ZERO_KEY, given, failing, *end)?,
-            "{command}, {len}"
+            seals_so(rt.alloc(), ZERO_KEY, row)?,
+            "{command}, {len}, {failing:?}"
         );
     }
     Ok(())
-}
-
-const SEAL: Given<'static> = Given {
-    pass_in: None,
-    pass_out: Some("p"),
-    fresh: FRESH,
-};
-
-const OPEN: Given<'static> = Given {
-    pass_in: Some("p"),
-    ..NOTHING
-};
-
-// The private bytes of the secret are 37: a length, and 33 bytes of a number. 11 are padding.
-fn takes_27_fresh_bytes(alloc: Global, envelope: &str) -> Result<bool, Fail> {
-    let enough = Given {
-        fresh: &FRESH[..27],
-        ..SEAL
-    };
-    let short = Given {
-        fresh: &FRESH[..26],
-        ..SEAL
-    };
-    let refusal = (1, "keyconv: refused: FreshTooShort\n");
-    Ok(
-        ends_over(alloc, "ppk3", envelope, enough, &[], (0, ""))?
-            && ends_over(alloc, "ppk3", envelope, short, &[], refusal)?,
-    )
-}
-
-/// The suite is asked twice to seal it, and fails where it has no ciphers.
-fn asks_twice(alloc: Global, envelope: &str) -> Result<bool, Fail> {
-    let enough = Given {
-        fresh: &FRESH[..27],
-        ..SEAL
-    };
-    let fault = (5, "keyconv: outside fault\n");
-    let later = &[2, 3, 4, 5, 6, 7, 8, 9];
-    Ok(
-        ends_over(alloc, "ppk3", envelope, enough, &[0], fault)?
-            && ends_over(alloc, "ppk3", envelope, enough, &[1], fault)?
-            && ends_over(alloc, "ppk3", envelope, enough, later, (0, ""))?
-            && fails_over_none(alloc, "ppk3", envelope, enough)?,
-    )
 }
 
 /// The sealed text opens as the envelope, under the passphrase alone.
@@ -215,14 +184,19 @@ fn comes_back(alloc: Global, envelope: &str) -> Result<bool, Fail> {
     opens_as(alloc, text.as_str(), envelope)
 }
 
+/// The rows hold of the text, it comes back, and a suite without ciphers fails.
+fn is_sealed(alloc: Global, envelope: &str) -> Result<bool, Fail> {
+    for row in &SECRET_SEALINGS {
+        if !seals_so(alloc, envelope, row)? {
+            return Ok(false);
+        }
+    }
+    Ok(comes_back(alloc, envelope)? && fails_over_none(alloc, "ppk3", envelope, SEAL)?)
+}
+
 fn is_secret_sealed(alloc: Global, secret: [u8; 32]) -> Result<bool, Fail> {
     let envelope = ManuallyDrop::new(secret_envelope(alloc, secret)?);
-    let envelope = envelope.as_str();
-    Ok(
-        takes_27_fresh_bytes(alloc, envelope)?
-            && asks_twice(alloc, envelope)?
-            && comes_back(alloc, envelope)?,
-    )
+    is_sealed(alloc, envelope.as_str())
 }
 
 #[test]

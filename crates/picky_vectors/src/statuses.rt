@@ -1,6 +1,6 @@
 //! How a run ends: its status, its line on standard error, and what devices that fail make of both.
 
-use crate::runs::{End, ended, ends, run_on};
+use crate::runs::{End, ended, ends, ends_alike, run_on};
 use picky_cert_builder::SshCertificateGenerationError;
 use picky_cert_parts::SshCertificateError;
 use picky_convert::{ConvertError, ReadError, Status, word};
@@ -187,26 +187,9 @@ fn first_line_within(alloc: Global, len: usize) -> Result<Vec<u8>, Fail> {
     Ok(ManuallyDrop::into_inner(input))
 }
 
-/// The command over the text, where `out` has so much room, ends so, and alike but for its line where `err` takes nothing.
-fn ends_within(
-    alloc: Global,
-    command: &str,
-    input: &[u8],
-    room: usize,
-    end: End<'_>,
-) -> Result<bool, Fail> {
-    let unsaid = End { err: "", ..end };
-    let mut source = SliceSource::new(input);
-    let mut again = SliceSource::new(input);
-    Ok(
-        ends(alloc, command, &mut source, (room, 400), end)?
-            && ends(alloc, command, &mut again, (room, 0), unsaid)?,
-    )
-}
-
 fn ends_over(alloc: Global, command: &str, len: usize, end: End<'_>) -> Result<bool, Fail> {
     let input = ManuallyDrop::new(first_line_within(alloc, len)?);
-    ends_within(alloc, command, input.as_slice(), 400, end)
+    ends_alike(alloc, command, input.as_slice(), 400, end)
 }
 
 #[test]
@@ -283,7 +266,7 @@ fn says_that_out_failed(rt: HostRuntime) -> Result<(), Fail> {
                 err: "keyconv: write fault\n",
             };
             assert!(rt;
-                ends_within(rt.alloc(), *command, FIRST_LINE.as_bytes(), room, end)?,
+                ends_alike(rt.alloc(), *command, FIRST_LINE.as_bytes(), room, end)?,
                 "{command}: room {room}"
             );
         }

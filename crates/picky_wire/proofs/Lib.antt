@@ -3,6 +3,7 @@ pub mod ReadLemmas
 pub mod ByteArrayLemmas
 pub mod CauseLemmas
 mod UnreadLemmas
+mod LengthFirstLemmas
 pub mod TextLemmas
 pub mod StopLemmas
 mod MpintLemmas
@@ -12,3 +13,4 @@ pub mod ThenLemmas
 pub mod ListLemmas
 mod FieldLemmas
 pub mod ReadingLaws
+pub mod EqualityLaws

@@ -73,3 +73,13 @@ pub piece_taken : (n : ℕ) (taken before now v after : List ℕ) → before ≡
     → (byte_array n).read now ≡ Ok (v, after) → before ≡ (taken ++ v) ++ after
 piece_taken n taken before now v after same read =
     same ∙ ap (λ r. taken ++ r) (byte_array-front n now v after read) ∙ sym (append_assoc taken v after)
+
+-- a vector whose tail was filled holds what it had, and what was filled in
+pub tail_filled : (n at : ℕ) (old zeros xs ys tail rest : List ℕ) → xs ≡ old ++ zeros → length old ≡ at
+    → at + length ys ≡ n → take n (take at xs ++ (ys ++ tail) ++ rest) ≡ old ++ ys
+tail_filled n at old zeros xs ys tail rest is len all =
+    let front : take at xs ≡ old = ap (take at) is ∙ take_at old zeros at len in
+    ap (λ f. take n (f ++ (ys ++ tail) ++ rest)) front
+    ∙ ap (λ f. take n (f ++ rest)) (sym (append_assoc old ys tail))
+    ∙ ap (take n) (append_assoc (old ++ ys) tail rest)
+    ∙ take_at (old ++ ys) (tail ++ rest) n (omega (arith, length-append old ys, len, all))

@@ -7,6 +7,7 @@ pub mod Takes
 pub mod Puts
 pub mod Unread
 pub mod Flaws
+pub mod LengthFirst
 pub mod Moment
 pub mod Principals
 pub mod View

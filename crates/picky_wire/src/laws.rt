@@ -1,6 +1,8 @@
 //! The laws of the wire's layouts, each as the contract of a function that does nothing.
 
-ghost use Rattle.std.specs.Prelude.{◌≡◌, ◌≢◌, ◌^◌, ◌-◌, ◌<◌, ◌≤◌, ◌++◌, ◌∷◌, ◌↔◌, ◌⊎◌, ℕ, List, All, None, Ok, Err, length, take, drop, slice_index, IsUtf8};
+ghost use Rattle.std.specs.Prelude.{◌≡◌, ◌≢◌, ◌^◌, ◌-◌, ◌<◌, ◌≤◌, ◌++◌, ◌∷◌, ◌↔◌, ◌⊎◌, ℕ, List, All, None, Ok, Err, length, take, drop, slice_index, IsTrue, IsUtf8};
+ghost use Rattle.std.specs.Cmp.Lexicographic.{slice_cmp};
+ghost use Rattle.std.specs.Ordering.{nat_cmp};
 ghost use Rattle.std.specs.Int.{w8, w32, w64, from_be_bytes, to_be_bytes};
 ghost use Rattle.std.specs.List.{flat_map};
 ghost use Rattle.picky_layout.specs.Flaw.{Flaw, Short, NotUtf8, Big, Flawed, Length, Magic, Name, Number, Reason};
@@ -17,7 +19,7 @@ ghost use Rattle.picky_layout.specs.Zeros.{without_zeros};
 ghost use Rattle.picky_layout.specs.Magnitude.{IsMagnitude};
 ghost use Rattle.picky_layout.specs.Mpint.{IsMpintPiece, mpint, mpint_of};
 ghost use Rattle.picky_layout.specs.When.{IsShortWhere, HoldsString, HasOneFront, followed_by};
-ghost use Rattle.picky_wire.specs.Equality.{IsEquality, IsEqualityOf};
+ghost use Rattle.picky_wire.specs.Equality.{HasEqualItems, IsEquality, IsEqualityOf, IsOrder};
 ghost use Rattle.picky_wire.specs.View.{part_shown, word_shown, stuck_shown};
 ghost use Rattle.picky_wire.specs.Reading.{IsReading, IsStuck};
 ghost use Rattle.picky_layout.specs.Inside.{SubPiece, sub};
@@ -28,6 +30,7 @@ ghost use Rattle.picky_wire.specs.Flaws.{wire_error};
 use crate::bytes::{Bytes, Text};
 use crate::element::{SshElement, SshLayout};
 use crate::error::{IoKind, SizeError, WireError};
+use crate::list::List as Values;
 use crate::mpint::Mpint;
 use crate::source::Source;
 use crate::stop::Stop;
@@ -304,8 +307,8 @@ pub fn no_piece_is_a_front_of_another<T: SshLayout>()
     ensures inside { HasOneFront (SubPiece T.layout.piece) }
 {}
 
-/// Two values are equal exactly where their contents are, and so are two refusals. Of lists it holds where it
-/// does of their items.
+/// Two values are equal exactly where their contents are, and so are two refusals. Lists have a law of their
+/// own below.
 pub fn equality_is_of_contents()
     ensures bytes { IsEquality ⟦<Bytes as PartialEq>⟧.eq }
     ensures text { IsEquality ⟦<Text as PartialEq>⟧.eq }
@@ -318,4 +321,22 @@ pub fn equality_is_of_contents()
     ensures part { IsEqualityOf part_shown ⟦<Part<'static> as PartialEq>⟧.eq }
     ensures word { IsEqualityOf word_shown ⟦<Word<'static> as PartialEq>⟧.eq }
     ensures stuck { IsEqualityOf stuck_shown ⟦<Stuck<'static> as PartialEq>⟧.eq }
+{}
+
+/// Two lists are equal exactly where they are as long and at each place their items are equal. So where the
+/// items' equality is of contents, the lists' is.
+#[tactic(auto, using(crate::proofs::EqualityLaws::equality_laws))]
+pub fn lists_are_equal_by_items<T: PartialEq>()
+    ensures items { (a b : List T)
+        → IsTrue (⟦<Values<T> as PartialEq>⟧.eq a b) ↔ HasEqualItems T.eq a b }
+    ensures contents { IsEquality T.eq → IsEquality ⟦<Values<T> as PartialEq>⟧.eq }
+{}
+
+/// Two moments are ordered by their seconds. Two byte strings, and two texts, are by their bytes: the first two
+/// that differ decide, and where one is a front of the other, it is the smaller.
+pub fn order_is_of_contents()
+    ensures moment { IsOrder (λ (a b : Timestamp). nat_cmp a.0 b.0) ⟦<Timestamp as PartialOrd>⟧.partial_cmp
+        ⟦<Timestamp as Ord>⟧.cmp }
+    ensures bytes { IsOrder (slice_cmp nat_cmp) ⟦<Bytes as PartialOrd>⟧.partial_cmp ⟦<Bytes as Ord>⟧.cmp }
+    ensures text { IsOrder (slice_cmp nat_cmp) ⟦<Text as PartialOrd>⟧.partial_cmp ⟦<Text as Ord>⟧.cmp }
 {}

@@ -33,7 +33,7 @@ pub use list_codec::{decode_items, decode_list, encode_list};
 pub use mpint::Mpint;
 pub use piece::{Piece, pieces_len, push_pieces, write_piece, write_pieces};
 pub use principals::{decode_principals, encode_principals};
-pub use read::{SshReadExt, read_byte, read_uint32, read_uint64};
+pub use read::{SshReadExt, fill, read_byte, read_chunks, read_uint32, read_uint64};
 pub use sink::{MemorySink, Sink};
 pub use source::{MemorySource, SliceSource, Source};
 pub use std_io::{StdSink, StdSource};

@@ -1,6 +1,6 @@
 //! The fields of the wire, read from a source.
 
-ghost use Rattle.std.specs.Prelude.{◌≡◌, ◌⊎◌, ◌^◌, ◌<◌, ◌≤◌, ◌+◌, ◌++◌, length, max, Err, IfSome, IfOk, IfErr, OnOk, OnErr, MatchOption, true, false, vec_len, vec_capacity};
+ghost use Rattle.std.specs.Prelude.{◌≡◌, ◌⊎◌, ◌^◌, ◌<◌, ◌≤◌, ◌+◌, ◌++◌, length, max, replicate, Err, IfSome, IfOk, IfErr, OnOk, OnErr, MatchOption, true, false, vec_len, vec_capacity};
 ghost use Rattle.std.specs.Str.{is_utf8};
 ghost use Rattle.picky_layout.specs.Combine.{tag};
 ghost use Rattle.picky_layout.specs.Outcome.{map_ok};
@@ -11,6 +11,7 @@ ghost use Rattle.picky_wire.specs.Count.{Rose};
 ghost use Rattle.picky_wire.specs.Takes.{HasCause, StopsShort};
 ghost use Rattle.picky_wire.specs.Flaws.{TakesField, wire_causes, wire_error};
 ghost use Rattle.picky_wire.specs.Unread.{Unread};
+ghost use Rattle.picky_wire.specs.LengthFirst.{LengthFirst};
 
 use crate::bytes::{Bytes, Text};
 use crate::error::{NoMemory, SizeError, WireError};
@@ -34,6 +35,7 @@ pub trait SshReadExt: Source {
         Self: Sized,
         ensures takes { TakesField Self.tells Self.left Self.known Self.faults string result self.old self.new }
         ensures unread { Unread Self.tells Self.left Self.known wire_causes result self.old self.new }
+        ensures length_first { LengthFirst Self.tells Self.left Self.known Self.faults result self.old self.new }
         ensures cause { IfErr result (HasCause wire_causes (tag wire_error string).read
             (Rose (Self.faults self.old) (Self.faults self.new))) }
     {
@@ -51,12 +53,13 @@ pub trait SshReadExt: Source {
     ///
     /// `string` of RFC 4251, section 5. The buffer grows as for `read_ssh_bytes`.
     /// Refuses, in order: as `read_ssh_bytes`; `InvalidUtf8`, where the string isn't UTF-8.
-    #[tactic(auto, unfolding(picky_layout::specs::Wire::text), using(crate::proofs::CauseLemmas::causes))]
+    #[tactic(auto, unfolding(picky_layout::specs::Wire::text), using(crate::proofs::CauseLemmas::causes, crate::proofs::LengthFirstLemmas::length_firsts))]
     final fn read_ssh_string(&mut self, alloc: Global) -> Result<Text, WireError>
     where
         Self: Sized,
         ensures takes { TakesField Self.tells Self.left Self.known Self.faults text result self.old self.new }
         ensures unread { Unread Self.tells Self.left Self.known wire_causes result self.old self.new }
+        ensures length_first { LengthFirst Self.tells Self.left Self.known Self.faults result self.old self.new }
         ensures cause { IfErr result (HasCause wire_causes (tag wire_error text).read
             (Rose (Self.faults self.old) (Self.faults self.new))) }
     {
@@ -74,12 +77,13 @@ pub trait SshReadExt: Source {
     /// `mpint` of RFC 4251, section 5. The buffer grows as for `read_ssh_bytes`.
     /// Refuses, in order: as `read_ssh_bytes`; `TooLong`, where 2^32 - 1 bytes or more are left without the
     /// leading zeros.
-    #[tactic(auto, unfolding(picky_layout::specs::Mpint::mpint), using(crate::proofs::CauseLemmas::causes))]
+    #[tactic(auto, unfolding(picky_layout::specs::Mpint::mpint), using(crate::proofs::CauseLemmas::causes, crate::proofs::LengthFirstLemmas::length_firsts))]
     final fn read_ssh_mpint(&mut self, alloc: Global) -> Result<Mpint, WireError>
     where
         Self: Sized,
         ensures takes { TakesField Self.tells Self.left Self.known Self.faults mpint result self.old self.new }
         ensures unread { Unread Self.tells Self.left Self.known wire_causes result self.old self.new }
+        ensures length_first { LengthFirst Self.tells Self.left Self.known Self.faults result self.old self.new }
         ensures cause { IfErr result (HasCause wire_causes (tag wire_error mpint).read
             (Rose (Self.faults self.old) (Self.faults self.new))) }
     {
@@ -170,39 +174,51 @@ fn read_counted<S: Source>(alloc: Global, source: &mut S, len: usize) -> Result<
     read_chunks(alloc, source, len)
 }
 
-fn read_chunks<S: Source>(alloc: Global, source: &mut S, len: usize) -> Result<Vec<u8>, WireError>
+/// So many bytes.
+///
+/// The buffer grows with what is read, 4,096 bytes at a time; none is asked for before there is room for it.
+/// Refuses, in order: `ReadFault`, where a call of the source failed; `UnexpectedEnd`, where fewer bytes are
+/// left. What a refused call took stays taken.
+pub fn read_chunks<S: Source>(
+    alloc: Global,
+    source: &mut S,
+    len: usize,
+) -> Result<Vec<u8>, WireError>
     ensures takes { TakesField S.tells S.left S.known S.faults (byte_array len) (map_ok (λ v. v.items) result) source.old source.new }
     ensures len { IfOk result (λ v. vec_len v ≡ len) }
+
+    // Want of memory is answered before all are taken.
+    ensures room { S.tells source.old → result ≡ Err WireError.NoMemory → length (S.left source.old) < len + length (S.left source.new) }
     ensures cause { IfErr result (λ e. StopsShort wire_causes (Rose (S.faults source.old) (S.faults source.new)) e
         ⊎ (e ≡ WireError.NoMemory)) }
 {
-    let mut chunk = [0u8; CHUNK];
     let mut taken = Vec::new(alloc);
     'chunks: while taken.len() < len {
-        let more = (len - taken.len()).min(CHUNK);
-        let piece = &mut chunk[..more];
-        match fill(source, piece) {
-            Ok(()) => {}
-            Err(e) => return Err(e),
-        }
-        match append_exactly(&mut taken, piece) {
+        let at = taken.len();
+        let more = (len - at).min(CHUNK);
+        match append_zeros(&mut taken, more) {
             Ok(()) => {}
             Err(NoMemory) => return Err(WireError::NoMemory),
+        }
+        match fill(source, &mut taken[at..]) {
+            Ok(()) => {}
+            Err(e) => return Err(e),
         }
     }
     Ok(taken)
 }
 
-/// Appends the piece, with no more room than it needs.
-fn append_exactly(vec: &mut Vec<u8>, piece: &[u8]) -> Result<(), NoMemory>
-    ensures items { OnOk result (vec.new.items ≡ vec.old.items ++ piece.now) }
-    ensures len { OnOk result (vec_len vec.new ≡ vec_len vec.old + length piece.now) }
+/// Appends so many zeros, in room that was made for them.
+fn append_zeros(vec: &mut Vec<u8>, count: usize) -> Result<(), NoMemory>
+    requires { count ≤ 4096 }
+    ensures items { OnOk result (vec.new.items ≡ vec.old.items ++ replicate count 0) }
+    ensures len { OnOk result (vec_len vec.new ≡ vec_len vec.old + count) }
 {
-    match make_room(vec, piece.len()) {
+    match make_room(vec, count) {
         Ok(()) => {}
         Err(e) => return Err(e),
     }
-    match vec.extend_from_slice(piece) {
+    match vec.resize(vec.len() + count, 0) {
         Ok(()) => Ok(()),
         Err(_) => Err(NoMemory),
     }
@@ -220,8 +236,11 @@ fn make_room(vec: &mut Vec<u8>, more: usize) -> Result<(), NoMemory>
     }
 }
 
-/// Fills the buffer from the source.
-fn fill<S: Source>(source: &mut S, buffer: &mut [u8]) -> Result<(), WireError>
+/// Fills the buffer with the bytes that the source gives next.
+///
+/// Refuses, in order: `ReadFault`, where a call of the source failed; `UnexpectedEnd`, where fewer bytes are left
+/// than the buffer has. What a refused call took stays taken; what the buffer then holds is left open.
+pub fn fill<S: Source>(source: &mut S, buffer: &mut [u8]) -> Result<(), WireError>
     ensures takes { TakesField S.tells S.left S.known S.faults (byte_array (length buffer.old)) (map_ok (λ _. buffer.new) result) source.old source.new }
     ensures cause { IfErr result (StopsShort wire_causes (Rose (S.faults source.old) (S.faults source.new))) }
     ensures cut { S.tells source.old → OnErr result (length (S.left source.old) < length buffer.old + length (S.left source.new)) }

@@ -3,6 +3,7 @@
 pub use picky_cert_target::laws as certificate;
 pub use picky_conversion::laws as conversion;
 pub use picky_convert::laws as program;
+pub use picky_input::laws as input;
 pub use picky_issuing::laws as issuing;
 pub use picky_key_text::laws as key_text;
 pub use picky_sample::laws as sample_keys;

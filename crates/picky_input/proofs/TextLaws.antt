@@ -1,0 +1,72 @@
+-- The text of bytes.
+use Rattle.std.proofs.Common.{◌≡◌, ◌↔◌, ◌<◌, ◌≤◌, ℕ, List, Bool, true, false, length, nat_lt, Ok, Err, refl, sym, ap}
+use Rattle.std.proofs.Common.{if◌then◌else◌}
+use Rattle.std.proofs.lemmas.Bool.{le-ltb, lt-ltb, ltb-false, ltb-true}
+use Rattle.std.specs.Str.{IsUtf8, is_utf8}
+use Rattle.std.proofs.lemmas.Str.{IsUtf8-from_is_utf8, is_utf8-from_IsUtf8}
+use Rattle.picky_wire.proofs.TextLemmas.{is_no_text as no_utf8}
+use Rattle.picky_input.specs.Input.{input_limit}
+use Rattle.picky_input.specs.SourceText.{IsSourceText, text_of}
+use Rattle.picky_input.specs.declared.source_text.SourceError.TheVariants as errors
+
+-- what has a text is few enough and UTF-8, and is that text
+pub is_source_text : (bytes text : List ℕ) → text_of bytes ≡ Ok text → IsSourceText bytes × (text ≡ bytes)
+unfolding text_of
+is_source_text bytes text = go (nat_lt input_limit (length bytes)) (is_utf8 bytes) refl refl
+  where
+    go : (long utf8 : Bool) → nat_lt input_limit (length bytes) ≡ long → is_utf8 bytes ≡ utf8
+        → (if long then Err errors.InputTooLong else if utf8 then Ok bytes else Err errors.InputNotUtf8) ≡ Ok text
+        → IsSourceText bytes × (text ≡ bytes)
+    go true utf8 long_is utf8_is same = cc same
+    go false false long_is utf8_is same = cc same
+    go false true long_is utf8_is same =
+        (record { short = ltb-false input_limit (length bytes) long_is; utf8 = IsUtf8-from_is_utf8 bytes utf8_is }, cc same)
+
+-- and the other way round
+pub source_text_is : (bytes text : List ℕ) → IsSourceText bytes × (text ≡ bytes) → text_of bytes ≡ Ok text
+unfolding text_of
+source_text_is bytes text (is, same) =
+    rw (le-ltb input_limit (length bytes) is.short, is_utf8-from_IsUtf8 bytes is.utf8) (ap Ok (sym same))
+
+pub text_is_its_bytes : (bytes text : List ℕ) → (text_of bytes ≡ Ok text) ↔ (IsSourceText bytes × (text ≡ bytes))
+text_is_its_bytes bytes text = (is_source_text bytes text, source_text_is bytes text)
+
+-- too many bytes are refused first, and they alone so
+is_too_long : (bytes : List ℕ) → text_of bytes ≡ Err errors.InputTooLong → input_limit < length bytes
+unfolding text_of
+is_too_long bytes = go (nat_lt input_limit (length bytes)) (is_utf8 bytes) refl
+  where
+    go : (long utf8 : Bool) → nat_lt input_limit (length bytes) ≡ long
+        → (if long then Err errors.InputTooLong else if utf8 then Ok bytes else Err errors.InputNotUtf8) ≡ Err errors.InputTooLong
+        → input_limit < length bytes
+    go true utf8 long_is same = ltb-true input_limit (length bytes) long_is
+    go false true long_is same = cc same
+    go false false long_is same = cc same
+
+too_long_is : (bytes : List ℕ) → input_limit < length bytes → text_of bytes ≡ Err errors.InputTooLong
+unfolding text_of
+too_long_is bytes long = rw (lt-ltb input_limit (length bytes) long) refl
+
+pub too_long_exactly : (bytes : List ℕ) → (text_of bytes ≡ Err errors.InputTooLong) ↔ (input_limit < length bytes)
+too_long_exactly bytes = (is_too_long bytes, too_long_is bytes)
+
+-- and then those that aren't UTF-8
+is_no_text : (bytes : List ℕ) → text_of bytes ≡ Err errors.InputNotUtf8 → (length bytes ≤ input_limit) × (IsUtf8 bytes → ⊥)
+unfolding text_of
+is_no_text bytes = go (nat_lt input_limit (length bytes)) (is_utf8 bytes) refl refl
+  where
+    go : (long utf8 : Bool) → nat_lt input_limit (length bytes) ≡ long → is_utf8 bytes ≡ utf8
+        → (if long then Err errors.InputTooLong else if utf8 then Ok bytes else Err errors.InputNotUtf8) ≡ Err errors.InputNotUtf8
+        → (length bytes ≤ input_limit) × (IsUtf8 bytes → ⊥)
+    go true utf8 long_is utf8_is same = cc same
+    go false true long_is utf8_is same = cc same
+    go false false long_is utf8_is same =
+        (ltb-false input_limit (length bytes) long_is, λ is. cc (utf8_is, is_utf8-from_IsUtf8 bytes is))
+
+no_text_is : (bytes : List ℕ) → (length bytes ≤ input_limit) × (IsUtf8 bytes → ⊥) → text_of bytes ≡ Err errors.InputNotUtf8
+unfolding text_of
+no_text_is bytes (short, other) = rw (le-ltb input_limit (length bytes) short, no_utf8 bytes other) refl
+
+pub no_text_exactly : (bytes : List ℕ)
+    → (text_of bytes ≡ Err errors.InputNotUtf8) ↔ ((length bytes ≤ input_limit) × (IsUtf8 bytes → ⊥))
+no_text_exactly bytes = (is_no_text bytes, no_text_is bytes)

@@ -1,0 +1,9 @@
+//! A source that is read to its end, of at most 16,777,216 bytes, and its text.
+#![tactic(auto)]
+
+mod input;
+pub mod laws;
+mod source_text;
+
+pub use input::{InputError, read_input};
+pub use source_text::{SourceError, as_text, take_text};
