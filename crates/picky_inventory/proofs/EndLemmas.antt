@@ -1,0 +1,135 @@
+-- How a run ends, status by status.
+use Rattle.std.proofs.Common.{◌≡◌, ◌⊎◌, ◌<◌, ℕ, List, length, nat_lt, Bool, true, false, Some}
+use Rattle.std.proofs.Common.{Result, Ok, Err, refl, sym, ◌∙◌, ap, inl, inr, subst, if◌then◌else◌}
+use Rattle.std.specs.Str.{IsUtf8, is_utf8}
+use Rattle.picky_layout.specs.Outcome.{and_then, map_err}
+use Rattle.picky_input.specs.Input.{input_limit}
+use Rattle.picky_input.specs.SourceText.{text_of}
+use Rattle.picky_input.specs.declared.source_text.SourceError.{SourceError}
+use Rattle.picky_input.specs.declared.source_text.SourceError.TheVariants as source
+use Rattle.picky_input.proofs.TextLaws.{is_source_text, no_text_exactly, too_long_exactly}
+use Rattle.picky_issuing.specs.Parts.{key_part}
+use Rattle.picky_key_text.specs.Reader.{Reader}
+use Rattle.picky_key_text.specs.declared.error.ReadError.{ReadError}
+use Rattle.picky_inventory.specs.declared.command.Command.{Command}
+use Rattle.picky_inventory.specs.declared.command.Command.TheVariants as commands
+use Rattle.picky_inventory.specs.declared.status.InventoryStatus.{InventoryStatus}
+use Rattle.picky_inventory.specs.declared.status.InventoryStatus.TheVariants as statuses
+use Rattle.picky_inventory.specs.BadLine.{bad_line}
+use Rattle.picky_inventory.specs.Listing.{inventory}
+use Rattle.picky_inventory.specs.Run.{answer, left_part, outcome, source_status}
+use Rattle.picky_inventory.specs.inner.Comes.{Comes, Ends}
+use Rattle.picky_inventory.proofs.RunLemmas.{Bad, Cause, Unread, answer_cause}
+
+-- ---- the statuses of an outcome
+
+text_err : (bytes : List ℕ) (e : SourceError) → text_of bytes ≡ Err e → (e ≡ source.InputTooLong) ⊎ (e ≡ source.InputNotUtf8)
+unfolding text_of
+text_err bytes e = go (nat_lt input_limit (length bytes)) (is_utf8 bytes)
+  where
+    go : (long utf8 : Bool)
+        → (if long then Err source.InputTooLong else if utf8 then Ok bytes else Err source.InputNotUtf8) ≡ Err e
+        → (e ≡ source.InputTooLong) ⊎ (e ≡ source.InputNotUtf8)
+    go true utf8 same = inl (cc same)
+    go false true same = cc same
+    go false false same = inr (cc same)
+
+-- why a command writes nothing for the bytes of a source
+data InputCause (r : Reader) (command : Command) (input : List ℕ) (status : InventoryStatus) : Type 0 where
+  TooLong : input_limit < length input → status ≡ statuses.InputTooLong → InputCause r command input status
+  NoText : (IsUtf8 input → ⊥) → status ≡ statuses.InputNotUtf8 → InputCause r command input status
+  OfText : Cause r command input status → InputCause r command input status
+
+outcome_cause : (r : Reader) (command : Command) (input : List ℕ) (status : InventoryStatus)
+    → outcome r command input ≡ Err status → InputCause r command input status
+unfolding outcome
+outcome_cause r command input status = go (text_of input) refl
+  where
+    go : (text : Result (List ℕ) SourceError) → text_of input ≡ text
+        → and_then (map_err source_status text) (answer r command) ≡ Err status → InputCause r command input status
+    go (Ok text) says is =
+        OfText (subst (λ t. Cause r command t status) (is_source_text input text says).1 (answer_cause r command text status is))
+    go (Err e) says is =
+        let same : source_status e ≡ status = cc is in
+        elim (text_err input e says) [
+          | inl long ↦ TooLong ((too_long_exactly input).0 (says ∙ ap Err long)) (sym same ∙ ap source_status long)
+          | inr other ↦ NoText ((no_text_exactly input).0 (says ∙ ap Err other)).1 (sym same ∙ ap source_status other)
+        ]
+
+pub too_long_so : (r : Reader) (command : Command) (input : List ℕ) → outcome r command input ≡ Err statuses.InputTooLong
+    → input_limit < length input
+too_long_so r command input is = elim (outcome_cause r command input statuses.InputTooLong is) [
+  | TooLong long same ↦ long
+  | NoText none same ↦ cc same
+  | OfText cause ↦ elim cause [ Unread n e listing says same ↦ cc same | Bad k merging says same ↦ cc same ]
+]
+
+pub no_text_so : (r : Reader) (command : Command) (input : List ℕ) → outcome r command input ≡ Err statuses.InputNotUtf8
+    → IsUtf8 input → ⊥
+no_text_so r command input is = elim (outcome_cause r command input statuses.InputNotUtf8 is) [
+  | TooLong long same ↦ cc same
+  | NoText none same ↦ none
+  | OfText cause ↦ elim cause [ Unread n e listing says same ↦ cc same | Bad k merging says same ↦ cc same ]
+]
+
+pub refused_so : (r : Reader) (command : Command) (input : List ℕ) (n : ℕ) (e : ReadError)
+    → outcome r command input ≡ Err (statuses.Refused n e) → (command ≡ commands.Listing) × (inventory r input ≡ Err (n, e))
+refused_so r command input n e is = elim (outcome_cause r command input (statuses.Refused n e) is) [
+  | TooLong long same ↦ cc same
+  | NoText none same ↦ cc same
+  | OfText cause ↦ elim cause [
+    | Unread m f listing says same ↦
+        let number : n ≡ m = cc same in
+        let why : e ≡ f = cc same in
+        (listing, says ∙ ap (λ k. Err (k, f)) (sym number) ∙ ap (λ h. Err (n, h)) (sym why))
+    | Bad k merging says same ↦ cc same
+  ]
+]
+
+pub bad_so : (r : Reader) (command : Command) (input : List ℕ) (k : ℕ) → outcome r command input ≡ Err (statuses.BadLine k)
+    → (command ≡ commands.Merging) × (bad_line (left_part input) (key_part input) ≡ Some k)
+bad_so r command input k is = elim (outcome_cause r command input (statuses.BadLine k) is) [
+  | TooLong long same ↦ cc same
+  | NoText none same ↦ cc same
+  | OfText cause ↦ elim cause [
+    | Unread m f listing says same ↦ cc same
+    | Bad j merging says same ↦ let number : k ≡ j = cc same in (merging, says ∙ ap Some (sym number))
+  ]
+]
+
+-- ---- from the answer to the end
+
+module _ (r : Reader) (command : Command) (input : List ℕ) (read_rose rose write_rose tells : Type 0) (before after : List ℕ)
+  where
+    cause_ends : (status : InventoryStatus) → outcome r command input ≡ Err status → Cause r command input status
+        → Ends r command input read_rose rose write_rose tells before after status
+    cause_ends status failed (Unread n e listing says is) =
+        subst (Ends r command input read_rose rose write_rose tells before after) (sym is) (failed ∙ ap Err is)
+    cause_ends status failed (Bad k merging says is) =
+        subst (Ends r command input read_rose rose write_rose tells before after) (sym is) (failed ∙ ap Err is)
+
+    outcome_ends : (status : InventoryStatus) → outcome r command input ≡ Err status → InputCause r command input status
+        → Ends r command input read_rose rose write_rose tells before after status
+    outcome_ends status failed (TooLong long is) =
+        subst (Ends r command input read_rose rose write_rose tells before after) (sym is) (failed ∙ ap Err is)
+    outcome_ends status failed (NoText none is) =
+        subst (Ends r command input read_rose rose write_rose tells before after) (sym is) (failed ∙ ap Err is)
+    outcome_ends status failed (OfText cause) = cause_ends status failed cause
+
+    pub comes_ends : (status : InventoryStatus) → Comes r command input read_rose rose (Err status)
+        → Ends r command input read_rose rose write_rose tells before after status
+    comes_ends status (inl want) =
+        subst (Ends r command input read_rose rose write_rose tells before after) (sym want) tt
+    comes_ends status (inr (inl read)) =
+        subst (Ends r command input read_rose rose write_rose tells before after) (sym read.0) read.1
+    comes_ends status (inr (inr (inl fault))) =
+        subst (Ends r command input read_rose rose write_rose tells before after) (sym fault.0) fault.1
+    comes_ends status (inr (inr (inr failed))) = outcome_ends status failed (outcome_cause r command input status failed)
+
+-- an end at a status
+pub ends_at : (r : Reader) (command : Command) (input : List ℕ) (read_rose rose write_rose tells : Type 0)
+    (before after : List ℕ) (status s : InventoryStatus) → status ≡ s
+    → Ends r command input read_rose rose write_rose tells before after status
+    → Ends r command input read_rose rose write_rose tells before after s
+ends_at r command input read_rose rose write_rose tells before after status s is ends =
+    subst (Ends r command input read_rose rose write_rose tells before after) is ends

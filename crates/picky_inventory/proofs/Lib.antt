@@ -1,0 +1,12 @@
+pub mod BadLineLaws
+pub mod EndLemmas
+pub mod EndedLaws
+pub mod ItemLaws
+pub mod ItemLineLaws
+pub mod ListingLaws
+pub mod MergingLaws
+pub mod OrderLaws
+pub mod PartsLaws
+pub mod ReadLaws
+pub mod RunLemmas
+pub mod TextLaws

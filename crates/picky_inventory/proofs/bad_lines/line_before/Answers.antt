@@ -1,0 +1,9 @@
+-- The last of the lines so far.
+use Rattle.std.proofs.Common.{ℕ, Bor, List, [], arith}
+use Rattle.picky_inventory.proofs.BadLineLaws.{before_place}
+use Rattle.picky_inventory.proofs.bad_lines.line_before.Goals as goal
+
+pub returns : goal.returns
+returns c =
+    before_place (λ (line : Bor (List ℕ)). line.now) c.args.lines.now c.args.i (record { ref_ptr = (0, 0); now = [] })
+    (omega arith) (omega arith)

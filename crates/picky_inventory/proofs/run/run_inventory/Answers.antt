@@ -1,0 +1,52 @@
+-- What a status says of the bytes.
+use Rattle.std.proofs.Common.{◌≡◌, ◌∙◌, Some, ap}
+use Rattle.picky_inventory.specs.Command.{command_of}
+use Rattle.picky_inventory.specs.Run.{reader}
+use Rattle.picky_inventory.specs.declared.status.InventoryStatus.TheVariants as statuses
+use Rattle.picky_inventory.proofs.EndLemmas.{bad_so, ends_at, no_text_so, refused_so, too_long_so}
+use Rattle.picky_inventory.proofs.RunLemmas.{inventory_own}
+use Rattle.picky_inventory.proofs.run.run_inventory.Goals as goal
+
+pub returns-in-Some-clause-input_too_long : goal.returns-in-Some-clause-input_too_long
+returns-in-Some-clause-input_too_long g c = λ is told.
+    too_long_so (reader (g.S.Suite.meanings c.args.suite.now) c.args.pass_in) c.in-Some.command (g.I.Source.left c.args.source.now) (ends_at (reader (g.S.Suite.meanings c.args.suite.now) c.args.pass_in) c.in-Some.command (g.I.Source.left c.args.source.now) _ _ _ _ _ _ c.perform.result statuses.InputTooLong is (c.perform.ensures.told told))
+
+pub returns-in-Some-clause-input_not_utf8 : goal.returns-in-Some-clause-input_not_utf8
+returns-in-Some-clause-input_not_utf8 g c = λ is told.
+    no_text_so (reader (g.S.Suite.meanings c.args.suite.now) c.args.pass_in) c.in-Some.command (g.I.Source.left c.args.source.now) (ends_at (reader (g.S.Suite.meanings c.args.suite.now) c.args.pass_in) c.in-Some.command (g.I.Source.left c.args.source.now) _ _ _ _ _ _ c.perform.result statuses.InputNotUtf8 is (c.perform.ensures.told told))
+
+pub returns-in-Some-clause-refused : goal.returns-in-Some-clause-refused
+returns-in-Some-clause-refused g c = λ n e is told.
+    (refused_so (reader (g.S.Suite.meanings c.args.suite.now) c.args.pass_in) c.in-Some.command (g.I.Source.left c.args.source.now) n e (ends_at (reader (g.S.Suite.meanings c.args.suite.now) c.args.pass_in) c.in-Some.command (g.I.Source.left c.args.source.now) _ _ _ _ _ _ c.perform.result (statuses.Refused n e) is (c.perform.ensures.told told))).1
+
+pub returns-in-Some-clause-refused_of_some : goal.returns-in-Some-clause-refused_of_some
+returns-in-Some-clause-refused_of_some g c = λ n e is.
+    let some = c.perform.ensures.some (λ long. cc (is, long)) (λ other. cc (is, other)) in
+    (some.0, (refused_so (reader (g.S.Suite.meanings c.args.suite.now) c.args.pass_in) c.in-Some.command some.0 n e (ends_at (reader (g.S.Suite.meanings c.args.suite.now) c.args.pass_in) c.in-Some.command some.0 _ _ _ _ _ _ c.perform.result (statuses.Refused n e) is (some.1))).1)
+
+pub returns-in-Some-clause-refused_lists : goal.returns-in-Some-clause-refused_lists
+returns-in-Some-clause-refused_lists g c = λ n e is.
+    let some = c.perform.ensures.some (λ long. cc (is, long)) (λ other. cc (is, other)) in
+    let named : command_of c.args.words.now ≡ Some c.in-Some.command = cc (c.command_of.ensures, c.in-Some.is) in
+    named ∙ ap Some (refused_so (reader (g.S.Suite.meanings c.args.suite.now) c.args.pass_in) c.in-Some.command some.0 n e (ends_at (reader (g.S.Suite.meanings c.args.suite.now) c.args.pass_in) c.in-Some.command some.0 _ _ _ _ _ _ c.perform.result (statuses.Refused n e) is (some.1))).0
+
+pub returns-in-Some-clause-refused_is_no_want : goal.returns-in-Some-clause-refused_is_no_want
+returns-in-Some-clause-refused_is_no_want g c = λ n e is.
+    let some = c.perform.ensures.some (λ long. cc (is, long)) (λ other. cc (is, other)) in
+    let own = inventory_own (reader (g.S.Suite.meanings c.args.suite.now) c.args.pass_in) some.0 n e (refused_so (reader (g.S.Suite.meanings c.args.suite.now) c.args.pass_in) c.in-Some.command some.0 n e (ends_at (reader (g.S.Suite.meanings c.args.suite.now) c.args.pass_in) c.in-Some.command some.0 _ _ _ _ _ _ c.perform.result (statuses.Refused n e) is (some.1))).1 in
+    (own.1, own.0)
+
+pub returns-in-Some-clause-bad_line : goal.returns-in-Some-clause-bad_line
+returns-in-Some-clause-bad_line g c = λ k is told.
+    (bad_so (reader (g.S.Suite.meanings c.args.suite.now) c.args.pass_in) c.in-Some.command (g.I.Source.left c.args.source.now) k (ends_at (reader (g.S.Suite.meanings c.args.suite.now) c.args.pass_in) c.in-Some.command (g.I.Source.left c.args.source.now) _ _ _ _ _ _ c.perform.result (statuses.BadLine k) is (c.perform.ensures.told told))).1
+
+pub returns-in-Some-clause-bad_line_of_some : goal.returns-in-Some-clause-bad_line_of_some
+returns-in-Some-clause-bad_line_of_some g c = λ k is.
+    let some = c.perform.ensures.some (λ long. cc (is, long)) (λ other. cc (is, other)) in
+    (some.0, (bad_so (reader (g.S.Suite.meanings c.args.suite.now) c.args.pass_in) c.in-Some.command some.0 k (ends_at (reader (g.S.Suite.meanings c.args.suite.now) c.args.pass_in) c.in-Some.command some.0 _ _ _ _ _ _ c.perform.result (statuses.BadLine k) is (some.1))).1)
+
+pub returns-in-Some-clause-bad_line_merges : goal.returns-in-Some-clause-bad_line_merges
+returns-in-Some-clause-bad_line_merges g c = λ k is.
+    let some = c.perform.ensures.some (λ long. cc (is, long)) (λ other. cc (is, other)) in
+    let named : command_of c.args.words.now ≡ Some c.in-Some.command = cc (c.command_of.ensures, c.in-Some.is) in
+    named ∙ ap Some (bad_so (reader (g.S.Suite.meanings c.args.suite.now) c.args.pass_in) c.in-Some.command some.0 k (ends_at (reader (g.S.Suite.meanings c.args.suite.now) c.args.pass_in) c.in-Some.command some.0 _ _ _ _ _ _ c.perform.result (statuses.BadLine k) is (some.1))).0

@@ -1,0 +1,11 @@
+pub mod BadLine
+pub mod Command
+pub mod InOrder
+pub mod ItemLine
+pub mod Items
+pub mod Listing
+pub mod Merging
+pub mod OrderedText
+pub mod Parted
+pub mod Run
+pub mod inner
