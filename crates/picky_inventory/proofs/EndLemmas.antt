@@ -8,7 +8,6 @@ use Rattle.picky_input.specs.SourceText.{text_of}
 use Rattle.picky_input.specs.declared.source_text.SourceError.{SourceError}
 use Rattle.picky_input.specs.declared.source_text.SourceError.TheVariants as source
 use Rattle.picky_input.proofs.TextLaws.{is_source_text, no_text_exactly, too_long_exactly}
-use Rattle.picky_issuing.specs.Parts.{key_part}
 use Rattle.picky_key_text.specs.Reader.{Reader}
 use Rattle.picky_key_text.specs.declared.error.ReadError.{ReadError}
 use Rattle.picky_inventory.specs.declared.command.Command.{Command}
@@ -17,7 +16,8 @@ use Rattle.picky_inventory.specs.declared.status.InventoryStatus.{InventoryStatu
 use Rattle.picky_inventory.specs.declared.status.InventoryStatus.TheVariants as statuses
 use Rattle.picky_inventory.specs.BadLine.{bad_line}
 use Rattle.picky_inventory.specs.Listing.{inventory}
-use Rattle.picky_inventory.specs.Run.{answer, left_part, outcome, source_status}
+use Rattle.picky_inventory.specs.Merging.{left_part, right_part}
+use Rattle.picky_inventory.specs.Run.{answer, outcome, source_status}
 use Rattle.picky_inventory.specs.inner.Comes.{Comes, Ends}
 use Rattle.picky_inventory.proofs.RunLemmas.{Bad, Cause, Unread, answer_cause}
 
@@ -87,7 +87,7 @@ refused_so r command input n e is = elim (outcome_cause r command input (statuse
 ]
 
 pub bad_so : (r : Reader) (command : Command) (input : List ℕ) (k : ℕ) → outcome r command input ≡ Err (statuses.BadLine k)
-    → (command ≡ commands.Merging) × (bad_line (left_part input) (key_part input) ≡ Some k)
+    → (command ≡ commands.Merging) × (bad_line (left_part input) (right_part input) ≡ Some k)
 bad_so r command input k is = elim (outcome_cause r command input (statuses.BadLine k) is) [
   | TooLong long same ↦ cc same
   | NoText none same ↦ cc same

@@ -3,6 +3,7 @@ pub mod EndLemmas
 pub mod EndedLaws
 pub mod ItemLaws
 pub mod ItemLineLaws
+pub mod JoinedLaws
 pub mod ListingLaws
 pub mod MergingLaws
 pub mod OrderLaws

@@ -1,5 +1,5 @@
 -- A list of parts, read one by one.
-use Rattle.std.proofs.Common.{◌≡◌, ◌⊎◌, ◌+◌, ◌<◌, ℕ, suc, true, false, List, [], ◌∷◌, ◌++◌, map, length, take, drop, get_or}
+use Rattle.std.proofs.Common.{◌≡◌, ◌⊎◌, ◌+◌, ◌<◌, ℕ, zero, suc, true, false, List, [], ◌∷◌, ◌++◌, map, length, take, drop, get_or}
 use Rattle.std.proofs.Common.{Option, Some, slice_get, subst, Result, Ok, Err, refl, sym, ◌∙◌, ap, arith, inl, inr, add-one, drop-cons, take-append-drop}
 use Rattle.std.proofs.lemmas.Bool.{cases_Bool}
 use Rattle.std.proofs.lemmas.List.{append-nil, get_or-map, length-map, length-take, map-append, take_more}
@@ -16,10 +16,17 @@ use Rattle.picky_key_text.specs.declared.error.ReadError.TheVariants as errors
 use Rattle.picky_key_text.specs.declared.meaning.Meaning.{Meaning}
 use Rattle.picky_inventory.specs.InOrder.{line_cmp, ordered}
 use Rattle.picky_inventory.specs.Items.{Item, item_of, item_line, is_blank, refused, items_from}
-use Rattle.picky_inventory.specs.Listing.{FaultAt, inventory, lines_from}
+use Rattle.picky_inventory.specs.Listing.{FaultAt, NoneAsks, inventory, lines_from}
 use Rattle.picky_inventory.specs.OrderedText.{ordered_text}
 use Rattle.picky_inventory.specs.Parted.{text_parts}
 use Rattle.picky_inventory.proofs.TextLaws.{joined_is}
+
+-- of a list of which none asks, no text does
+pub none_asks_at : {A : Type 0} (see : A → List ℕ) (pass : Option (List ℕ)) (list : List A) (i : ℕ) (d : A) → i < length list
+    → NoneAsks pass (map see list) → asks pass (see (get_or list i d)) ≡ false
+none_asks_at see pass [] i d below none = absurd (omega (arith, below))
+none_asks_at see pass (x ∷ list) zero d below none = none.0
+none_asks_at see pass (x ∷ list) (suc i) d below none = none_asks_at see pass list i d (omega (arith, below)) none.1
 
 -- ---- the parts so far, and the rest
 

@@ -9,7 +9,6 @@ use Rattle.picky_input.specs.SourceText.{Reads, text_of}
 use Rattle.picky_input.specs.declared.source_text.SourceError.{SourceError}
 use Rattle.picky_input.specs.declared.source_text.SourceError.TheVariants as source
 use Rattle.picky_input.proofs.TextLaws.{is_source_text}
-use Rattle.picky_issuing.specs.Parts.{key_part}
 use Rattle.picky_key_text.specs.Form.{form_of}
 use Rattle.picky_key_text.specs.Order.{fault_as, fault_of, reading}
 use Rattle.picky_key_text.specs.Reader.{Reader}
@@ -27,9 +26,10 @@ use Rattle.picky_inventory.specs.declared.status.InventoryStatus.TheVariants as 
 use Rattle.picky_inventory.specs.BadLine.{bad_line}
 use Rattle.picky_inventory.specs.Items.{Item, is_blank, item_line, item_of, items_from, refused}
 use Rattle.picky_inventory.specs.Listing.{FaultAt, inventory}
-use Rattle.picky_inventory.specs.OrderedText.{ordered_text}
+use Rattle.picky_inventory.specs.OrderedText.{merged, ordered_text}
 use Rattle.picky_inventory.specs.Parted.{text_parts}
-use Rattle.picky_inventory.specs.Run.{IsFaultOf, answer, left_part, outcome, refusal, source_status, union_unless}
+use Rattle.picky_inventory.specs.Merging.{left_part, right_part, unless_bad}
+use Rattle.picky_inventory.specs.Run.{IsFaultOf, answer, outcome, refusal, source_status, unmerged_status}
 use Rattle.picky_inventory.specs.inner.Comes.{Comes, Gives, LeavesAt, LeavesFor, unread_status}
 
 -- ---- the refusal of a part
@@ -116,7 +116,7 @@ listed_gives r text rose n e status is (inr (inr failed)) =
 pub data Cause (r : Reader) (command : Command) (text : List ℕ) (status : InventoryStatus) : Type 0 where
   Unread : (n : ℕ) (e : ReadError) → command ≡ commands.Listing → inventory r text ≡ Err (n, e) → status ≡ statuses.Refused n e
       → Cause r command text status
-  Bad : (k : ℕ) → command ≡ commands.Merging → bad_line (left_part text) (key_part text) ≡ Some k → status ≡ statuses.BadLine k
+  Bad : (k : ℕ) → command ≡ commands.Merging → bad_line (left_part text) (right_part text) ≡ Some k → status ≡ statuses.BadLine k
       → Cause r command text status
 
 unread_cause : (r : Reader) (text : List ℕ) (status : InventoryStatus) (says : Result (List ℕ) (ℕ × ReadError))
@@ -125,7 +125,8 @@ unread_cause r text status (Ok written) says is = cc is
 unread_cause r text status (Err (n, e)) says is = Unread n e refl says (cc is)
 
 bad_cause : (r : Reader) (text : List ℕ) (status : InventoryStatus) (bad : Option ℕ)
-    → bad_line (left_part text) (key_part text) ≡ bad → union_unless bad (left_part text) (key_part text) ≡ Err status
+    → bad_line (left_part text) (right_part text) ≡ bad
+    → map_err unmerged_status (unless_bad bad (merged (left_part text) (right_part text))) ≡ Err status
     → Cause r commands.Merging text status
 bad_cause r text status None says is = cc is
 bad_cause r text status (Some k) says is = Bad k refl says (cc is)
@@ -133,7 +134,7 @@ bad_cause r text status (Some k) says is = Bad k refl says (cc is)
 pub answer_cause : (r : Reader) (command : Command) (text : List ℕ) (status : InventoryStatus)
     → answer r command text ≡ Err status → Cause r command text status
 answer_cause r commands.Listing text status is = unread_cause r text status (inventory r text) refl is
-answer_cause r commands.Merging text status is = bad_cause r text status (bad_line (left_part text) (key_part text)) refl is
+answer_cause r commands.Merging text status is = bad_cause r text status (bad_line (left_part text) (right_part text)) refl is
 
 -- ---- the bytes of a source
 

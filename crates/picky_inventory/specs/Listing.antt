@@ -1,5 +1,6 @@
 -- What a list of parts gives: the lines of their items, or the first part that isn't read.
-use Rattle.std.specs.Prelude.{◌≡◌, ◌⊎◌, ℕ, List, map, Some, Result, Ok, Err, slice_get, take}
+use Rattle.std.specs.Prelude.{◌≡◌, ◌⊎◌, ℕ, false, List, map, Option, Some, Result, Ok, Err, slice_get, take}
+use Rattle.std.specs.List.{AllByRecursion}
 use Rattle.picky_layout.specs.Outcome.{map_ok}
 use Rattle.picky_suite.specs.Failures.{IsAskedFault}
 use Rattle.picky_key_text.specs.Order.{asks, fault_of}
@@ -33,8 +34,16 @@ GivesLines view r parts rose (Err unread) =
     ⊎ (lines_from r 0 parts ≡ Err (unread.part, unread.error))
 
 -- the inventory of a list of texts: the lines of the set of its items
+abbrev pub inventory_of : Reader → (list : List (List ℕ)) → Result (List ℕ) (ℕ × ReadError)
+inventory_of r list = map_ok (ordered_text item_line) (items_from r 0 list)
+
+-- that of the parts of a text
 abbrev pub inventory : Reader → (text : List ℕ) → Result (List ℕ) (ℕ × ReadError)
-inventory r text = map_ok (ordered_text item_line) (items_from r 0 (text_parts text))
+inventory r text = inventory_of r (text_parts text)
+
+-- no text of a list is sealed with what a passphrase opens
+abbrev pub NoneAsks : (pass : Option (List ℕ)) (list : List (List ℕ)) → Type 0
+NoneAsks pass list = AllByRecursion (λ text. asks pass text ≡ false) list
 
 -- its text, or want of memory, or the suite's fault, or the first part that isn't read
 abbrev pub GivesInventory : Reader → (text : List ℕ) (rose : Type 0) → Result (List ℕ) Unread → Type 0

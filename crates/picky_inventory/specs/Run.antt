@@ -1,5 +1,8 @@
 -- A run: what it writes for the bytes of its source, and how it ends.
-use Rattle.std.specs.Prelude.{◌≡◌, ◌<◌, ◌++◌, ℕ, List, [], length, take, codes, Option, Some, None, Result, Ok, Err}
+use Rattle.std.specs.Prelude.{◌≡◌, ◌<◌, ◌++◌, ℕ, List, length, take, codes, Option, Result, Ok, Err}
+use Rattle.std.specs.Option.{IfSome}
+use Rattle.std.specs.List.{AllByRecursion}
+use Rattle.std.specs.Str.{IsUtf8}
 use Rattle.std.specs.Option.{option_copied}
 use denote.Ref.{Bor}
 use Rattle.picky_layout.specs.Outcome.{and_then, map_err}
@@ -11,16 +14,17 @@ pub use Rattle.picky_input.specs.Input.{input_limit, TakesInput}
 use Rattle.picky_input.specs.SourceText.{IsSourceText, text_of}
 use Rattle.picky_input.specs.declared.source_text.SourceError.{SourceError}
 use Rattle.picky_input.specs.declared.source_text.SourceError.TheVariants as source
-use Rattle.picky_issuing.specs.Parts.{issuer_part, key_part}
+use Rattle.picky_issuing.specs.Parts.{mark_lf}
 use Rattle.picky_key_text.specs.Reader.{Reader}
 use Rattle.picky_key_text.specs.declared.error.ReadError.{ReadError}
 use Rattle.picky_inventory.specs.declared.command.Command.{Command}
 use Rattle.picky_inventory.specs.declared.command.Command.TheVariants as commands
 use Rattle.picky_inventory.specs.declared.status.InventoryStatus.{InventoryStatus}
 use Rattle.picky_inventory.specs.declared.status.InventoryStatus.TheVariants as statuses
-use Rattle.picky_inventory.specs.BadLine.{bad_line}
-use Rattle.picky_inventory.specs.Listing.{FaultAt, inventory}
-use Rattle.picky_inventory.specs.OrderedText.{merged}
+use Rattle.picky_inventory.specs.declared.merging.Unmerged.{Unmerged}
+use Rattle.picky_inventory.specs.declared.merging.Unmerged.TheVariants as merges
+use Rattle.picky_inventory.specs.Listing.{FaultAt, inventory, inventory_of}
+use Rattle.picky_inventory.specs.Merging.{merging}
 use Rattle.picky_inventory.specs.Parted.{text_parts}
 
 -- the line that says which words there are
@@ -37,26 +41,15 @@ reader m pass = record { meanings = m; pass = option_copied pass }
 abbrev pub refusal : ℕ × ReadError → InventoryStatus
 refusal unread = statuses.Refused unread.0 unread.1
 
--- what stands before a text's first line `%%`; nothing, where no line is that
-abbrev pub left_or_none : Option (List ℕ) → List ℕ
-left_or_none None = []
-left_or_none (Some left) = left
-
-abbrev pub left_part : (text : List ℕ) → List ℕ
-left_part text = left_or_none (issuer_part text)
-
--- the inventory of the union of two, where none of their lines is bad
-abbrev pub union_unless : Option ℕ → (left right : List ℕ) → Result (List ℕ) InventoryStatus
-union_unless None left right = Ok (merged left right)
-union_unless (Some line) left right = Err (statuses.BadLine line)
-
-abbrev pub union : (left right : List ℕ) → Result (List ℕ) InventoryStatus
-union left right = union_unless (bad_line left right) left right
+-- why two inventories aren't merged
+abbrev pub unmerged_status : Unmerged → InventoryStatus
+unmerged_status (merges.BadLine line) = statuses.BadLine line
+unmerged_status merges.NoMemory = statuses.NoMemory
 
 -- what the command writes for a text, or the status that says why it writes nothing
 abbrev pub answer : Reader → Command → (text : List ℕ) → Result (List ℕ) InventoryStatus
 answer r commands.Listing text = map_err refusal (inventory r text)
-answer r commands.Merging text = union (left_part text) (key_part text)
+answer r commands.Merging text = map_err unmerged_status (merging text)
 
 -- ---- what the bytes of a source come to
 
@@ -108,6 +101,23 @@ pub record WritesPrefix (r : Reader) (command : Command) (input before after : L
   pub less : len < length text
   pub written : after ≡ before ++ take len text
 
+-- a source is the inventories of two lists of texts, with a line `%%` between
+pub record IsOfLists (r : Reader) (one other : List (List ℕ)) (input : List ℕ) : Type 0 where
+  pub pass : IfSome r.pass IsUtf8
+  pub one_utf8 : AllByRecursion IsUtf8 one
+  pub other_utf8 : AllByRecursion IsUtf8 other
+  pub left : List ℕ
+  pub right : List ℕ
+  pub left_is : inventory_of r one ≡ Ok left
+  pub right_is : inventory_of r other ≡ Ok right
+  pub whole : input ≡ left ++ mark_lf ++ right
+
+-- the inventory of a list was written
+pub record WritesInventory (r : Reader) (list : List (List ℕ)) (before after : List ℕ) : Type 0 where
+  pub text : List ℕ
+  pub is_inventory : inventory_of r list ≡ Ok text
+  pub written : after ≡ before ++ text
+
 -- a status that speaks of the bytes is their outcome
 abbrev pub Explains : InventoryStatus → Result (List ℕ) InventoryStatus → Type 0
 Explains statuses.Done out = ⊥
@@ -120,6 +130,19 @@ Explains statuses.NoMemory out = Unit {0}
 Explains statuses.InputTooLong out = out ≡ Err statuses.InputTooLong
 Explains statuses.InputNotUtf8 out = out ≡ Err statuses.InputNotUtf8
 Explains (statuses.BadLine n) out = out ≡ Err (statuses.BadLine n)
+
+-- how the program ends: 0 for Done
+abbrev pub exit_code : InventoryStatus → ℕ
+exit_code statuses.Done = 0
+exit_code (statuses.Refused n e) = 1
+exit_code (statuses.BadLine n) = 1
+exit_code statuses.Usage = 2
+exit_code statuses.ReadFault = 3
+exit_code statuses.WriteFault = 4
+exit_code statuses.OutsideFault = 5
+exit_code statuses.NoMemory = 6
+exit_code statuses.InputTooLong = 7
+exit_code statuses.InputNotUtf8 = 8
 
 -- the line was put: all of it and no fault was counted, or a front of it and one was
 abbrev pub Says : {S : Type 0} → (S → Type 0) → (S → List ℕ) → (S → ℕ) → List ℕ → S → S → Type 0

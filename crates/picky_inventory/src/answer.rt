@@ -1,21 +1,23 @@
 //! What a command writes for the bytes of a source.
 
 ghost use Rattle.std.specs.Prelude.{◌≡◌, ◌≢◌, ℕ, List, Err};
-ghost use Rattle.picky_layout.specs.Outcome.{map_ok};
+ghost use Rattle.std.specs.Option.{option_copied};
+ghost use Rattle.picky_layout.specs.Outcome.{map_err, map_ok};
 ghost use Rattle.picky_wire.specs.Count.{Rose};
-ghost use Rattle.picky_inventory.specs.Run.{left_part, reader, TakesInput};
-ghost use Rattle.picky_inventory.specs.inner.Comes.{Comes, Gives, LeavesFor, Merges};
-ghost use Rattle.picky_issuing.specs.Parts.{key_part};
+ghost use Rattle.picky_wire.specs.Gives.{Gives as GivesOrWants};
+ghost use Rattle.picky_inventory.specs.Listing.{NoneAsks};
+ghost use Rattle.picky_inventory.specs.Merging.{merging};
+ghost use Rattle.picky_inventory.specs.Parted.{text_parts};
+ghost use Rattle.picky_inventory.specs.Run.{reader, unmerged_status, TakesInput};
+ghost use Rattle.picky_inventory.specs.inner.Comes.{Comes, Gives, LeavesFor};
 
-use crate::bad_lines::bad_line;
 use crate::command::Command;
 use crate::listing::list_text;
-use crate::merging::merge_texts;
+use crate::merging::{Unmerged, merge};
 use crate::status::{InventoryStatus, source_status, unread_status};
 use picky_input::take_text;
-use picky_issuing::parts_of;
 use picky_suite::Suite;
-use picky_wire::{NoMemory, Source};
+use picky_wire::Source;
 use std::alloc::Global;
 
 /// The text that the command writes for all bytes that the source has left, or why there is none.
@@ -42,7 +44,9 @@ pub(crate) fn take_answer<S: Suite, I: Source>(
     ensures source_calm { result ≢ Err InventoryStatus.ReadFault → I.faults source.new ≡ I.faults source.old }
     ensures suite_kept { S.meanings suite.new ≡ S.meanings suite.old }
     ensures suite_calm { result ≢ Err InventoryStatus.OutsideFault → S.faults suite.new ≡ S.faults suite.old }
-    ensures suite_unasked { command ≡ Command.Merging → suite.new ≡ suite.old }
+    ensures merging_asks_none { command ≡ Command.Merging → suite.new ≡ suite.old }
+    ensures unasked { I.tells source.old → NoneAsks (option_copied pass.entry) (text_parts (I.left source.old))
+        → suite.new ≡ suite.old }
 {
     match take_text(alloc, source) {
         Ok(text) => {
@@ -66,11 +70,12 @@ fn answer_to<S: Suite>(
         (Rose (S.faults suite.old) (S.faults suite.new)) (map_ok (λ text. text.items) result) }
     ensures kept { S.meanings suite.new ≡ S.meanings suite.old }
     ensures calm { result ≢ Err InventoryStatus.OutsideFault → S.faults suite.new ≡ S.faults suite.old }
-    ensures unasked { command ≡ Command.Merging → suite.new ≡ suite.old }
+    ensures merging_asks_none { command ≡ Command.Merging → suite.new ≡ suite.old }
+    ensures unasked { NoneAsks (option_copied pass.entry) (text_parts text.now) → suite.new ≡ suite.old }
 {
     match command {
         Command::Listing => listed(alloc, pass, suite, text),
-        Command::Merging => union_in(alloc, text),
+        Command::Merging => merged(alloc, text),
     }
 }
 
@@ -85,6 +90,7 @@ fn listed<S: Suite>(
         (Rose (S.faults suite.old) (S.faults suite.new)) (map_ok (λ text. text.items) result) }
     ensures kept { S.meanings suite.new ≡ S.meanings suite.old }
     ensures calm { result ≢ Err InventoryStatus.OutsideFault → S.faults suite.new ≡ S.faults suite.old }
+    ensures unasked { NoneAsks (option_copied pass.entry) (text_parts text.now) → suite.new ≡ suite.old }
 {
     match list_text(alloc, suite, text, pass) {
         Ok(written) => Ok(written),
@@ -93,26 +99,12 @@ fn listed<S: Suite>(
 }
 
 /// The inventory of the union of a text's two. Refuses: `BadLine`.
-fn union_in(alloc: Global, text: &str) -> Result<Vec<u8>, InventoryStatus>
-    ensures { Merges (left_part text.now) (key_part text.now) (map_ok (λ text. text.items) result) }
+fn merged(alloc: Global, text: &str) -> Result<Vec<u8>, InventoryStatus>
+    ensures { GivesOrWants InventoryStatus.NoMemory (λ text. text.items) result (map_err unmerged_status (merging text.now)) }
 {
-    let cut = parts_of(text);
-    match cut.issuer {
-        Some(left) => union_of_texts(alloc, left, cut.key),
-        None => union_of_texts(alloc, "", cut.key),
-    }
-}
-
-/// The inventory of the union of two. Refuses: `BadLine`.
-fn union_of_texts(alloc: Global, left: &str, right: &str) -> Result<Vec<u8>, InventoryStatus>
-    ensures { Merges left.now right.now (map_ok (λ text. text.items) result) }
-{
-    match bad_line(alloc, left, right) {
-        Ok(Some(line)) => Err(InventoryStatus::BadLine(line)),
-        Ok(None) => match merge_texts(alloc, left, right) {
-            Ok(text) => Ok(text),
-            Err(NoMemory) => Err(InventoryStatus::NoMemory),
-        },
-        Err(NoMemory) => Err(InventoryStatus::NoMemory),
+    match merge(alloc, text) {
+        Ok(text) => Ok(text),
+        Err(Unmerged::BadLine(line)) => Err(InventoryStatus::BadLine(line)),
+        Err(Unmerged::NoMemory) => Err(InventoryStatus::NoMemory),
     }
 }

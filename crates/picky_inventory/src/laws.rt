@@ -91,6 +91,12 @@ pub fn inventories_are_merged()
         → merged_or_bad (ordered_text item_line xs) (ordered_text item_line ys) ≡ Ok (ordered_text item_line (xs ++ ys)) }
 {}
 
+/// The items of two lists that are read are those of the lists joined.
+pub fn lists_are_joined()
+    ensures { (r : Reader) (one other : List (List ℕ)) (xs ys : List Item) → items_from r 0 one ≡ Ok xs → items_from r 0 other ≡ Ok ys
+        → items_from r 0 (one ++ other) ≡ Ok (xs ++ ys) }
+{}
+
 /// An inventory is the text of a list of items, and such a text is an inventory.
 pub fn inventory_is_of_items()
     ensures items { (text : List ℕ) → IsInventory text

@@ -8,7 +8,8 @@ ghost use Rattle.picky_suite.specs.Asked.{GivesAsked, LeavesSuite};
 ghost use Rattle.picky_key_text.specs.Order.{asks, fault_of, reading};
 ghost use Rattle.picky_key_text.specs.Want.{IsFault};
 ghost use Rattle.picky_inventory.specs.Items.{item_line, item_of};
-ghost use Rattle.picky_inventory.specs.Listing.{GivesInventory, GivesLines};
+ghost use Rattle.picky_inventory.specs.Listing.{GivesInventory, GivesLines, NoneAsks};
+ghost use Rattle.picky_inventory.specs.Parted.{text_parts};
 
 use crate::lines::{is_blank, line_of};
 use crate::parted::parts;
@@ -38,6 +39,7 @@ pub fn list_text<S: Suite>(
     ensures kept { S.meanings suite.new ≡ S.meanings suite.old }
     ensures calm { OnOk result (S.faults suite.new ≡ S.faults suite.old) }
     ensures calm_unless_fault { IfErr result (λ unread. (IsFault unread.error → ⊥) → S.faults suite.new ≡ S.faults suite.old) }
+    ensures unasked { NoneAsks (option_copied pass.entry) (text_parts text.now) → suite.new ≡ suite.old }
 {
     match parts(alloc, text) {
         Ok(found) => match list_lines(alloc, suite, found.as_slice(), pass) {
@@ -77,6 +79,7 @@ pub fn list_lines<S: Suite>(
     ensures kept { S.meanings suite.new ≡ S.meanings suite.old }
     ensures calm { OnOk result (S.faults suite.new ≡ S.faults suite.old) }
     ensures calm_unless_fault { IfErr result (λ unread. (IsFault unread.error → ⊥) → S.faults suite.new ≡ S.faults suite.old) }
+    ensures unasked { NoneAsks (option_copied pass.entry) (map (λ part. part.now) parts.now) → suite.new ≡ suite.old }
 {
     let mut lines = Vec::new(alloc);
     'parts: for (i, part) in parts.iter().enumerate() {

@@ -1,16 +1,19 @@
 //! The run of the program over a source and two sinks.
 
-ghost use Rattle.std.specs.Prelude.{◌≡◌, ◌≢◌, ◌↔◌, ◌⊎◌, ◌<◌, ◌+◌, ℕ, List, [], length, drop, Some, None, Ok, Err};
+ghost use Rattle.std.specs.Prelude.{◌≡◌, ◌≢◌, ◌↔◌, ◌⊎◌, ◌<◌, ◌+◌, ◌++◌, ℕ, List, [], length, drop, Some, None, Ok, Err};
+ghost use Rattle.std.specs.Option.{option_copied};
 ghost use Rattle.std.specs.Str.{IsUtf8};
 ghost use Rattle.picky_wire.specs.Count.{Rose};
 ghost use Rattle.picky_wire.specs.Puts.{Puts};
-ghost use Rattle.picky_issuing.specs.Parts.{key_part};
+ghost use Rattle.picky_key_text.specs.Reader.{Reader};
 ghost use Rattle.picky_key_text.specs.Want.{IsFault, WantsMemory};
 ghost use Rattle.picky_inventory.specs.BadLine.{bad_line as bad_line_of};
 ghost use Rattle.picky_inventory.specs.Command.{Names};
-ghost use Rattle.picky_inventory.specs.Listing.{inventory};
-ghost use Rattle.picky_inventory.specs.Run.{input_limit, left_part, outcome, reader, usage_line, Explains, IsOutsideFault, ReadsToEnd, Says};
-ghost use Rattle.picky_inventory.specs.Run.{TakesInput, WritesAnswer, WritesPrefix};
+ghost use Rattle.picky_inventory.specs.Listing.{inventory, NoneAsks};
+ghost use Rattle.picky_inventory.specs.Merging.{left_part, right_part};
+ghost use Rattle.picky_inventory.specs.Parted.{text_parts};
+ghost use Rattle.picky_inventory.specs.Run.{input_limit, outcome, reader, usage_line, Explains, IsOfLists, IsOutsideFault, ReadsToEnd, Says};
+ghost use Rattle.picky_inventory.specs.Run.{TakesInput, WritesAnswer, WritesInventory, WritesPrefix};
 ghost use Rattle.picky_inventory.specs.inner.Comes.{Ends, LeavesAt};
 
 use crate::answer::take_answer;
@@ -46,6 +49,11 @@ pub fn run_inventory<S: Suite, I: Source, O: Sink, E: Sink>(
     ensures prefix { (c : Command) → Names words.now c → result ≡ InventoryStatus.WriteFault → I.tells source.old → O.tells out.old
         → WritesPrefix (reader (S.meanings suite.old) pass_in.entry) c (I.left source.old) (O.written out.old) (O.written out.new) }
 
+    // The inventories of two lists are merged to that of the lists joined.
+    ensures merges_lists { (r : Reader) (one other : List (List ℕ)) → IsOfLists r one other (I.left source.old)
+        → Names words.now Command.Merging → result ≡ InventoryStatus.Done → I.tells source.old → O.tells out.old
+        → WritesInventory r (one ++ other) (O.written out.old) (O.written out.new) }
+
     // Whether or not the source tells its bytes, what is written is the answer to some.
     ensures answers { (c : Command) → Names words.now c → result ≡ InventoryStatus.Done → O.tells out.old
         → (input : List ℕ) × WritesAnswer (reader (S.meanings suite.old) pass_in.entry) c input (O.written out.old) (O.written out.new) }
@@ -67,9 +75,9 @@ pub fn run_inventory<S: Suite, I: Source, O: Sink, E: Sink>(
     ensures refused_is_no_want { (n : ℕ) (e : ReadError) → result ≡ InventoryStatus.Refused n e
         → (WantsMemory e → ⊥) × (IsFault e → ⊥) }
     ensures bad_line { (k : ℕ) → result ≡ InventoryStatus.BadLine k → I.tells source.old
-        → bad_line_of (left_part (I.left source.old)) (key_part (I.left source.old)) ≡ Some k }
+        → bad_line_of (left_part (I.left source.old)) (right_part (I.left source.old)) ≡ Some k }
     ensures bad_line_of_some { (k : ℕ) → result ≡ InventoryStatus.BadLine k
-        → (input : List ℕ) × (bad_line_of (left_part input) (key_part input) ≡ Some k) }
+        → (input : List ℕ) × (bad_line_of (left_part input) (right_part input) ≡ Some k) }
     ensures bad_line_merges { (k : ℕ) → result ≡ InventoryStatus.BadLine k → Names words.now Command.Merging }
     ensures outside_fault { (c : Command) → Names words.now c → result ≡ InventoryStatus.OutsideFault → I.tells source.old
         → IsOutsideFault (reader (S.meanings suite.old) pass_in.entry) c (I.left source.old) (Rose (S.faults suite.old) (S.faults suite.new)) }
@@ -99,7 +107,9 @@ pub fn run_inventory<S: Suite, I: Source, O: Sink, E: Sink>(
 
     // What is left and what is written; a source and a sink that tell go on telling.
     ensures suite_kept { S.meanings suite.new ≡ S.meanings suite.old }
-    ensures suite_unasked { Names words.now Command.Merging → suite.new ≡ suite.old }
+    ensures merging_asks_none { Names words.now Command.Merging → suite.new ≡ suite.old }
+    ensures unasked { I.tells source.old → NoneAsks (option_copied pass_in.entry) (text_parts (I.left source.old))
+        → suite.new ≡ suite.old }
     ensures source_tells { I.tells source.old → I.tells source.new }
     ensures out_tells { O.tells out.old → O.tells out.new }
     ensures end { ReadsToEnd result → I.tells source.old → I.left source.new ≡ [] }
@@ -146,7 +156,9 @@ fn perform<S: Suite, I: Source, O: Sink>(
     ensures out_calm { result ≢ InventoryStatus.WriteFault → O.faults out.new ≡ O.faults out.old }
     ensures suite_kept { S.meanings suite.new ≡ S.meanings suite.old }
     ensures suite_calm { result ≢ InventoryStatus.OutsideFault → S.faults suite.new ≡ S.faults suite.old }
-    ensures suite_unasked { command ≡ Command.Merging → suite.new ≡ suite.old }
+    ensures merging_asks_none { command ≡ Command.Merging → suite.new ≡ suite.old }
+    ensures unasked { I.tells source.old → NoneAsks (option_copied pass.entry) (text_parts (I.left source.old))
+        → suite.new ≡ suite.old }
     ensures unwritten { result ≢ InventoryStatus.Done → result ≢ InventoryStatus.WriteFault → out.new ≡ out.old }
 {
     match take_answer(alloc, command, pass, suite, source) {

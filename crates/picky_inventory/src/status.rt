@@ -36,6 +36,27 @@ pub enum InventoryStatus {
     BadLine(usize),
 }
 
+impl InventoryStatus {
+    ghost use Rattle.picky_inventory.specs.Run.{exit_code as exit_code_of};
+
+    /// The number with which the program ends: 0 for Done.
+    pub fn exit_code(&self) -> u8
+        ensures { result ≡ exit_code_of self.now }
+    {
+        match self {
+            InventoryStatus::Done => 0,
+            InventoryStatus::Refused(_, _) | InventoryStatus::BadLine(_) => 1,
+            InventoryStatus::Usage => 2,
+            InventoryStatus::ReadFault => 3,
+            InventoryStatus::WriteFault => 4,
+            InventoryStatus::OutsideFault => 5,
+            InventoryStatus::NoMemory => 6,
+            InventoryStatus::InputTooLong => 7,
+            InventoryStatus::InputNotUtf8 => 8,
+        }
+    }
+}
+
 /// The status of a source that has no text.
 pub(crate) fn source_status(e: SourceError) -> InventoryStatus
     ensures { result ≡ status_of_source e }

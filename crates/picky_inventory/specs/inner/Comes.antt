@@ -8,7 +8,7 @@ use Rattle.picky_key_text.specs.declared.error.ReadError.TheVariants as errors
 use Rattle.picky_inventory.specs.declared.command.Command.{Command}
 use Rattle.picky_inventory.specs.declared.status.InventoryStatus.{InventoryStatus}
 use Rattle.picky_inventory.specs.declared.status.InventoryStatus.TheVariants as statuses
-use Rattle.picky_inventory.specs.Run.{IsFaultOf, IsOutsideFault, answer, input_limit, outcome, union}
+use Rattle.picky_inventory.specs.Run.{IsFaultOf, IsOutsideFault, answer, input_limit, outcome}
 
 -- a part that isn't read, where want of memory is the run's, and the suite's fault is the one from outside
 abbrev pub unread_status : ℕ → ReadError → InventoryStatus
@@ -23,11 +23,6 @@ Gives r command text rose (Ok written) = answer r command text ≡ Ok written
 Gives r command text rose (Err status) =
     (status ≡ statuses.NoMemory) ⊎ ((status ≡ statuses.OutsideFault) × IsFaultOf r command text rose)
     ⊎ (answer r command text ≡ Err status)
-
--- the union of two inventories, or want of memory, or their first bad line
-abbrev pub Merges : (left right : List ℕ) → Result (List ℕ) InventoryStatus → Type 0
-Merges left right (Ok written) = union left right ≡ Ok written
-Merges left right (Err status) = (status ≡ statuses.NoMemory) ⊎ (union left right ≡ Err status)
 
 -- the same for the bytes of a source, which may fail
 abbrev pub Comes : Reader → Command → (input : List ℕ) (read_rose suite_rose : Type 0) → Result (List ℕ) InventoryStatus

@@ -1,6 +1,11 @@
 -- The answer to the source's text, or why there is no text.
-use Rattle.std.proofs.Common.{◌∙◌, Err, Ok, ap, sym}
+use Rattle.std.proofs.Common.{◌≡◌, ◌∙◌, Err, Ok, ap, subst, sym}
+use Rattle.std.specs.Option.{option_copied}
 use Rattle.picky_layout.specs.Outcome.{map_ok}
+use Rattle.picky_input.specs.SourceText.{text_of}
+use Rattle.picky_input.proofs.TextLaws.{is_source_text}
+use Rattle.picky_inventory.specs.Listing.{NoneAsks}
+use Rattle.picky_inventory.specs.Parted.{text_parts}
 use Rattle.picky_inventory.specs.Run.{reader}
 use Rattle.picky_inventory.proofs.RunLemmas.{source_comes, text_comes, text_leaves}
 use Rattle.picky_inventory.proofs.answer.take_answer.Goals as goal
@@ -24,6 +29,13 @@ returns-in-Ok-clause-leaves g c = λ told.
     text_leaves (reader (g.S.Suite.meanings c.args.suite.now) c.args.pass) c.args.command c.as_str.result.now _
     (map_ok (λ text. text.items) c.answer_to-answer.result) _ _ c.answer_to-answer.ensures.gives
     (c.in-Ok.ensures.takes.leaves told)
+
+pub returns-in-Ok-clause-unasked : goal.returns-in-Ok-clause-unasked
+returns-in-Ok-clause-unasked g c = λ told none.
+    let input = g.I.Source.left c.args.source.now in
+    let is : text_of input ≡ Ok c.as_str.result.now = c.in-Ok.ensures.takes.reads told ∙ ap Ok (sym c.as_str.ensures.bytes) in
+    c.answer_to-answer.ensures.unasked
+    (subst (λ t. NoneAsks (option_copied c.args.pass) (text_parts t)) (sym (is_source_text input c.as_str.result.now is).1) none)
 
 pub returns-in-Err-clause-told : goal.returns-in-Err-clause-told
 returns-in-Err-clause-told g c = λ told.

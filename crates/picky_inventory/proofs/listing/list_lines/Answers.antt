@@ -7,7 +7,7 @@ use Rattle.picky_suite.specs.Meanings.{Meanings}
 use Rattle.picky_key_text.specs.Order.{reading}
 use Rattle.picky_key_text.specs.Reader.{Reader}
 use Rattle.picky_inventory.specs.Items.{is_blank, item_line, item_of}
-use Rattle.picky_inventory.proofs.ListingLaws.{blank_more, line_more, lines_more, refused_gives}
+use Rattle.picky_inventory.proofs.ListingLaws.{blank_more, line_more, lines_more, none_asks_at, refused_gives}
 use Rattle.picky_inventory.proofs.RunLemmas.{calm_of}
 use Rattle.picky_inventory.proofs.listing.list_lines.Goals as goal
 use Rattle.picky_inventory.proofs.listing.list_lines.Goals.{then-not-is_blank+in-Ok+in-Ok-push, else-not-is_blank}
@@ -28,6 +28,22 @@ returns-in-Err-clause-calm_unless_fault g c =
     let d : Bor (List ℕ) = record { ref_ptr = (0, 0); now = [] } in
     let found : Bor (List ℕ) = get_or c.args.parts.now c.parts.i d in
     calm_of c.in-Err.error found.now _ _ _ c.in-Err.ensures.suite.calm c.parts.invariant.calm
+
+pub returns-in-Err-clause-unasked : goal.returns-in-Err-clause-unasked
+returns-in-Err-clause-unasked g c = λ none.
+    let see = λ (part : Bor (List ℕ)). part.now in
+    let d : Bor (List ℕ) = record { ref_ptr = (0, 0); now = [] } in
+    let below : c.parts.i < length c.args.parts.now = omega arith in
+    c.in-Err.ensures.suite.unasked (none_asks_at see (option_copied c.args.pass) c.args.parts.now c.parts.i d below none)
+    ∙ c.parts.invariant.unasked none
+
+pub returns-in-Err-push-clause-unasked : goal.returns-in-Err-push-clause-unasked
+returns-in-Err-push-clause-unasked g c = λ none.
+    let see = λ (part : Bor (List ℕ)). part.now in
+    let d : Bor (List ℕ) = record { ref_ptr = (0, 0); now = [] } in
+    let below : c.parts.i < length c.args.parts.now = omega arith in
+    c.in-Ok.ensures.suite.unasked (none_asks_at see (option_copied c.args.pass) c.args.parts.now c.parts.i d below none)
+    ∙ c.parts.invariant.unasked none
 
 pub parts-preserved : goal.parts-preserved
 parts-preserved g c =
@@ -56,6 +72,9 @@ parts-preserved g c =
             kept =
                 ap g.S.Suite.meanings w.suite-is ∙ w.in-Ok.ensures.suite.kept ∙ c.parts.invariant.kept;
             calm = ap g.S.Suite.faults w.suite-is ∙ w.in-Ok.ensures.suite.calm ∙ c.parts.invariant.calm;
+            unasked =
+                λ none. w.suite-is ∙ w.in-Ok.ensures.suite.unasked (none_asks_at see pass c.args.parts.now c.parts.i d below none)
+                ∙ c.parts.invariant.unasked none;
           }
       | else-not-is_blank w ↦
           let blank : is_blank found ≡ true = sym c.is_blank.ensures ∙ w.if-not-is_blank.false in
@@ -65,5 +84,6 @@ parts-preserved g c =
                 ∙ ap (λ (v : Vec (Vec ℕ Global) Global). Ok (map shown v.items)) (sym w.lines-is);
             kept = ap g.S.Suite.meanings w.suite-is ∙ c.parts.invariant.kept;
             calm = ap g.S.Suite.faults w.suite-is ∙ c.parts.invariant.calm;
+            unasked = λ none. w.suite-is ∙ c.parts.invariant.unasked none;
           }
     ]

@@ -1,9 +1,11 @@
 -- What a status says of the bytes.
-use Rattle.std.proofs.Common.{◌≡◌, ◌∙◌, Some, ap}
+use Rattle.std.proofs.Common.{◌≡◌, ◌∙◌, Some, ap, sym}
 use Rattle.picky_inventory.specs.Command.{command_of}
-use Rattle.picky_inventory.specs.Run.{reader}
+use Rattle.picky_inventory.specs.Run.{outcome, reader}
+use Rattle.picky_inventory.specs.declared.command.Command.TheVariants as commands
 use Rattle.picky_inventory.specs.declared.status.InventoryStatus.TheVariants as statuses
 use Rattle.picky_inventory.proofs.EndLemmas.{bad_so, ends_at, no_text_so, refused_so, too_long_so}
+use Rattle.picky_inventory.proofs.JoinedLaws.{joined_is_written}
 use Rattle.picky_inventory.proofs.RunLemmas.{inventory_own}
 use Rattle.picky_inventory.proofs.run.run_inventory.Goals as goal
 
@@ -50,3 +52,17 @@ returns-in-Some-clause-bad_line_merges g c = λ k is.
     let some = c.perform.ensures.some (λ long. cc (is, long)) (λ other. cc (is, other)) in
     let named : command_of c.args.words.now ≡ Some c.in-Some.command = cc (c.command_of.ensures, c.in-Some.is) in
     named ∙ ap Some (bad_so (reader (g.S.Suite.meanings c.args.suite.now) c.args.pass_in) c.in-Some.command some.0 k (ends_at (reader (g.S.Suite.meanings c.args.suite.now) c.args.pass_in) c.in-Some.command some.0 _ _ _ _ _ _ c.perform.result (statuses.BadLine k) is (some.1))).0
+
+pub returns-in-Some-clause-merges_lists : goal.returns-in-Some-clause-merges_lists
+returns-in-Some-clause-merges_lists g c = λ r one other lists names is told tells.
+    let m = reader (g.S.Suite.meanings c.args.suite.now) c.args.pass_in in
+    let input = g.I.Source.left c.args.source.now in
+    let named : command_of c.args.words.now ≡ Some c.in-Some.command = cc (c.command_of.ensures, c.in-Some.is) in
+    let both : Some c.in-Some.command ≡ Some commands.Merging = sym named ∙ names in
+    let merges : c.in-Some.command ≡ commands.Merging = cc both in
+    let ends = ends_at m c.in-Some.command input _ _ _ _ _ _ c.perform.result statuses.Done is (c.perform.ensures.told told) in
+    record {
+      text = ends.0;
+      is_inventory = joined_is_written m r one other input ends.0 lists (ap (λ k. outcome m k input) (sym merges) ∙ ends.1);
+      written = ends.2 tells;
+    }
