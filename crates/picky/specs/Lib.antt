@@ -106,7 +106,7 @@ pub use Rattle.picky_cert_parts.specs.Field as CertPartField
 pub use Rattle.picky_cert_parts.specs.NumberTable
 pub use Rattle.picky_cert_parts.specs.Signature
 pub use Rattle.picky_cert_parts.specs.SignatureSpelled
-pub use Rattle.picky_cert_blob.specs.Items
+pub use Rattle.picky_cert_blob.specs.Items as CertBlobItems
 pub use Rattle.picky_cert_blob.specs.Keeps as CertBlobKeeps
 pub use Rattle.picky_cert_blob.specs.Layout
 pub use Rattle.picky_cert_blob.specs.Listed
@@ -214,6 +214,16 @@ pub use Rattle.picky_issuing.specs.Options
 pub use Rattle.picky_issuing.specs.Parts as IssuingParts
 pub use Rattle.picky_issuing.specs.Steps
 pub use Rattle.picky_issuing.specs.Value
+pub use Rattle.picky_inventory.specs.BadLine
+pub use Rattle.picky_inventory.specs.Command as InventoryCommand
+pub use Rattle.picky_inventory.specs.InOrder
+pub use Rattle.picky_inventory.specs.ItemLine
+pub use Rattle.picky_inventory.specs.Items as InventoryItems
+pub use Rattle.picky_inventory.specs.Listing
+pub use Rattle.picky_inventory.specs.Merging
+pub use Rattle.picky_inventory.specs.OrderedText
+pub use Rattle.picky_inventory.specs.Parted
+pub use Rattle.picky_inventory.specs.Run as InventoryRun
 pub use Rattle.picky_cert_target.specs.Certified
 pub use Rattle.picky_cert_target.specs.Drafted as CertTargetDrafted
 pub use Rattle.picky_cert_target.specs.Request as CertTargetRequest

@@ -5,6 +5,7 @@
 #![tactic(auto)]
 
 pub mod convert;
+pub mod inventory;
 pub mod putty;
 pub mod ssh;
 pub mod wire;
