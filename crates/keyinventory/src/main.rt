@@ -1,0 +1,103 @@
+//! The program: its words, its passphrase, standard input, standard output and standard error.
+#![tactic(auto)]
+
+use picky_inventory::{InventoryStatus, run_inventory};
+use picky_main::{GivenError, text_given, variable, words};
+use picky_suite::PlainSuite;
+use picky_wire::{StdSink, StdSource, Text};
+use std::process::ExitCode;
+
+const HELP: &str = "usage: keyinventory list|merge < TEXTS
+
+Says which keys a heap of key texts has, each once. Reads standard input, and writes to standard output, by the word:
+
+  list       the inventory of key texts, between which a line stands that is exactly %%
+  merge      the inventory of all that is in one of two inventories, between which such a line stands
+
+  --help     this text
+  --version  the version
+
+An inventory has a line for each key: private or public, a space, the public key in base64, as a public key line has it, a
+space, and the comment in base64. The lines are sorted by their bytes, and none stands twice. So neither the order of the
+texts nor how often one stands there changes it, and an inventory that is merged with itself stays as it is.
+
+A key text is whatever keyconv reads: an OpenSSH private key, a PuTTY private key file of version 2 or 3, a PuTTY public key, a
+public key line or a certificate. Of each its first key counts, and what follows that is skipped. A text of white space alone
+has no key. A text that isn't read ends the run.
+
+Environment: KEYCONV_PASS_IN, the passphrase of sealed keys. This program has no ciphers: a sealed key ends with status 1
+without it, and with status 5 with it. List its public key, or a copy without passphrase.
+
+Status: 0 done, 1 a text isn't a key's or a line isn't an inventory's, 2 usage, 3 read fault, 4 write fault, 5 outside fault, 6
+out of memory, 7 input over 16 MiB, 8 input not UTF-8. With 0 all is written, with 4 a part or nothing, with the others nothing.
+Only 2 has a line on standard error.
+";
+
+const VERSION: &str = "keyinventory 0.1.0\n";
+
+const PASS_IN: &str = "KEYCONV_PASS_IN";
+
+fn main(rt: HostRuntime) -> ExitCode {
+    match words(&rt) {
+        Ok(words) => answer(&rt, words.as_slice()),
+        Err(e) => end(&rt, e),
+    }
+}
+
+/// Does what the words say.
+fn answer(rt: &HostRuntime, words: &[Text]) -> ExitCode {
+    match words {
+        [word] if word.as_str() == "--help" => print(rt, HELP),
+        [word] if word.as_str() == "--version" => print(rt, VERSION),
+        words => perform(rt, words),
+    }
+}
+
+/// Runs the command with what the environment gives.
+fn perform(rt: &HostRuntime, words: &[Text]) -> ExitCode {
+    match variable(rt, PASS_IN) {
+        Ok(pass_in) => start(rt, words, text_given(&pass_in)),
+        Err(e) => end(rt, e),
+    }
+}
+
+/// Runs the command over the standard streams.
+fn start(rt: &HostRuntime, words: &[Text], pass_in: Option<&str>) -> ExitCode {
+    let mut suite = PlainSuite::new();
+    let mut source = StdSource::new(rt.stdin());
+    let mut out = StdSink::new(rt.stdout());
+    let mut err = StdSink::new(rt.stderr());
+    let status = run_inventory(
+        rt.alloc(),
+        words,
+        pass_in,
+        &mut suite,
+        &mut source,
+        &mut out,
+        &mut err,
+    );
+    exit_code(status)
+}
+
+/// Prints a text on standard output.
+fn print(rt: &HostRuntime, text: &str) -> ExitCode {
+    match rt.print(text) {
+        Ok(()) => ExitCode::SUCCESS,
+        Err(_) => exit_code(InventoryStatus::WriteFault),
+    }
+}
+
+/// Ends where something given can't be taken: no words are those of a faulty command line, whose usage line the run writes.
+fn end(rt: &HostRuntime, e: GivenError) -> ExitCode {
+    match e {
+        GivenError::Unfit => start(rt, &[], None),
+        GivenError::NoMemory => exit_code(InventoryStatus::NoMemory),
+    }
+}
+
+/// How the process ends.
+fn exit_code(status: InventoryStatus) -> ExitCode {
+    let code = status.exit_code();
+    drop(status);
+    ExitCode::from(code)
+}
