@@ -3,7 +3,6 @@ pub mod EndLemmas
 pub mod EndedLaws
 pub mod ItemLaws
 pub mod ItemLineLaws
-pub mod JoinedLaws
 pub mod ListingLaws
 pub mod MergingLaws
 pub mod OrderLaws
@@ -11,3 +10,4 @@ pub mod PartsLaws
 pub mod ReadLaws
 pub mod RunLemmas
 pub mod TextLaws
+pub mod WrittenLaws

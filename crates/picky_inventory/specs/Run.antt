@@ -1,5 +1,5 @@
 -- A run: what it writes for the bytes of its source, and how it ends.
-use Rattle.std.specs.Prelude.{◌≡◌, ◌<◌, ◌++◌, ℕ, List, length, take, codes, Option, Result, Ok, Err}
+use Rattle.std.specs.Prelude.{◌≡◌, ◌↔◌, ◌<◌, ◌++◌, ℕ, List, length, take, codes, Option, Result, Ok, Err}
 use Rattle.std.specs.Option.{IfSome}
 use Rattle.std.specs.List.{AllByRecursion}
 use Rattle.std.specs.Str.{IsUtf8}
@@ -23,8 +23,11 @@ use Rattle.picky_inventory.specs.declared.status.InventoryStatus.{InventoryStatu
 use Rattle.picky_inventory.specs.declared.status.InventoryStatus.TheVariants as statuses
 use Rattle.picky_inventory.specs.declared.merging.Unmerged.{Unmerged}
 use Rattle.picky_inventory.specs.declared.merging.Unmerged.TheVariants as merges
+use Rattle.picky_inventory.specs.InOrder.{SameItems}
+use Rattle.picky_inventory.specs.Items.{Item, item_line, items_from}
 use Rattle.picky_inventory.specs.Listing.{FaultAt, inventory, inventory_of}
 use Rattle.picky_inventory.specs.Merging.{merging}
+use Rattle.picky_inventory.specs.OrderedText.{ordered_text}
 use Rattle.picky_inventory.specs.Parted.{text_parts}
 
 -- the line that says which words there are
@@ -111,6 +114,12 @@ pub record IsOfLists (r : Reader) (one other : List (List ℕ)) (input : List �
   pub left_is : inventory_of r one ≡ Ok left
   pub right_is : inventory_of r other ≡ Ok right
   pub whole : input ≡ left ++ mark_lf ++ right
+
+-- what was written is the text of these items exactly where they are the set of those of the source
+pub record WritesSet (r : Reader) (input : List ℕ) (others : List Item) (before after : List ℕ) : Type 0 where
+  pub items : List Item
+  pub are : items_from r 0 (text_parts input) ≡ Ok items
+  pub same : (after ≡ before ++ ordered_text item_line others) ↔ SameItems items others
 
 -- the inventory of a list was written
 pub record WritesInventory (r : Reader) (list : List (List ℕ)) (before after : List ℕ) : Type 0 where

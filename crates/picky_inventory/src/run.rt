@@ -1,19 +1,22 @@
 //! The run of the program over a source and two sinks.
 
 ghost use Rattle.std.specs.Prelude.{◌≡◌, ◌≢◌, ◌↔◌, ◌⊎◌, ◌<◌, ◌+◌, ◌++◌, ℕ, List, [], length, drop, Some, None, Ok, Err};
-ghost use Rattle.std.specs.Option.{option_copied};
+ghost use Rattle.std.specs.List.{AllByRecursion};
+ghost use Rattle.std.specs.Option.{IfSome, option_copied};
 ghost use Rattle.std.specs.Str.{IsUtf8};
 ghost use Rattle.picky_wire.specs.Count.{Rose};
 ghost use Rattle.picky_wire.specs.Puts.{Puts};
 ghost use Rattle.picky_key_text.specs.Reader.{Reader};
 ghost use Rattle.picky_key_text.specs.Want.{IsFault, WantsMemory};
-ghost use Rattle.picky_inventory.specs.BadLine.{bad_line as bad_line_of};
+ghost use Rattle.picky_issuing.specs.Parts.{mark_lf};
+ghost use Rattle.picky_inventory.specs.BadLine.{bad_line as bad_line_of, IsInventory};
 ghost use Rattle.picky_inventory.specs.Command.{Names};
+ghost use Rattle.picky_inventory.specs.Items.{Item, IsItem};
 ghost use Rattle.picky_inventory.specs.Listing.{inventory, NoneAsks};
 ghost use Rattle.picky_inventory.specs.Merging.{left_part, right_part};
 ghost use Rattle.picky_inventory.specs.Parted.{text_parts};
 ghost use Rattle.picky_inventory.specs.Run.{input_limit, outcome, reader, usage_line, Explains, IsOfLists, IsOutsideFault, ReadsToEnd, Says};
-ghost use Rattle.picky_inventory.specs.Run.{TakesInput, WritesAnswer, WritesInventory, WritesPrefix};
+ghost use Rattle.picky_inventory.specs.Run.{TakesInput, WritesAnswer, WritesInventory, WritesPrefix, WritesSet};
 ghost use Rattle.picky_inventory.specs.inner.Comes.{Ends, LeavesAt};
 
 use crate::answer::take_answer;
@@ -49,10 +52,18 @@ pub fn run_inventory<S: Suite, I: Source, O: Sink, E: Sink>(
     ensures prefix { (c : Command) → Names words.now c → result ≡ InventoryStatus.WriteFault → I.tells source.old → O.tells out.old
         → WritesPrefix (reader (S.meanings suite.old) pass_in.entry) c (I.left source.old) (O.written out.old) (O.written out.new) }
 
-    // The inventories of two lists are merged to that of the lists joined.
+    // One set has one text: what is listed is that of other items exactly where the sets are the same.
+    ensures binds { (others : List Item) → AllByRecursion IsItem others → IfSome (option_copied pass_in.entry) IsUtf8
+        → Names words.now Command.Listing → result ≡ InventoryStatus.Done → I.tells source.old → O.tells out.old
+        → WritesSet (reader (S.meanings suite.old) pass_in.entry) (I.left source.old) others (O.written out.old) (O.written out.new) }
+
+    // The inventories of two lists are merged to that of the lists joined, and one with itself to itself.
     ensures merges_lists { (r : Reader) (one other : List (List ℕ)) → IsOfLists r one other (I.left source.old)
         → Names words.now Command.Merging → result ≡ InventoryStatus.Done → I.tells source.old → O.tells out.old
         → WritesInventory r (one ++ other) (O.written out.old) (O.written out.new) }
+    ensures merges_itself { (text : List ℕ) → IsInventory text → I.left source.old ≡ text ++ mark_lf ++ text
+        → Names words.now Command.Merging → result ≡ InventoryStatus.Done → I.tells source.old → O.tells out.old
+        → O.written out.new ≡ O.written out.old ++ text }
 
     // Whether or not the source tells its bytes, what is written is the answer to some.
     ensures answers { (c : Command) → Names words.now c → result ≡ InventoryStatus.Done → O.tells out.old

@@ -1,5 +1,5 @@
 -- The items of lists joined.
-use Rattle.picky_inventory.proofs.JoinedLaws.{items_joined}
+use Rattle.picky_inventory.proofs.WrittenLaws.{items_joined}
 use Rattle.picky_inventory.proofs.laws.lists_are_joined.Goals as goal
 
 pub returns : goal.returns

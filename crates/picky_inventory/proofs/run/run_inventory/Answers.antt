@@ -1,11 +1,11 @@
 -- What a status says of the bytes.
-use Rattle.std.proofs.Common.{◌≡◌, ◌∙◌, Some, ap, sym}
+use Rattle.std.proofs.Common.{◌≡◌, ◌∙◌, ◌++◌, Some, ap, sym}
 use Rattle.picky_inventory.specs.Command.{command_of}
 use Rattle.picky_inventory.specs.Run.{outcome, reader}
 use Rattle.picky_inventory.specs.declared.command.Command.TheVariants as commands
 use Rattle.picky_inventory.specs.declared.status.InventoryStatus.TheVariants as statuses
 use Rattle.picky_inventory.proofs.EndLemmas.{bad_so, ends_at, no_text_so, refused_so, too_long_so}
-use Rattle.picky_inventory.proofs.JoinedLaws.{joined_is_written}
+use Rattle.picky_inventory.proofs.WrittenLaws.{itself_is_written, joined_is_written, set_is_written}
 use Rattle.picky_inventory.proofs.RunLemmas.{inventory_own}
 use Rattle.picky_inventory.proofs.run.run_inventory.Goals as goal
 
@@ -66,3 +66,24 @@ returns-in-Some-clause-merges_lists g c = λ r one other lists names is told tel
       is_inventory = joined_is_written m r one other input ends.0 lists (ap (λ k. outcome m k input) (sym merges) ∙ ends.1);
       written = ends.2 tells;
     }
+
+pub returns-in-Some-clause-merges_itself : goal.returns-in-Some-clause-merges_itself
+returns-in-Some-clause-merges_itself g c = λ text inventory whole names is told tells.
+    let m = reader (g.S.Suite.meanings c.args.suite.now) c.args.pass_in in
+    let input = g.I.Source.left c.args.source.now in
+    let named : command_of c.args.words.now ≡ Some c.in-Some.command = cc (c.command_of.ensures, c.in-Some.is) in
+    let both : Some c.in-Some.command ≡ Some commands.Merging = sym named ∙ names in
+    let merges : c.in-Some.command ≡ commands.Merging = cc both in
+    let ends = ends_at m c.in-Some.command input _ _ _ _ _ _ c.perform.result statuses.Done is (c.perform.ensures.told told) in
+    let written = itself_is_written m input text ends.0 inventory whole (ap (λ k. outcome m k input) (sym merges) ∙ ends.1) in
+    ends.2 tells ∙ ap (λ t. g.O.Sink.written c.args.out.now ++ t) written
+
+pub returns-in-Some-clause-binds : goal.returns-in-Some-clause-binds
+returns-in-Some-clause-binds g c = λ others all pass names is told tells.
+    let m = reader (g.S.Suite.meanings c.args.suite.now) c.args.pass_in in
+    let input = g.I.Source.left c.args.source.now in
+    let named : command_of c.args.words.now ≡ Some c.in-Some.command = cc (c.command_of.ensures, c.in-Some.is) in
+    let both : Some c.in-Some.command ≡ Some commands.Listing = sym named ∙ names in
+    let lists : c.in-Some.command ≡ commands.Listing = cc both in
+    let ends = ends_at m c.in-Some.command input _ _ _ _ _ _ c.perform.result statuses.Done is (c.perform.ensures.told told) in
+    set_is_written m input others _ _ ends.0 pass all (ap (λ k. outcome m k input) (sym lists) ∙ ends.1) (ends.2 tells)

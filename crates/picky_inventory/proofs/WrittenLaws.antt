@@ -1,8 +1,10 @@
--- The inventories of two lists, with a line `%%` between, are merged to that of the lists joined.
+-- What a run writes: the text of a set, and of two lists with a line `%%` between that of the lists joined.
 use Rattle.std.proofs.Common.{◌≡◌, ◌+◌, ℕ, false, List, [], ◌∷◌, ◌++◌, Some, Result, Ok, Err, refl, sym, ◌∙◌, ap, ap₂, inl, inr, subst}
 use Rattle.std.proofs.lemmas.Bool.{cases_Bool}
-use Rattle.std.proofs.lemmas.List.{append_assoc}
+use Rattle.std.proofs.lemmas.List.{append_assoc, append_cancel_left}
 use Rattle.std.specs.List.{AllByRecursion, concat}
+use Rattle.std.specs.Option.{IfSome}
+use Rattle.std.specs.Str.{IsUtf8}
 use Rattle.picky_layout.specs.Outcome.{and_then, map_err, map_ok}
 use Rattle.picky_text.proofs.ListLaws.{all_weaker}
 use Rattle.picky_issuing.specs.Parts.{cut, cut_lines, after_line, is_mark, issuer_of, key_of, lines_with_ends, mark_lf}
@@ -18,13 +20,16 @@ use Rattle.picky_inventory.specs.declared.command.Command.TheVariants as command
 use Rattle.picky_inventory.specs.declared.merging.Unmerged.{Unmerged}
 use Rattle.picky_inventory.specs.BadLine.{IsInventory, IsItemLine}
 use Rattle.picky_inventory.specs.Items.{Item, IsItem, IsPrivate, IsPublic, Kind, item_line, item_of, is_blank, items_from, refused}
-use Rattle.picky_inventory.specs.Listing.{inventory_of}
-use Rattle.picky_inventory.specs.Merging.{merged_or_bad, merging, or_empty}
-use Rattle.picky_inventory.specs.OrderedText.{IsWholeLine, ordered_text}
-use Rattle.picky_inventory.specs.Run.{IsOfLists, answer, outcome, source_status, unmerged_status}
-use Rattle.picky_inventory.proofs.BadLineLaws.{inventory_is_whole, items_are_inventory}
+use Rattle.picky_inventory.specs.Listing.{inventory, inventory_of}
+use Rattle.picky_inventory.specs.Merging.{merged_or_bad, merging, or_empty, unless_bad}
+use Rattle.picky_inventory.specs.OrderedText.{IsWholeLine, merged, ordered_text}
+use Rattle.picky_inventory.specs.Parted.{text_parts}
+use Rattle.picky_inventory.specs.Run.{IsOfLists, WritesSet, answer, outcome, refusal, source_status, unmerged_status}
+use Rattle.picky_inventory.proofs.BadLineLaws.{inventory_is_whole, items_are_inventory, no_bad_line}
+use Rattle.picky_inventory.proofs.ItemLaws.{inventory_of_its_set}
 use Rattle.picky_inventory.proofs.MergingLaws.{inventories_merged}
-use Rattle.picky_inventory.proofs.ReadLaws.{read_items}
+use Rattle.picky_inventory.proofs.ReadLaws.{parts_text, read_items}
+use Rattle.picky_inventory.proofs.TextLaws.{merged_with_itself}
 
 -- ---- the mark between two inventories
 
@@ -59,15 +64,23 @@ inventory_is_cut left right is =
     ∙ cut_past lines (lines_with_ends rest) right none (ap (λ l. Some ([], l)) (lines_joined right))
     ∙ ap (λ l. Some (l, right)) (lines_joined left)
 
+halves_merged : (left right : List ℕ) → IsInventory left → merging (left ++ mark_lf ++ right) ≡ merged_or_bad left right
+halves_merged left right is =
+    let text : List ℕ = left ++ mark_lf ++ right in
+    ap (λ c. merged_or_bad (or_empty (issuer_of c)) (key_of text c)) (inventory_is_cut left right is)
+
+-- an inventory with itself
+itself_merged : (text : List ℕ) → IsInventory text → merging (text ++ mark_lf ++ text) ≡ Ok text
+itself_merged text is =
+    halves_merged text text is ∙ ap (λ k. unless_bad k (merged text text)) ((no_bad_line text text).1 (is, is))
+    ∙ ap Ok (merged_with_itself text is.sorted)
+
 -- ---- items of two lists
 
 merging_is : (xs ys : List Item) → AllByRecursion IsItem xs → AllByRecursion IsItem ys
     → merging (ordered_text item_line xs ++ mark_lf ++ ordered_text item_line ys) ≡ Ok (ordered_text item_line (xs ++ ys))
 merging_is xs ys one other =
-    let left : List ℕ = ordered_text item_line xs in
-    let right : List ℕ = ordered_text item_line ys in
-    let text : List ℕ = left ++ mark_lf ++ right in
-    ap (λ c. merged_or_bad (or_empty (issuer_of c)) (key_of text c)) (inventory_is_cut left right (items_are_inventory xs one))
+    halves_merged (ordered_text item_line xs) (ordered_text item_line ys) (items_are_inventory xs one)
     ∙ inventories_merged xs ys one other
 
 first_joined : (meaning : Meaning) (rest all : Result (List Item) (ℕ × ReadError)) (xs ys : List Item)
@@ -160,3 +173,45 @@ joined_is_written m r one other input text lists is =
     let says = sym (merges_to input text m is) ∙ ap merging whole ∙ merging_is xs.0 ys.0 one_items other_items in
     let written : text ≡ ordered_text item_line (xs.0 ++ ys.0) = cc says in
     ap (map_ok (ordered_text item_line)) (items_joined r 0 0 one other xs.0 ys.0 xs.1 ys.1) ∙ ap Ok (sym written)
+
+pub itself_is_written : (m : Reader) (input text written : List ℕ) → IsInventory text → input ≡ text ++ mark_lf ++ text
+    → outcome m commands.Merging input ≡ Ok written → written ≡ text
+itself_is_written m input text written inventory whole is =
+    let says = sym (merges_to input written m is) ∙ ap merging whole ∙ itself_merged text inventory in
+    cc says
+
+lists_to : (m : Reader) (input text : List ℕ) → outcome m commands.Listing input ≡ Ok text
+    → IsUtf8 input × (inventory m input ≡ Ok text)
+unfolding outcome
+lists_to m input text = go (text_of input) refl
+  where
+    of_status : (says : Result (List ℕ) (ℕ × ReadError)) → map_err refusal says ≡ Ok text → says ≡ Ok text
+    of_status (Ok written) is = let same : written ≡ text = cc is in ap Ok same
+    of_status (Err e) is = cc is
+
+    go : (found : Result (List ℕ) SourceError) → text_of input ≡ found
+        → and_then (map_err source_status found) (answer m commands.Listing) ≡ Ok text
+        → IsUtf8 input × (inventory m input ≡ Ok text)
+    go (Ok source) says is =
+        let known = is_source_text input source says in
+        (known.0.utf8, subst (λ t. inventory m t ≡ Ok text) known.1 (of_status (inventory m source) is))
+    go (Err e) says is = cc is
+
+-- what is written is the text of other items exactly where they are the same set
+pub set_is_written : (m : Reader) (input : List ℕ) (ys : List Item) (before after text : List ℕ) → IfSome m.pass IsUtf8
+    → AllByRecursion IsItem ys → outcome m commands.Listing input ≡ Ok text → after ≡ before ++ text
+    → WritesSet m input ys before after
+set_is_written m input ys before after text pass all is written =
+    let says = lists_to m input text is in
+    let xs = inventory_items m (text_parts input) text says.1 in
+    let items = read_items m 0 (text_parts input) xs.0 (parts_text input says.0) pass xs.1 in
+    let whole : after ≡ before ++ ordered_text item_line xs.0 = written ∙ ap (λ t. before ++ t) xs.2 in
+    let sets = inventory_of_its_set xs.0 ys items all in
+    record {
+      items = xs.0;
+      are = xs.1;
+      same = (
+        λ equal. sets.0 (append_cancel_left before (ordered_text item_line xs.0) (ordered_text item_line ys) (sym whole ∙ equal)),
+        λ same. whole ∙ ap (λ t. before ++ t) (sets.1 same),
+      );
+    }
