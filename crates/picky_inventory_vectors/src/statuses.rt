@@ -3,11 +3,34 @@
 use crate::row_texts::{LINE, PUBLIC_K};
 use crate::runs::{End, LIST, MERGE, ROOM, ended, ends, run_over};
 use picky_inventory::InventoryStatus;
+use picky_key_text::ReadError;
 use picky_suite::PlainSuite;
 use picky_wire::{MemorySource, SliceSource};
 use std::alloc::Global;
 use std::mem::ManuallyDrop;
 use std::test::Fail;
+
+// docs/FORMATS.md, "Inventories".
+const CODES: [(InventoryStatus, u8); 10] = [
+    (InventoryStatus::Done, 0),
+    (InventoryStatus::Refused(7, ReadError::NoMemory), 1),
+    (InventoryStatus::BadLine(7), 1),
+    (InventoryStatus::Usage, 2),
+    (InventoryStatus::ReadFault, 3),
+    (InventoryStatus::WriteFault, 4),
+    (InventoryStatus::OutsideFault, 5),
+    (InventoryStatus::NoMemory, 6),
+    (InventoryStatus::InputTooLong, 7),
+    (InventoryStatus::InputNotUtf8, 8),
+];
+
+#[test]
+fn has_a_number_for_each_status(rt: HostRuntime) {
+    let rows = ManuallyDrop::new(CODES);
+    for (status, code) in rows.as_slice() {
+        assert!(rt; status.exit_code() == *code, "{code}");
+    }
+}
 
 // Words that name no command.
 static NO_COMMANDS: [&[&str]; 17] = [
