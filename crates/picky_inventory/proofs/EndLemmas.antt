@@ -4,7 +4,7 @@ use Rattle.std.proofs.Common.{Result, Ok, Err, refl, sym, ◌∙◌, ap, inl, in
 use Rattle.std.specs.Str.{IsUtf8, is_utf8}
 use Rattle.picky_layout.specs.Outcome.{and_then, map_err}
 use Rattle.picky_input.specs.Input.{input_limit}
-use Rattle.picky_input.specs.SourceText.{text_of}
+use Rattle.picky_input.specs.SourceText.{IsSourceText, text_of}
 use Rattle.picky_input.specs.declared.source_text.SourceError.{SourceError}
 use Rattle.picky_input.specs.declared.source_text.SourceError.TheVariants as source
 use Rattle.picky_input.proofs.TextLaws.{is_source_text, no_text_exactly, too_long_exactly}
@@ -38,7 +38,7 @@ text_err bytes e = go (nat_lt input_limit (length bytes)) (is_utf8 bytes)
 data InputCause (r : Reader) (command : Command) (input : List ℕ) (status : InventoryStatus) : Type 0 where
   TooLong : input_limit < length input → status ≡ statuses.InputTooLong → InputCause r command input status
   NoText : (IsUtf8 input → ⊥) → status ≡ statuses.InputNotUtf8 → InputCause r command input status
-  OfText : Cause r command input status → InputCause r command input status
+  OfText : IsSourceText input → Cause r command input status → InputCause r command input status
 
 outcome_cause : (r : Reader) (command : Command) (input : List ℕ) (status : InventoryStatus)
     → outcome r command input ≡ Err status → InputCause r command input status
@@ -48,7 +48,8 @@ outcome_cause r command input status = go (text_of input) refl
     go : (text : Result (List ℕ) SourceError) → text_of input ≡ text
         → and_then (map_err source_status text) (answer r command) ≡ Err status → InputCause r command input status
     go (Ok text) says is =
-        OfText (subst (λ t. Cause r command t status) (is_source_text input text says).1 (answer_cause r command text status is))
+        let known = is_source_text input text says in
+        OfText known.0 (subst (λ t. Cause r command t status) known.1 (answer_cause r command text status is))
     go (Err e) says is =
         let same : source_status e ≡ status = cc is in
         elim (text_err input e says) [
@@ -61,7 +62,7 @@ pub too_long_so : (r : Reader) (command : Command) (input : List ℕ) → outcom
 too_long_so r command input is = elim (outcome_cause r command input statuses.InputTooLong is) [
   | TooLong long same ↦ long
   | NoText none same ↦ cc same
-  | OfText cause ↦ elim cause [ Unread n e listing says same ↦ cc same | Bad k merging says same ↦ cc same ]
+  | OfText text cause ↦ elim cause [ Unread n e listing says same ↦ cc same | Bad k merging says same ↦ cc same ]
 ]
 
 pub no_text_so : (r : Reader) (command : Command) (input : List ℕ) → outcome r command input ≡ Err statuses.InputNotUtf8
@@ -69,31 +70,32 @@ pub no_text_so : (r : Reader) (command : Command) (input : List ℕ) → outcome
 no_text_so r command input is = elim (outcome_cause r command input statuses.InputNotUtf8 is) [
   | TooLong long same ↦ cc same
   | NoText none same ↦ none
-  | OfText cause ↦ elim cause [ Unread n e listing says same ↦ cc same | Bad k merging says same ↦ cc same ]
+  | OfText text cause ↦ elim cause [ Unread n e listing says same ↦ cc same | Bad k merging says same ↦ cc same ]
 ]
 
 pub refused_so : (r : Reader) (command : Command) (input : List ℕ) (n : ℕ) (e : ReadError)
-    → outcome r command input ≡ Err (statuses.Refused n e) → (command ≡ commands.Listing) × (inventory r input ≡ Err (n, e))
+    → outcome r command input ≡ Err (statuses.Refused n e)
+    → (command ≡ commands.Listing) × (inventory r input ≡ Err (n, e)) × IsSourceText input
 refused_so r command input n e is = elim (outcome_cause r command input (statuses.Refused n e) is) [
   | TooLong long same ↦ cc same
   | NoText none same ↦ cc same
-  | OfText cause ↦ elim cause [
+  | OfText text cause ↦ elim cause [
     | Unread m f listing says same ↦
         let number : n ≡ m = cc same in
         let why : e ≡ f = cc same in
-        (listing, says ∙ ap (λ k. Err (k, f)) (sym number) ∙ ap (λ h. Err (n, h)) (sym why))
+        (listing, says ∙ ap (λ k. Err (k, f)) (sym number) ∙ ap (λ h. Err (n, h)) (sym why), text)
     | Bad k merging says same ↦ cc same
   ]
 ]
 
 pub bad_so : (r : Reader) (command : Command) (input : List ℕ) (k : ℕ) → outcome r command input ≡ Err (statuses.BadLine k)
-    → (command ≡ commands.Merging) × (bad_line (left_part input) (right_part input) ≡ Some k)
+    → (command ≡ commands.Merging) × (bad_line (left_part input) (right_part input) ≡ Some k) × IsSourceText input
 bad_so r command input k is = elim (outcome_cause r command input (statuses.BadLine k) is) [
   | TooLong long same ↦ cc same
   | NoText none same ↦ cc same
-  | OfText cause ↦ elim cause [
+  | OfText text cause ↦ elim cause [
     | Unread m f listing says same ↦ cc same
-    | Bad j merging says same ↦ let number : k ≡ j = cc same in (merging, says ∙ ap Some (sym number))
+    | Bad j merging says same ↦ let number : k ≡ j = cc same in (merging, says ∙ ap Some (sym number), text)
   ]
 ]
 
@@ -114,7 +116,7 @@ module _ (r : Reader) (command : Command) (input : List ℕ) (read_rose rose wri
         subst (Ends r command input read_rose rose write_rose tells before after) (sym is) (failed ∙ ap Err is)
     outcome_ends status failed (NoText none is) =
         subst (Ends r command input read_rose rose write_rose tells before after) (sym is) (failed ∙ ap Err is)
-    outcome_ends status failed (OfText cause) = cause_ends status failed cause
+    outcome_ends status failed (OfText short cause) = cause_ends status failed cause
 
     pub comes_ends : (status : InventoryStatus) → Comes r command input read_rose rose (Err status)
         → Ends r command input read_rose rose write_rose tells before after status

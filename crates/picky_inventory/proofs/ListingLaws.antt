@@ -21,6 +21,11 @@ use Rattle.picky_inventory.specs.OrderedText.{ordered_text}
 use Rattle.picky_inventory.specs.Parted.{text_parts}
 use Rattle.picky_inventory.proofs.TextLaws.{joined_is}
 
+-- where no text asks, none of a list does
+pub none_asks : (pass : Option (List ℕ)) → ((text : List ℕ) → asks pass text ≡ false) → (list : List (List ℕ)) → NoneAsks pass list
+none_asks pass never [] = tt
+none_asks pass never (text ∷ list) = (never text, none_asks pass never list)
+
 -- of a list of which none asks, no text does
 pub none_asks_at : {A : Type 0} (see : A → List ℕ) (pass : Option (List ℕ)) (list : List A) (i : ℕ) (d : A) → i < length list
     → NoneAsks pass (map see list) → asks pass (see (get_or list i d)) ≡ false

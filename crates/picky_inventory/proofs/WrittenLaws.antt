@@ -21,11 +21,11 @@ use Rattle.picky_inventory.specs.declared.merging.Unmerged.{Unmerged}
 use Rattle.picky_inventory.specs.BadLine.{IsInventory, IsItemLine}
 use Rattle.picky_inventory.specs.Items.{Item, IsItem, IsPrivate, IsPublic, Kind, item_line, item_of, is_blank, items_from, refused}
 use Rattle.picky_inventory.specs.Listing.{inventory, inventory_of}
-use Rattle.picky_inventory.specs.Merging.{merged_or_bad, merging, or_empty, unless_bad}
+use Rattle.picky_inventory.specs.Merging.{left_part, merged_or_bad, merging, or_empty, right_part, unless_bad}
 use Rattle.picky_inventory.specs.OrderedText.{IsWholeLine, merged, ordered_text}
 use Rattle.picky_inventory.specs.Parted.{text_parts}
 use Rattle.picky_inventory.specs.Run.{IsOfLists, WritesSet, answer, outcome, refusal, source_status, unmerged_status}
-use Rattle.picky_inventory.proofs.BadLineLaws.{inventory_is_whole, items_are_inventory, no_bad_line}
+use Rattle.picky_inventory.proofs.BadLineLaws.{inventory_is_whole, no_bad_line}
 use Rattle.picky_inventory.proofs.ItemLaws.{inventory_of_its_set}
 use Rattle.picky_inventory.proofs.MergingLaws.{inventories_merged}
 use Rattle.picky_inventory.proofs.ReadLaws.{parts_text, read_items}
@@ -64,24 +64,18 @@ inventory_is_cut left right is =
     ∙ cut_past lines (lines_with_ends rest) right none (ap (λ l. Some ([], l)) (lines_joined right))
     ∙ ap (λ l. Some (l, right)) (lines_joined left)
 
-halves_merged : (left right : List ℕ) → IsInventory left → merging (left ++ mark_lf ++ right) ≡ merged_or_bad left right
-halves_merged left right is =
-    let text : List ℕ = left ++ mark_lf ++ right in
-    ap (λ c. merged_or_bad (or_empty (issuer_of c)) (key_of text c)) (inventory_is_cut left right is)
+pub left_is_cut : (left right : List ℕ) → IsInventory left → left_part (left ++ mark_lf ++ right) ≡ left
+left_is_cut left right is = ap (λ c. or_empty (issuer_of c)) (inventory_is_cut left right is)
+
+pub right_is_cut : (left right : List ℕ) → IsInventory left → right_part (left ++ mark_lf ++ right) ≡ right
+right_is_cut left right is = ap (key_of (left ++ mark_lf ++ right)) (inventory_is_cut left right is)
 
 -- an inventory with itself
-itself_merged : (text : List ℕ) → IsInventory text → merging (text ++ mark_lf ++ text) ≡ Ok text
+itself_merged : (text : List ℕ) → IsInventory text → merged_or_bad text text ≡ Ok text
 itself_merged text is =
-    halves_merged text text is ∙ ap (λ k. unless_bad k (merged text text)) ((no_bad_line text text).1 (is, is))
-    ∙ ap Ok (merged_with_itself text is.sorted)
+    ap (λ k. unless_bad k (merged text text)) ((no_bad_line text text).1 (is, is)) ∙ ap Ok (merged_with_itself text is.sorted)
 
 -- ---- items of two lists
-
-merging_is : (xs ys : List Item) → AllByRecursion IsItem xs → AllByRecursion IsItem ys
-    → merging (ordered_text item_line xs ++ mark_lf ++ ordered_text item_line ys) ≡ Ok (ordered_text item_line (xs ++ ys))
-merging_is xs ys one other =
-    halves_merged (ordered_text item_line xs) (ordered_text item_line ys) (items_are_inventory xs one)
-    ∙ inventories_merged xs ys one other
 
 first_joined : (meaning : Meaning) (rest all : Result (List Item) (ℕ × ReadError)) (xs ys : List Item)
     → ((more : List Item) → rest ≡ Ok more → all ≡ Ok (more ++ ys))
@@ -164,20 +158,19 @@ merges_to input text r = go (text_of input) refl
 pub joined_is_written : (m r : Reader) (one other : List (List ℕ)) (input text : List ℕ) → IsOfLists r one other input
     → outcome m commands.Merging input ≡ Ok text → inventory_of r (one ++ other) ≡ Ok text
 joined_is_written m r one other input text lists is =
-    let xs = inventory_items r one lists.left lists.left_is in
-    let ys = inventory_items r other lists.right lists.right_is in
+    let xs = inventory_items r one (left_part input) lists.left in
+    let ys = inventory_items r other (right_part input) lists.right in
     let one_items = read_items r 0 one xs.0 lists.one_utf8 lists.pass xs.1 in
     let other_items = read_items r 0 other ys.0 lists.other_utf8 lists.pass ys.1 in
-    let whole : input ≡ ordered_text item_line xs.0 ++ mark_lf ++ ordered_text item_line ys.0 =
-    lists.whole ∙ ap₂ (λ a b. a ++ mark_lf ++ b) xs.2 ys.2 in
-    let says = sym (merges_to input text m is) ∙ ap merging whole ∙ merging_is xs.0 ys.0 one_items other_items in
+    let says = sym (merges_to input text m is) ∙ ap₂ merged_or_bad xs.2 ys.2
+    ∙ inventories_merged xs.0 ys.0 one_items other_items in
     let written : text ≡ ordered_text item_line (xs.0 ++ ys.0) = cc says in
     ap (map_ok (ordered_text item_line)) (items_joined r 0 0 one other xs.0 ys.0 xs.1 ys.1) ∙ ap Ok (sym written)
 
-pub itself_is_written : (m : Reader) (input text written : List ℕ) → IsInventory text → input ≡ text ++ mark_lf ++ text
-    → outcome m commands.Merging input ≡ Ok written → written ≡ text
-itself_is_written m input text written inventory whole is =
-    let says = sym (merges_to input written m is) ∙ ap merging whole ∙ itself_merged text inventory in
+pub itself_is_written : (m : Reader) (input text written : List ℕ) → IsInventory text → left_part input ≡ text
+    → right_part input ≡ text → outcome m commands.Merging input ≡ Ok written → written ≡ text
+itself_is_written m input text written inventory left right is =
+    let says = sym (merges_to input written m is) ∙ ap₂ merged_or_bad left right ∙ itself_merged text inventory in
     cc says
 
 lists_to : (m : Reader) (input text : List ℕ) → outcome m commands.Listing input ≡ Ok text

@@ -14,7 +14,6 @@ pub use Rattle.picky_input.specs.Input.{input_limit, TakesInput}
 use Rattle.picky_input.specs.SourceText.{IsSourceText, text_of}
 use Rattle.picky_input.specs.declared.source_text.SourceError.{SourceError}
 use Rattle.picky_input.specs.declared.source_text.SourceError.TheVariants as source
-use Rattle.picky_issuing.specs.Parts.{mark_lf}
 use Rattle.picky_key_text.specs.Reader.{Reader}
 use Rattle.picky_key_text.specs.declared.error.ReadError.{ReadError}
 use Rattle.picky_inventory.specs.declared.command.Command.{Command}
@@ -26,7 +25,7 @@ use Rattle.picky_inventory.specs.declared.merging.Unmerged.TheVariants as merges
 use Rattle.picky_inventory.specs.InOrder.{SameItems}
 use Rattle.picky_inventory.specs.Items.{Item, item_line, items_from}
 use Rattle.picky_inventory.specs.Listing.{FaultAt, inventory, inventory_of}
-use Rattle.picky_inventory.specs.Merging.{merging}
+use Rattle.picky_inventory.specs.Merging.{left_part, merging, right_part}
 use Rattle.picky_inventory.specs.OrderedText.{ordered_text}
 use Rattle.picky_inventory.specs.Parted.{text_parts}
 
@@ -104,16 +103,14 @@ pub record WritesPrefix (r : Reader) (command : Command) (input before after : L
   pub less : len < length text
   pub written : after ≡ before ++ take len text
 
--- a source is the inventories of two lists of texts, with a line `%%` between
+-- what stands before a source's first line `%%`, and what follows it, are the inventories of two lists of texts; without
+-- such a line nothing stands before it, which is the inventory of no text
 pub record IsOfLists (r : Reader) (one other : List (List ℕ)) (input : List ℕ) : Type 0 where
   pub pass : IfSome r.pass IsUtf8
   pub one_utf8 : AllByRecursion IsUtf8 one
   pub other_utf8 : AllByRecursion IsUtf8 other
-  pub left : List ℕ
-  pub right : List ℕ
-  pub left_is : inventory_of r one ≡ Ok left
-  pub right_is : inventory_of r other ≡ Ok right
-  pub whole : input ≡ left ++ mark_lf ++ right
+  pub left : inventory_of r one ≡ Ok (left_part input)
+  pub right : inventory_of r other ≡ Ok (right_part input)
 
 -- what was written is the text of these items exactly where they are the set of those of the source
 pub record WritesSet (r : Reader) (input : List ℕ) (others : List Item) (before after : List ℕ) : Type 0 where

@@ -1,10 +1,11 @@
 //! What a command writes for the bytes of a source.
 
-ghost use Rattle.std.specs.Prelude.{◌≡◌, ◌≢◌, ℕ, List, Err};
+ghost use Rattle.std.specs.Prelude.{◌≡◌, ◌≢◌, ℕ, List, Err, false};
 ghost use Rattle.std.specs.Option.{option_copied};
 ghost use Rattle.picky_layout.specs.Outcome.{map_err, map_ok};
 ghost use Rattle.picky_wire.specs.Count.{Rose};
 ghost use Rattle.picky_wire.specs.Gives.{Gives as GivesOrWants};
+ghost use Rattle.picky_key_text.specs.Order.{asks};
 ghost use Rattle.picky_inventory.specs.Listing.{NoneAsks};
 ghost use Rattle.picky_inventory.specs.Merging.{merging};
 ghost use Rattle.picky_inventory.specs.Parted.{text_parts};
@@ -47,6 +48,7 @@ pub(crate) fn take_answer<S: Suite, I: Source>(
     ensures merging_asks_none { command ≡ Command.Merging → suite.new ≡ suite.old }
     ensures unasked { I.tells source.old → NoneAsks (option_copied pass.entry) (text_parts (I.left source.old))
         → suite.new ≡ suite.old }
+    ensures never_asked { ((text : List ℕ) → asks (option_copied pass.entry) text ≡ false) → suite.new ≡ suite.old }
 {
     match take_text(alloc, source) {
         Ok(text) => {

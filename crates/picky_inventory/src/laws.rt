@@ -4,13 +4,13 @@ ghost use Rattle.std.specs.Prelude.{◌≡◌, ◌≢◌, ◌↔◌, ◌++◌, �
 ghost use Rattle.std.specs.Option.{IfSome};
 ghost use Rattle.std.specs.List.{AllByRecursion};
 ghost use Rattle.std.specs.List.Sorted.{IsStrictlySortedBy};
-ghost use Rattle.picky_issuing.specs.Parts.{IsCut, HasNoMark, lines_with_ends};
+ghost use Rattle.picky_issuing.specs.Parts.{IsCut, HasNoMark, lines_with_ends, mark_lf};
 ghost use Rattle.picky_key_text.specs.Reader.{Reader};
 ghost use Rattle.picky_inventory.specs.BadLine.{IsInventory, bad_line};
 ghost use Rattle.picky_inventory.specs.InOrder.{SameItems, line_cmp};
 ghost use Rattle.picky_inventory.specs.ItemLine.{is_item_line};
 ghost use Rattle.picky_inventory.specs.Items.{IsItem, Item, item_line, items_from};
-ghost use Rattle.picky_inventory.specs.Merging.{merged_or_bad, merging};
+ghost use Rattle.picky_inventory.specs.Merging.{left_part, merged_or_bad, merging, right_part};
 ghost use Rattle.picky_inventory.specs.OrderedText.{IsWholeLine, HasWholeLines, IsFirstBad, Tells, first_bad, merged, ordered_text};
 ghost use Rattle.picky_inventory.specs.Parted.{text_parts};
 
@@ -89,6 +89,12 @@ pub fn source_is_cut_and_merged()
 pub fn inventories_are_merged()
     ensures { (xs ys : List Item) → AllByRecursion IsItem xs → AllByRecursion IsItem ys
         → merged_or_bad (ordered_text item_line xs) (ordered_text item_line ys) ≡ Ok (ordered_text item_line (xs ++ ys)) }
+{}
+
+/// An inventory, a line `%%` and any text are cut there: it is what stands before the first mark.
+pub fn inventory_has_no_mark()
+    ensures left { (left right : List ℕ) → IsInventory left → left_part (left ++ mark_lf ++ right) ≡ left }
+    ensures right { (left right : List ℕ) → IsInventory left → right_part (left ++ mark_lf ++ right) ≡ right }
 {}
 
 /// The items of two lists that are read are those of the lists joined.

@@ -1,14 +1,15 @@
 //! The run of the program over a source and two sinks.
 
-ghost use Rattle.std.specs.Prelude.{◌≡◌, ◌≢◌, ◌↔◌, ◌⊎◌, ◌<◌, ◌+◌, ◌++◌, ℕ, List, [], length, drop, Some, None, Ok, Err};
+ghost use Rattle.std.specs.Prelude.{◌≡◌, ◌≢◌, ◌↔◌, ◌⊎◌, ◌<◌, ◌+◌, ◌++◌, ℕ, List, [], length, drop, Some, None, Ok, Err, false};
 ghost use Rattle.std.specs.List.{AllByRecursion};
 ghost use Rattle.std.specs.Option.{IfSome, option_copied};
 ghost use Rattle.std.specs.Str.{IsUtf8};
 ghost use Rattle.picky_wire.specs.Count.{Rose};
 ghost use Rattle.picky_wire.specs.Puts.{Puts};
+ghost use Rattle.picky_key_text.specs.Order.{asks};
 ghost use Rattle.picky_key_text.specs.Reader.{Reader};
 ghost use Rattle.picky_key_text.specs.Want.{IsFault, WantsMemory};
-ghost use Rattle.picky_issuing.specs.Parts.{mark_lf};
+ghost use Rattle.picky_input.specs.SourceText.{IsSourceText};
 ghost use Rattle.picky_inventory.specs.BadLine.{bad_line as bad_line_of, IsInventory};
 ghost use Rattle.picky_inventory.specs.Command.{Names};
 ghost use Rattle.picky_inventory.specs.Items.{Item, IsItem};
@@ -52,6 +53,9 @@ pub fn run_inventory<S: Suite, I: Source, O: Sink, E: Sink>(
     ensures prefix { (c : Command) → Names words.now c → result ≡ InventoryStatus.WriteFault → I.tells source.old → O.tells out.old
         → WritesPrefix (reader (S.meanings suite.old) pass_in.entry) c (I.left source.old) (O.written out.old) (O.written out.new) }
 
+    ensures has_answer { (c : Command) → Names words.now c → (result ≡ InventoryStatus.Done) ⊎ (result ≡ InventoryStatus.WriteFault)
+        → I.tells source.old → (text : List ℕ) × (outcome (reader (S.meanings suite.old) pass_in.entry) c (I.left source.old) ≡ Ok text) }
+
     // One set has one text: what is listed is that of other items exactly where the sets are the same.
     ensures binds { (others : List Item) → AllByRecursion IsItem others → IfSome (option_copied pass_in.entry) IsUtf8
         → Names words.now Command.Listing → result ≡ InventoryStatus.Done → I.tells source.old → O.tells out.old
@@ -61,7 +65,8 @@ pub fn run_inventory<S: Suite, I: Source, O: Sink, E: Sink>(
     ensures merges_lists { (r : Reader) (one other : List (List ℕ)) → IsOfLists r one other (I.left source.old)
         → Names words.now Command.Merging → result ≡ InventoryStatus.Done → I.tells source.old → O.tells out.old
         → WritesInventory r (one ++ other) (O.written out.old) (O.written out.new) }
-    ensures merges_itself { (text : List ℕ) → IsInventory text → I.left source.old ≡ text ++ mark_lf ++ text
+    ensures merges_itself { (text : List ℕ) → IsInventory text → left_part (I.left source.old) ≡ text
+        → right_part (I.left source.old) ≡ text
         → Names words.now Command.Merging → result ≡ InventoryStatus.Done → I.tells source.old → O.tells out.old
         → O.written out.new ≡ O.written out.old ++ text }
 
@@ -81,14 +86,14 @@ pub fn run_inventory<S: Suite, I: Source, O: Sink, E: Sink>(
     ensures refused { (n : ℕ) (e : ReadError) → result ≡ InventoryStatus.Refused n e → I.tells source.old
         → inventory (reader (S.meanings suite.old) pass_in.entry) (I.left source.old) ≡ Err (n, e) }
     ensures refused_of_some { (n : ℕ) (e : ReadError) → result ≡ InventoryStatus.Refused n e
-        → (input : List ℕ) × (inventory (reader (S.meanings suite.old) pass_in.entry) input ≡ Err (n, e)) }
+        → (input : List ℕ) × IsSourceText input × (inventory (reader (S.meanings suite.old) pass_in.entry) input ≡ Err (n, e)) }
     ensures refused_lists { (n : ℕ) (e : ReadError) → result ≡ InventoryStatus.Refused n e → Names words.now Command.Listing }
     ensures refused_is_no_want { (n : ℕ) (e : ReadError) → result ≡ InventoryStatus.Refused n e
         → (WantsMemory e → ⊥) × (IsFault e → ⊥) }
     ensures bad_line { (k : ℕ) → result ≡ InventoryStatus.BadLine k → I.tells source.old
         → bad_line_of (left_part (I.left source.old)) (right_part (I.left source.old)) ≡ Some k }
     ensures bad_line_of_some { (k : ℕ) → result ≡ InventoryStatus.BadLine k
-        → (input : List ℕ) × (bad_line_of (left_part input) (right_part input) ≡ Some k) }
+        → (input : List ℕ) × IsSourceText input × (bad_line_of (left_part input) (right_part input) ≡ Some k) }
     ensures bad_line_merges { (k : ℕ) → result ≡ InventoryStatus.BadLine k → Names words.now Command.Merging }
     ensures outside_fault { (c : Command) → Names words.now c → result ≡ InventoryStatus.OutsideFault → I.tells source.old
         → IsOutsideFault (reader (S.meanings suite.old) pass_in.entry) c (I.left source.old) (Rose (S.faults suite.old) (S.faults suite.new)) }
@@ -121,6 +126,7 @@ pub fn run_inventory<S: Suite, I: Source, O: Sink, E: Sink>(
     ensures merging_asks_none { Names words.now Command.Merging → suite.new ≡ suite.old }
     ensures unasked { I.tells source.old → NoneAsks (option_copied pass_in.entry) (text_parts (I.left source.old))
         → suite.new ≡ suite.old }
+    ensures never_asked { ((text : List ℕ) → asks (option_copied pass_in.entry) text ≡ false) → suite.new ≡ suite.old }
     ensures source_tells { I.tells source.old → I.tells source.new }
     ensures out_tells { O.tells out.old → O.tells out.new }
     ensures end { ReadsToEnd result → I.tells source.old → I.left source.new ≡ [] }
@@ -170,6 +176,7 @@ fn perform<S: Suite, I: Source, O: Sink>(
     ensures merging_asks_none { command ≡ Command.Merging → suite.new ≡ suite.old }
     ensures unasked { I.tells source.old → NoneAsks (option_copied pass.entry) (text_parts (I.left source.old))
         → suite.new ≡ suite.old }
+    ensures never_asked { ((text : List ℕ) → asks (option_copied pass.entry) text ≡ false) → suite.new ≡ suite.old }
     ensures unwritten { result ≢ InventoryStatus.Done → result ≢ InventoryStatus.WriteFault → out.new ≡ out.old }
 {
     match take_answer(alloc, command, pass, suite, source) {

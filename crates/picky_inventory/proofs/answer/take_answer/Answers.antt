@@ -7,6 +7,7 @@ use Rattle.picky_input.proofs.TextLaws.{is_source_text}
 use Rattle.picky_inventory.specs.Listing.{NoneAsks}
 use Rattle.picky_inventory.specs.Parted.{text_parts}
 use Rattle.picky_inventory.specs.Run.{reader}
+use Rattle.picky_inventory.proofs.ListingLaws.{none_asks}
 use Rattle.picky_inventory.proofs.RunLemmas.{source_comes, text_comes, text_leaves}
 use Rattle.picky_inventory.proofs.answer.take_answer.Goals as goal
 
@@ -36,6 +37,10 @@ returns-in-Ok-clause-unasked g c = λ told none.
     let is : text_of input ≡ Ok c.as_str.result.now = c.in-Ok.ensures.takes.reads told ∙ ap Ok (sym c.as_str.ensures.bytes) in
     c.answer_to-answer.ensures.unasked
     (subst (λ t. NoneAsks (option_copied c.args.pass) (text_parts t)) (sym (is_source_text input c.as_str.result.now is).1) none)
+
+pub returns-in-Ok-clause-never_asked : goal.returns-in-Ok-clause-never_asked
+returns-in-Ok-clause-never_asked g c = λ never.
+    c.answer_to-answer.ensures.unasked (none_asks (option_copied c.args.pass) never (text_parts c.as_str.result.now))
 
 pub returns-in-Err-clause-told : goal.returns-in-Err-clause-told
 returns-in-Err-clause-told g c = λ told.

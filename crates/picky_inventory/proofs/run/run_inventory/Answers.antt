@@ -1,5 +1,5 @@
 -- What a status says of the bytes.
-use Rattle.std.proofs.Common.{◌≡◌, ◌∙◌, ◌++◌, Some, ap, sym}
+use Rattle.std.proofs.Common.{◌≡◌, ◌∙◌, ◌++◌, Some, ap, inl, inr, sym}
 use Rattle.picky_inventory.specs.Command.{command_of}
 use Rattle.picky_inventory.specs.Run.{outcome, reader}
 use Rattle.picky_inventory.specs.declared.command.Command.TheVariants as commands
@@ -24,7 +24,10 @@ returns-in-Some-clause-refused g c = λ n e is told.
 pub returns-in-Some-clause-refused_of_some : goal.returns-in-Some-clause-refused_of_some
 returns-in-Some-clause-refused_of_some g c = λ n e is.
     let some = c.perform.ensures.some (λ long. cc (is, long)) (λ other. cc (is, other)) in
-    (some.0, (refused_so (reader (g.S.Suite.meanings c.args.suite.now) c.args.pass_in) c.in-Some.command some.0 n e (ends_at (reader (g.S.Suite.meanings c.args.suite.now) c.args.pass_in) c.in-Some.command some.0 _ _ _ _ _ _ c.perform.result (statuses.Refused n e) is (some.1))).1)
+    let m = reader (g.S.Suite.meanings c.args.suite.now) c.args.pass_in in
+    let so = refused_so m c.in-Some.command some.0 n e
+    (ends_at m c.in-Some.command some.0 _ _ _ _ _ _ c.perform.result (statuses.Refused n e) is (some.1)) in
+    (some.0, so.2, so.1)
 
 pub returns-in-Some-clause-refused_lists : goal.returns-in-Some-clause-refused_lists
 returns-in-Some-clause-refused_lists g c = λ n e is.
@@ -45,7 +48,10 @@ returns-in-Some-clause-bad_line g c = λ k is told.
 pub returns-in-Some-clause-bad_line_of_some : goal.returns-in-Some-clause-bad_line_of_some
 returns-in-Some-clause-bad_line_of_some g c = λ k is.
     let some = c.perform.ensures.some (λ long. cc (is, long)) (λ other. cc (is, other)) in
-    (some.0, (bad_so (reader (g.S.Suite.meanings c.args.suite.now) c.args.pass_in) c.in-Some.command some.0 k (ends_at (reader (g.S.Suite.meanings c.args.suite.now) c.args.pass_in) c.in-Some.command some.0 _ _ _ _ _ _ c.perform.result (statuses.BadLine k) is (some.1))).1)
+    let m = reader (g.S.Suite.meanings c.args.suite.now) c.args.pass_in in
+    let so = bad_so m c.in-Some.command some.0 k
+    (ends_at m c.in-Some.command some.0 _ _ _ _ _ _ c.perform.result (statuses.BadLine k) is (some.1)) in
+    (some.0, so.2, so.1)
 
 pub returns-in-Some-clause-bad_line_merges : goal.returns-in-Some-clause-bad_line_merges
 returns-in-Some-clause-bad_line_merges g c = λ k is.
@@ -68,14 +74,14 @@ returns-in-Some-clause-merges_lists g c = λ r one other lists names is told tel
     }
 
 pub returns-in-Some-clause-merges_itself : goal.returns-in-Some-clause-merges_itself
-returns-in-Some-clause-merges_itself g c = λ text inventory whole names is told tells.
+returns-in-Some-clause-merges_itself g c = λ text inventory left right names is told tells.
     let m = reader (g.S.Suite.meanings c.args.suite.now) c.args.pass_in in
     let input = g.I.Source.left c.args.source.now in
     let named : command_of c.args.words.now ≡ Some c.in-Some.command = cc (c.command_of.ensures, c.in-Some.is) in
     let both : Some c.in-Some.command ≡ Some commands.Merging = sym named ∙ names in
     let merges : c.in-Some.command ≡ commands.Merging = cc both in
     let ends = ends_at m c.in-Some.command input _ _ _ _ _ _ c.perform.result statuses.Done is (c.perform.ensures.told told) in
-    let written = itself_is_written m input text ends.0 inventory whole (ap (λ k. outcome m k input) (sym merges) ∙ ends.1) in
+    let written = itself_is_written m input text ends.0 inventory left right (ap (λ k. outcome m k input) (sym merges) ∙ ends.1) in
     ends.2 tells ∙ ap (λ t. g.O.Sink.written c.args.out.now ++ t) written
 
 pub returns-in-Some-clause-binds : goal.returns-in-Some-clause-binds
@@ -87,3 +93,21 @@ returns-in-Some-clause-binds g c = λ others all pass names is told tells.
     let lists : c.in-Some.command ≡ commands.Listing = cc both in
     let ends = ends_at m c.in-Some.command input _ _ _ _ _ _ c.perform.result statuses.Done is (c.perform.ensures.told told) in
     set_is_written m input others _ _ ends.0 pass all (ap (λ k. outcome m k input) (sym lists) ∙ ends.1) (ends.2 tells)
+
+pub returns-in-Some-clause-has_answer : goal.returns-in-Some-clause-has_answer
+returns-in-Some-clause-has_answer g c = λ command names ended told.
+    let m = reader (g.S.Suite.meanings c.args.suite.now) c.args.pass_in in
+    let input = g.I.Source.left c.args.source.now in
+    let named : command_of c.args.words.now ≡ Some c.in-Some.command = cc (c.command_of.ensures, c.in-Some.is) in
+    let both : Some c.in-Some.command ≡ Some command = sym named ∙ names in
+    let same : c.in-Some.command ≡ command = cc both in
+    let moved = ap (λ k. outcome m k input) (sym same) in
+    elim ended [
+      | inl is ↦
+          let ends = ends_at m c.in-Some.command input _ _ _ _ _ _ c.perform.result statuses.Done is (c.perform.ensures.told told) in
+          (ends.0, moved ∙ ends.1)
+      | inr is ↦
+          let ends = ends_at m c.in-Some.command input _ _ _ _ _ _ c.perform.result statuses.WriteFault is
+          (c.perform.ensures.told told) in
+          (ends.1, moved ∙ ends.2)
+    ]
