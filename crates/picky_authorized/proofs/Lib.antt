@@ -1,0 +1,9 @@
+pub mod ContentLaws
+pub mod KnownLemmas
+pub mod LineLemmas
+pub mod OptionLaws
+pub mod OptionLemmas
+pub mod OptionsLaws
+pub mod QuoteLaws
+pub mod QuoteLemmas
+pub mod ValueLemmas
