@@ -1,0 +1,6 @@
+pub mod KeyLemmas
+pub mod ReplyLemmas
+pub mod AskedLemmas
+pub mod StepLemmas
+pub mod StepLaws
+pub mod FailureLaws

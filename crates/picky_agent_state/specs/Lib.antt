@@ -1,0 +1,10 @@
+pub mod Message
+pub mod Kept
+pub mod Held
+pub mod Request
+pub mod Signing
+pub mod Reply
+pub mod Rows
+pub mod Step
+pub mod Failure
+pub mod inner

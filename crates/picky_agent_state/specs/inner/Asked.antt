@@ -1,0 +1,29 @@
+-- Words of private contracts: what a request shows whose parts are slices of its message.
+use Rattle.std.specs.Prelude.{⊤, ℕ, Result, Ok, Err}
+use Rattle.picky_wire.specs.declared.view.Stuck.{Stuck}
+use Rattle.picky_sshpub.specs.View.{key_seen}
+use Rattle.picky_sshkey_blob.specs.Key.{IsPrivateKey}
+use Rattle.picky_sshkey_blob.specs.View.{key_seen as private_seen}
+use Rattle.picky_agent_state.specs.declared.asked.Asked.{Asked}
+use Rattle.picky_agent_state.specs.declared.asked.Asked.TheVariants as seen
+use Rattle.picky_agent_state.specs.Request.{Request, Identities, Sign, Add, Remove, RemoveAll, Lock, Unlock, Unfit}
+
+abbrev pub asked_seen : Asked → Request
+asked_seen seen.Identities = Identities
+asked_seen (seen.Sign key message flags) = Sign (key_seen key) message.now flags
+asked_seen (seen.Add key comment) = Add (record { key = private_seen key; comment = comment.now })
+asked_seen (seen.Remove key) = Remove (key_seen key)
+asked_seen seen.RemoveAll = RemoveAll
+asked_seen (seen.Lock pass) = Lock pass.now
+asked_seen (seen.Unlock pass) = Unlock pass.now
+asked_seen seen.Unfit = Unfit
+
+-- a private key can be copied
+abbrev pub KeepsAsked : Asked → Type 0
+KeepsAsked (seen.Add key comment) = IsPrivateKey (private_seen key)
+KeepsAsked asked = ⊤
+
+-- what was found, where something was
+abbrev pub asked_found : Result (Asked × ℕ) Stuck → Asked
+asked_found (Ok found) = found.0
+asked_found (Err stuck) = seen.Unfit

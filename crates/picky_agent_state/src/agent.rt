@@ -1,0 +1,258 @@
+//! An agent: what it keeps, and how it answers a message.
+
+ghost use Rattle.std.specs.Prelude.{◌≡◌, ◌≤◌, ◌↔◌, ◌∷◌, ◌++◌, [], ℕ, List, length, vec_len, IfOk, OnErr, MatchBool};
+ghost use Rattle.picky_keys.specs.declared.public_key.PublicKey.{PublicKey};
+ghost use Rattle.picky_keys.specs.declared.algorithm.SignatureAlgorithm.{SignatureAlgorithm as Algorithm};
+ghost use Rattle.picky_sshpub.specs.View.{key_seen};
+ghost use Rattle.picky_sshkey_blob.specs.Key.{IsPrivateKey};
+ghost use Rattle.picky_sshkey_blob.specs.View.{key_seen as private_seen};
+ghost use Rattle.picky_agent_state.specs.Message.{IsMessage};
+ghost use Rattle.picky_agent_state.specs.Kept.{Kept, machine, new_agent, is_locked as is_locked_in};
+ghost use Rattle.picky_agent_state.specs.Request.{request_of};
+ghost use Rattle.picky_agent_state.specs.Rows.{is_full, most_identities, opens as opens_in, Adds, Fails, Lists, Locks, Removes, RemovesAll, Succeeds, Unlocks};
+ghost use Rattle.picky_agent_state.specs.Step.{AsksSigner, AsksToSign, CanSign, Step};
+
+use crate::asked::{Asked, read_request};
+use crate::held::{place_of, public_of};
+use crate::identity::Identity;
+use crate::reply::{failure, listing_of, success};
+use crate::signing::sign_with;
+use picky_sshkey_blob::PrivateView;
+use picky_sshpub::PublicView;
+use picky_suite::Signer;
+use picky_wire::{Bytes, NoMemory, Text};
+use std::alloc::Global;
+use std::marker::Model;
+
+/// How many identities an agent keeps at most.
+const MOST_IDENTITIES: usize = 1024;
+
+/// Private keys with their comments, and a lock. It keeps the allocator that it was made with.
+#[derive(Drop)]
+pub struct Agent {
+    alloc: Global,
+    identities: Vec<Identity>,
+    pass: Option<Bytes>,
+}
+
+impl Model for Agent {
+    ghost Value = { Kept };
+
+    ghost view = { λ a. record { identities = a.identities.items; pass = a.pass } };
+
+    ghost invariant = { λ a. vec_len a.identities ≤ 1024 };
+}
+
+impl Agent {
+    /// An agent with no identities, unlocked. It takes no memory.
+    pub fn new(alloc: Global) -> Agent
+        ensures { result ≡ new_agent }
+    {
+        Agent {
+            alloc,
+            identities: Vec::new(alloc),
+            pass: None,
+        }
+    }
+
+    /// Its identities in order, also while it is locked.
+    pub fn identities(&self) -> &[Identity]
+        ensures all { result.now ≡ self.now.identities }
+        ensures few { length result.now ≤ most_identities }
+    {
+        self.identities.as_slice()
+    }
+
+    /// Whether it is locked.
+    pub fn is_locked(&self) -> bool
+        ensures { result ≡ is_locked_in self.now }
+    {
+        self.pass.is_some()
+    }
+
+    /// Takes a message, its type and contents, and answers the type and contents of the reply.
+    ///
+    /// draft-miller-ssh-agent-04. The signer is asked for a signature with a key that an identity has, and for nothing else.
+    /// Refuses: `NoMemory`; the agent stays as it was, though the signer may have been asked.
+    pub fn answer<G: Signer>(&mut self, signer: &mut G, message: &[u8]) -> Result<Bytes, NoMemory>
+        requires { IsMessage message.now }
+        ensures step { IfOk result (λ reply. Step (G.signs signer.old) (machine self.old (G.faults signer.old)) message.now reply
+            (machine self.new (G.faults signer.new))) }
+        ensures unchanged { OnErr result (self.new ≡ self.old) }
+
+        // The signer: which signatures are good stays, its count never falls, and what needs no signature leaves it.
+        ensures signs { (k : PublicKey) (a : Algorithm) (m s : List ℕ) → G.signs signer.new k a m s ↔ G.signs signer.old k a m s }
+        ensures never_falls { G.faults signer.old ≤ G.faults signer.new }
+        ensures unasked { (AsksSigner self.old (request_of message.now) → ⊥) → signer.new ≡ signer.old }
+    {
+        match read_request(message) {
+            Asked::Identities => self.list(),
+            Asked::Sign {
+                key,
+                message,
+                flags,
+            } => self.sign(signer, &key, flags, message),
+            Asked::Add { key, comment } => self.add(&key, comment),
+            Asked::Remove { key } => self.remove(&key),
+            Asked::RemoveAll => self.remove_all(),
+            Asked::Lock { pass } => self.lock(pass),
+            Asked::Unlock { pass } => self.unlock(pass),
+            Asked::Unfit => failure(self.alloc),
+        }
+    }
+
+    fn list(&self) -> Result<Bytes, NoMemory>
+        ensures { IfOk result (λ reply. Lists self.now reply self.now) }
+    {
+        if self.is_locked() {
+            return listing_of(self.alloc, &[]);
+        }
+        listing_of(self.alloc, self.identities.as_slice())
+    }
+
+    fn sign<G: Signer>(
+        &self,
+        signer: &mut G,
+        key: &PublicView<'_>,
+        flags: u32,
+        message: &[u8],
+    ) -> Result<Bytes, NoMemory>
+        ensures asks { IfOk result (λ reply. AsksToSign (G.signs signer.old) (machine self.now (G.faults signer.old))
+            (key_seen key.now) flags message.now reply (machine self.now (G.faults signer.new))) }
+        ensures signs { (k : PublicKey) (a : Algorithm) (m s : List ℕ) → G.signs signer.new k a m s ↔ G.signs signer.old k a m s }
+        ensures never_falls { G.faults signer.old ≤ G.faults signer.new }
+        ensures unasked { (CanSign self.now (key_seen key.now) flags → ⊥) → signer.new ≡ signer.old }
+    {
+        if self.is_locked() {
+            return failure(self.alloc);
+        }
+        match place_of(self.identities.as_slice(), key) {
+            Some(place) => {
+                let identity = &self.identities[place];
+                sign_with(self.alloc, signer, &identity.key, flags, message)
+            }
+            None => failure(self.alloc),
+        }
+    }
+
+    fn add(&mut self, key: &PrivateView<'_>, comment: &str) -> Result<Bytes, NoMemory>
+        requires { IsPrivateKey (private_seen key.now) }
+        ensures row { IfOk result (λ reply. Adds self.old (record { key = private_seen key.now; comment = comment.now }) reply self.new) }
+        ensures unchanged { OnErr result (self.new ≡ self.old) }
+    {
+        if self.is_locked() {
+            return failure(self.alloc);
+        }
+        match place_of(self.identities.as_slice(), &public_of(key)) {
+            Some(place) => {
+                let identity = identity_of(self.alloc, key, comment)?;
+                let reply = success(self.alloc)?;
+                self.identities[place] = identity;
+                Ok(reply)
+            }
+            None => self.append(key, comment),
+        }
+    }
+
+    fn append(&mut self, key: &PrivateView<'_>, comment: &str) -> Result<Bytes, NoMemory>
+        requires { IsPrivateKey (private_seen key.now) }
+        ensures room { IfOk result (λ reply. MatchBool (is_full self.old) (Fails self.old reply self.new)
+            (Succeeds (record self.old {
+              identities = self.old.identities
+                  ++ record { key = private_seen key.now; comment = comment.now } ∷ [];
+            }) reply self.new)) }
+        ensures unchanged { OnErr result (self.new ≡ self.old) }
+    {
+        if self.identities.len() >= MOST_IDENTITIES {
+            return failure(self.alloc);
+        }
+        let identity = identity_of(self.alloc, key, comment)?;
+        let reply = success(self.alloc)?;
+        match self.identities.push(identity) {
+            Ok(()) => Ok(reply),
+            Err(_) => Err(NoMemory),
+        }
+    }
+
+    fn remove(&mut self, key: &PublicView<'_>) -> Result<Bytes, NoMemory>
+        ensures row { IfOk result (λ reply. Removes self.old (key_seen key.now) reply self.new) }
+        ensures unchanged { OnErr result (self.new ≡ self.old) }
+    {
+        if self.is_locked() {
+            return failure(self.alloc);
+        }
+        match place_of(self.identities.as_slice(), key) {
+            Some(place) => {
+                let reply = success(self.alloc)?;
+                let _ = self.identities.remove(place);
+                Ok(reply)
+            }
+            None => failure(self.alloc),
+        }
+    }
+
+    fn remove_all(&mut self) -> Result<Bytes, NoMemory>
+        ensures row { IfOk result (λ reply. RemovesAll self.old reply self.new) }
+        ensures unchanged { OnErr result (self.new ≡ self.old) }
+    {
+        if self.is_locked() {
+            return failure(self.alloc);
+        }
+        let reply = success(self.alloc)?;
+        self.identities = Vec::new(self.alloc);
+        Ok(reply)
+    }
+
+    fn lock(&mut self, pass: &[u8]) -> Result<Bytes, NoMemory>
+        ensures row { IfOk result (λ reply. Locks self.old pass.now reply self.new) }
+        ensures unchanged { OnErr result (self.new ≡ self.old) }
+    {
+        if self.is_locked() {
+            return failure(self.alloc);
+        }
+        let reply = success(self.alloc)?;
+        match Bytes::new(self.alloc, pass) {
+            Ok(pass) => {
+                self.pass = Some(pass);
+                Ok(reply)
+            }
+            Err(_) => Err(NoMemory),
+        }
+    }
+
+    fn unlock(&mut self, pass: &[u8]) -> Result<Bytes, NoMemory>
+        ensures row { IfOk result (λ reply. Unlocks self.old pass.now reply self.new) }
+        ensures unchanged { OnErr result (self.new ≡ self.old) }
+    {
+        if !self.opens(pass) {
+            return failure(self.alloc);
+        }
+        let reply = success(self.alloc)?;
+        self.pass = None;
+        Ok(reply)
+    }
+
+    /// Whether it is locked under this passphrase.
+    fn opens(&self, pass: &[u8]) -> bool
+        ensures { result ≡ opens_in self.now.pass pass.now }
+    {
+        match &self.pass {
+            Some(kept) => kept.as_slice() == pass,
+            None => false,
+        }
+    }
+}
+
+/// The identity of a key and a comment. Refuses: `NoMemory`.
+fn identity_of(alloc: Global, key: &PrivateView<'_>, comment: &str) -> Result<Identity, NoMemory>
+    requires { IsPrivateKey (private_seen key.now) }
+    ensures { IfOk result (λ identity. identity ≡ record { key = private_seen key.now; comment = comment.now }) }
+{
+    match Text::new(alloc, comment) {
+        Ok(comment) => match key.to_key(alloc) {
+            Ok(key) => Ok(Identity { key, comment }),
+            Err(NoMemory) => Err(NoMemory),
+        },
+        Err(_) => Err(NoMemory),
+    }
+}

@@ -1,0 +1,14 @@
+//! The laws of the machine, each as the contract of a function that does nothing.
+
+ghost use Rattle.std.specs.Prelude.{ℕ, List};
+ghost use Rattle.picky_agent_state.specs.Kept.{Machine};
+ghost use Rattle.picky_agent_state.specs.Step.{Step};
+ghost use Rattle.picky_agent_state.specs.Failure.{FailsForCause};
+
+use picky_suite::Signer;
+
+/// A step has the failure in each case of the list, and else only where the signer fails, or signs too long for a reply.
+pub fn failure_comes_for_a_cause<G: Signer>()
+    ensures { (device : G) (old : Machine) (message reply : List ℕ) (new : Machine) → Step (G.signs device) old message reply new
+        → FailsForCause (G.signs device) old message reply new }
+{}

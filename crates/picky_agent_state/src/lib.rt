@@ -1,0 +1,14 @@
+//! What an SSH agent keeps, and how it answers a message (draft-miller-ssh-agent-04).
+#![tactic(auto)]
+
+mod agent;
+mod asked;
+mod held;
+mod identity;
+pub mod laws;
+mod message_type;
+mod reply;
+mod signing;
+
+pub use agent::Agent;
+pub use identity::Identity;
