@@ -1,0 +1,92 @@
+//! The program: its signature, standard input and standard output.
+#![tactic(auto)]
+
+use picky_agent::{Agent, AgentStatus, serve};
+use picky_main::{GivenError, hex_variable, words};
+use picky_suite::HandedSigner;
+use picky_wire::{Bytes, StdSink, StdSource, Text};
+use std::process::ExitCode;
+
+const HELP: &str = "usage: keyagent < MESSAGES > REPLIES
+
+Keeps private keys, as an SSH agent does. Reads the messages of an agent's protocol (draft-miller-ssh-agent-04) from standard
+input, each behind its length in four bytes, and writes the reply to each to standard output before it reads the next. What it
+keeps ends with it. Words are ignored, but for one of these alone:
+
+  --help     this text
+  --version  the version
+
+Messages, and the reply where there is one other than the failure, 5:
+
+  11      the identities: 12, with their public keys and comments
+  13      a signature with an identity: 14, see below
+  17      an identity, added or in the place of that with its key: 6
+  18, 19  an identity, or all of them, removed: 6
+  22, 23  locked, and unlocked, under a passphrase: 6
+
+While it is locked 11 has no identities, and all but 23 fail. It keeps 1,024 identities, and takes 262,144 bytes a message.
+
+This program signs nothing itself. A signature is the one that it was handed, whatever the message and the key, or else the
+failure. It has no socket, and asks nobody: whoever writes to it may use what it keeps.
+
+Environment: KEYCONV_SIGNATURE, the signature that another device made, in hex and without the name of its format. One that is
+set counts where it is empty, too.
+
+Status: 0 done, 1 a message's length is 0 or above 262,144, 2 the input ends inside a message, 3 read fault, 4 write fault, 5 out
+of memory, 6 18,446,744,073,709,551,615 messages were answered, 7 KEYCONV_SIGNATURE isn't hex. Nothing goes to standard error.
+";
+
+const VERSION: &str = "keyagent 0.1.0\n";
+
+const SIGNATURE: &str = "KEYCONV_SIGNATURE";
+
+/// How the process ends where the signature isn't hex.
+const NO_HEX: u8 = 7;
+
+fn main(rt: HostRuntime) -> ExitCode {
+    match words(&rt) {
+        Ok(words) => answer(&rt, words.as_slice()),
+        Err(GivenError::Unfit) => perform(&rt),
+        Err(GivenError::NoMemory) => exit_code(AgentStatus::NoMemory),
+    }
+}
+
+/// Does what the words say, where they are one of the two that say something.
+fn answer(rt: &HostRuntime, words: &[Text]) -> ExitCode {
+    match words {
+        [word] if word.as_str() == "--help" => print(rt, HELP),
+        [word] if word.as_str() == "--version" => print(rt, VERSION),
+        _ => perform(rt),
+    }
+}
+
+/// Serves with what the environment gives.
+fn perform(rt: &HostRuntime) -> ExitCode {
+    match hex_variable(rt, SIGNATURE) {
+        Ok(signature) => exit_code(start(rt, signature)),
+        Err(GivenError::Unfit) => ExitCode::from(NO_HEX),
+        Err(GivenError::NoMemory) => exit_code(AgentStatus::NoMemory),
+    }
+}
+
+/// Serves the standard streams.
+fn start(rt: &HostRuntime, signature: Option<Bytes>) -> AgentStatus {
+    let mut agent = Agent::new(rt.alloc());
+    let mut signer = HandedSigner::new(signature);
+    let mut source = StdSource::new(rt.stdin());
+    let mut out = StdSink::new(rt.stdout());
+    serve(rt.alloc(), &mut agent, &mut signer, &mut source, &mut out)
+}
+
+/// Prints a text on standard output.
+fn print(rt: &HostRuntime, text: &str) -> ExitCode {
+    match rt.print(text) {
+        Ok(()) => ExitCode::SUCCESS,
+        Err(_) => exit_code(AgentStatus::WriteFault),
+    }
+}
+
+/// How the process ends.
+fn exit_code(status: AgentStatus) -> ExitCode {
+    ExitCode::from(status.exit_code())
+}

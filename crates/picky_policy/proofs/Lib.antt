@@ -1,0 +1,9 @@
+pub mod DecideLemmas
+pub mod DemandLaws
+pub mod EndLemmas
+pub mod KeyLemmas
+pub mod OfferLaws
+pub mod OfferLemmas
+pub mod RuleLaws
+pub mod RuleLemmas
+pub mod RunLemmas

@@ -1,0 +1,9 @@
+pub mod Verifies
+pub mod Offer
+pub mod Demands
+pub mod Rules
+pub mod Decided
+pub mod Command
+pub mod Printed
+pub mod Run
+pub mod inner

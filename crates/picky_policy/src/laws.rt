@@ -1,0 +1,58 @@
+//! The laws of this crate, each as the contract of a function that does nothing.
+
+ghost use Rattle.std.specs.Prelude.{◌≡◌, ◌↔◌, ◌++◌, ℕ, Bool, List, Some, Ok};
+ghost use Rattle.picky_layout.specs.Numbers.{IsBytes};
+ghost use Rattle.picky_wire.specs.Equality.{IsEquality};
+ghost use Rattle.picky_wire.specs.declared.timestamp.Timestamp.{Timestamp as Moment};
+ghost use Rattle.picky_sshpub.specs.declared.key.SshBasePublicKey.{SshBasePublicKey as BaseKey};
+ghost use Rattle.picky_authorized.specs.declared.auth_option.AuthOption.{AuthOption as AnOption};
+ghost use Rattle.picky_authorized.specs.declared.entry.AuthEntry.{AuthEntry as Entry};
+ghost use Rattle.picky_cert.specs.Certificate.{said};
+ghost use Rattle.picky_cert.specs.declared.certificate.SshCertificate.{SshCertificate as Certificate};
+ghost use Rattle.picky_cert_parts.specs.declared.critical_option.SshCriticalOption.{SshCriticalOption as Critical};
+ghost use Rattle.picky_policy.specs.Decided.{line_for, IsLineFor, Line};
+ghost use Rattle.picky_policy.specs.Demands.{demands_in, AreDemands, Demands};
+ghost use Rattle.picky_policy.specs.Offer.{offer_in, IsOffer};
+ghost use Rattle.picky_policy.specs.Rules.{judged, Lets};
+ghost use Rattle.picky_policy.specs.declared.offer.Offer.{Offer as AnOffer};
+ghost use Rattle.picky_policy.specs.declared.offer.Offer.TheVariants as offers;
+
+use crate::deciding::DecideError;
+use crate::decision::Denial;
+use crate::status::PolicyStatus;
+
+/// A text is read as an offer exactly where it is one; so it is one.
+pub fn text_is_one_offer()
+    ensures { (text : List ℕ) (offer : AnOffer) → IsBytes text → (offer_in text ≡ Ok offer) ↔ IsOffer text offer }
+{}
+
+/// The message that is verified binds all that the certificate says: of two certificates that are offered, the message of one is
+/// the front of the other's only where both say the same.
+pub fn message_binds_what_is_said()
+    ensures { (x y : List ℕ) (c d : Certificate) (m more : List ℕ) → IsBytes x → IsBytes y → offer_in x ≡ Ok (offers.Certificate c m)
+        → offer_in y ≡ Ok (offers.Certificate d (m ++ more)) → said c ≡ said d }
+{}
+
+/// Critical options demand something exactly where none is of a type twice and each payload fits.
+pub fn demands_are_of_options()
+    ensures { (options : List Critical) (d : Demands) → (demands_in options ≡ Some d) ↔ AreDemands options d }
+{}
+
+/// No rule fails exactly where the line lets the certificate in.
+pub fn rules_are_kept_exactly()
+    ensures { (options : List AnOption) (c : Certificate) (user : List ℕ) (moment : Moment) (d : Demands)
+        → (judged options c user moment ≡ Ok d) ↔ Lets options c user moment d }
+{}
+
+/// The line for a key is the first.
+pub fn line_is_the_first()
+    ensures { (authority : Bool) (key : BaseKey) (entries : List Entry) (line : Line)
+        → (line_for authority key entries ≡ Some line) ↔ IsLineFor authority key entries line }
+{}
+
+/// Two values are equal exactly where their contents are.
+pub fn equality_is_of_contents()
+    ensures denial { IsEquality ⟦<Denial as PartialEq>⟧.eq }
+    ensures error { IsEquality ⟦<DecideError as PartialEq>⟧.eq }
+    ensures status { IsEquality ⟦<PolicyStatus as PartialEq>⟧.eq }
+{}

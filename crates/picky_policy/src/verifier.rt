@@ -1,0 +1,30 @@
+//! The verification of signatures that callers hand in.
+
+ghost use Rattle.std.specs.Prelude.{◌^◌, ◌<◌, ℕ, List};
+ghost use Rattle.picky_sshpub.specs.declared.key.SshBasePublicKey.{SshBasePublicKey as BaseKey};
+ghost use Rattle.picky_cert_parts.specs.declared.signature.SshSignature.{SshSignature as Signature};
+ghost use Rattle.picky_policy.specs.Verifies.{Verifies};
+
+use picky_cert::SshSignature;
+use picky_sshpub::SshBasePublicKey;
+use picky_wire::Failed;
+
+/// A device that verifies signatures. Which ones are good is a relation that no call changes.
+pub trait Verifier {
+    // whether a signature of a message is good under a key
+    ghost verifies: { Self → BaseKey → Signature → List ℕ → Type 0 };
+
+    // how many calls failed; it stays at 2^64 - 1
+    ghost faults: { Self → ℕ };
+
+    /// Whether the signature of the message is good under the key. Refuses: `Failed`.
+    fn verify(
+        &mut self,
+        key: &SshBasePublicKey,
+        signature: &SshSignature,
+        message: &[u8],
+    ) -> Result<bool, Failed>
+        ensures { Verifies verifies faults key.now signature.now message.now result self.old self.new };
+
+    ghost in_range: { (s : Self) → faults s < 2 ^ 64 };
+}
