@@ -27,7 +27,7 @@ pub use Rattle.picky_text.specs.Appended
 pub use Rattle.picky_text.specs.Base64
 pub use Rattle.picky_text.specs.Lines as TextLines
 pub use Rattle.picky_text.specs.Quote
-pub use Rattle.picky_text.specs.Rows
+pub use Rattle.picky_text.specs.Rows as TextRows
 pub use Rattle.picky_text.specs.Words
 pub use Rattle.picky_wire.specs.Count
 pub use Rattle.picky_wire.specs.Equality
@@ -93,6 +93,12 @@ pub use Rattle.picky_sshpub.specs.Line as SshPublicLine
 pub use Rattle.picky_sshpub.specs.LineRefusal as SshPublicLineRefusal
 pub use Rattle.picky_sshpub.specs.SourceLine as SshPublicSourceLine
 pub use Rattle.picky_sshpub.specs.View as SshPublicView
+pub use Rattle.picky_authorized.specs.Entries
+pub use Rattle.picky_authorized.specs.KnownOptions
+pub use Rattle.picky_authorized.specs.Lines as AuthorizedLines
+pub use Rattle.picky_authorized.specs.OptionText
+pub use Rattle.picky_authorized.specs.Options as AuthorizedOptions
+pub use Rattle.picky_authorized.specs.Quotes
 pub use Rattle.picky_cert_names.specs.ExtensionType
 pub use Rattle.picky_cert_names.specs.FromWire as CertFromWire
 pub use Rattle.picky_cert_names.specs.NameTables as CertNameTables
@@ -210,7 +216,7 @@ pub use Rattle.picky_target.specs.Texts as TargetTexts
 pub use Rattle.picky_target.specs.Written as TargetWritten
 pub use Rattle.picky_issuing.specs.NamedPayload
 pub use Rattle.picky_issuing.specs.OptionWord
-pub use Rattle.picky_issuing.specs.Options
+pub use Rattle.picky_issuing.specs.Options as IssuingOptions
 pub use Rattle.picky_issuing.specs.Parts as IssuingParts
 pub use Rattle.picky_issuing.specs.Steps
 pub use Rattle.picky_issuing.specs.Value
@@ -224,6 +230,28 @@ pub use Rattle.picky_inventory.specs.Merging
 pub use Rattle.picky_inventory.specs.OrderedText
 pub use Rattle.picky_inventory.specs.Parted
 pub use Rattle.picky_inventory.specs.Run as InventoryRun
+pub use Rattle.picky_agent_state.specs.Failure
+pub use Rattle.picky_agent_state.specs.Held
+pub use Rattle.picky_agent_state.specs.Kept as AgentKept
+pub use Rattle.picky_agent_state.specs.Message
+pub use Rattle.picky_agent_state.specs.Reply
+pub use Rattle.picky_agent_state.specs.Request as AgentRequest
+pub use Rattle.picky_agent_state.specs.Rows as AgentRows
+pub use Rattle.picky_agent_state.specs.Signing
+pub use Rattle.picky_agent_state.specs.Step
+pub use Rattle.picky_agent.specs.Ending
+pub use Rattle.picky_agent.specs.ExitCode
+pub use Rattle.picky_agent.specs.Frame
+pub use Rattle.picky_agent.specs.Run as AgentRun
+pub use Rattle.picky_agent.specs.Served
+pub use Rattle.picky_policy.specs.Command as PolicyCommand
+pub use Rattle.picky_policy.specs.Decided
+pub use Rattle.picky_policy.specs.Demands
+pub use Rattle.picky_policy.specs.Offer
+pub use Rattle.picky_policy.specs.Printed
+pub use Rattle.picky_policy.specs.Rules
+pub use Rattle.picky_policy.specs.Run as PolicyRun
+pub use Rattle.picky_policy.specs.Verifies
 pub use Rattle.picky_cert_target.specs.Certified
 pub use Rattle.picky_cert_target.specs.Drafted as CertTargetDrafted
 pub use Rattle.picky_cert_target.specs.Request as CertTargetRequest

@@ -4,8 +4,10 @@
 //! has them, and its specs/ the words of their contracts. CALLING.md, beside src/, has a proved caller for each task.
 #![tactic(auto)]
 
+pub mod agent;
 pub mod convert;
 pub mod inventory;
+pub mod policy;
 pub mod putty;
 pub mod ssh;
 pub mod wire;

@@ -1,4 +1,4 @@
--- Messages in a stream: each is the string of its bytes (draft-miller-ssh-agent-04, section 3).
+-- Messages in a stream: each is the string of its bytes (draft-miller-ssh-agent-04).
 use Rattle.std.specs.Prelude.{◌≡◌, ◌≤◌, ◌<◌, ◌^◌, ◌++◌, ◌⊎◌, ℕ, List, [], length, Option, Some, None, Result, Ok, Err, IfOk, IfSome}
 use Rattle.std.specs.Int.{w32, to_be_bytes}
 use Rattle.picky_layout.specs.Wire.{string_of}
