@@ -1,6 +1,6 @@
 -- Lemmas on replies.
 use Rattle.std.proofs.Common.{◌≡◌, ◌≤◌, ◌<◌, ◌+◌, ◌^◌, ◌++◌, ◌∙◌, [], ◌∷◌, ℕ, List, length, get_or, ap, sym, arith, append_assoc}
-use Rattle.std.specs.Prelude.{flat_map, if◌then◌else◌}
+use Rattle.std.specs.Prelude.{flat_map, min, if◌then◌else◌}
 use Rattle.std.specs.Int.{w32, to_be_bytes}
 use Rattle.std.proofs.lemmas.Bool.{le-ltb}
 use Rattle.std.proofs.lemmas.List.{append-nil, length-append}
@@ -86,3 +86,17 @@ long_blob identity blob is long =
       length-append (string_of (blob_of (public_part identity.key))) (string_of identity.comment),
       long,
     )
+
+-- ---- a blob as a string
+
+pub short_len : (pieces : List (List ℕ)) (blob : List ℕ) (len : ℕ) → concat pieces ≡ blob → len ≡ min (length (concat pieces)) (2 ^ 40)
+    → len < 2 ^ 32 → len ≡ length blob
+short_len pieces blob len is len_is short = omega (arith, len_is, ap length is, short)
+
+pub blob_string : (blob start head tail number : List ℕ) (pieces : List (List ℕ)) (len : ℕ) → concat pieces ≡ blob → len ≡ length blob
+    → number ≡ to_be_bytes w32 len → head ≡ start ++ concat (number ∷ []) → tail ≡ head ++ concat pieces
+    → tail ≡ start ++ string_of blob
+unfolding string_of
+blob_string blob start head tail number pieces len is len_is number_is head_is tail_is =
+    tail_is ∙ ap (λ h. h ++ concat pieces) (head_is ∙ ap (λ n. start ++ n) (append-nil number ∙ number_is ∙ ap (to_be_bytes w32) len_is))
+    ∙ ap (λ b. (start ++ to_be_bytes w32 (length blob)) ++ b) is ∙ append_assoc start (to_be_bytes w32 (length blob)) blob

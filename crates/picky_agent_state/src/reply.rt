@@ -1,18 +1,17 @@
 //! The replies, as bytes.
 
-ghost use Rattle.std.specs.Prelude.{◌≡◌, ◌≢◌, ◌∷◌, ◌++◌, [], ◌^◌, ◌<◌, ◌≤◌, length, Err, IfOk, OnOk};
+ghost use Rattle.std.specs.Prelude.{◌≡◌, ◌∷◌, ◌++◌, [], ◌^◌, ◌<◌, ◌≤◌, length, Err, IfOk, OnOk};
+ghost use Rattle.std.specs.List.{concat};
 ghost use Rattle.picky_layout.specs.Wire.{string_of};
 ghost use Rattle.picky_sshpub.specs.Blob.{blob_of};
-ghost use Rattle.picky_sshkey_blob.specs.Key.{public_part};
 ghost use Rattle.picky_agent_state.specs.Reply.{entry, failure as failure_reply, fitted, listing, signed_reply, success as success_reply};
 ghost use Rattle.picky_agent_state.specs.Rows.{most_identities};
 
 use crate::identity::Identity;
 use crate::message_type;
 use picky_cert_names::SshSignatureFormat;
-use picky_sshkey_blob::SshBasePrivateKey;
-use picky_sshpub::bytes_of;
-use picky_wire::{Bytes, NoMemory, Piece, SizeError, Text, push_pieces};
+use picky_sshpub::{SshBasePublicKey, pieces_behind};
+use picky_wire::{Bytes, NoMemory, Piece, SizeError, Text, pieces_len, push_pieces};
 use std::alloc::Global;
 
 /// How many bytes a reply doesn't reach.
@@ -81,38 +80,52 @@ fn push_entry(alloc: Global, reply: &mut Vec<u8>, identity: &Identity) -> Result
     ensures ok { OnOk result (reply.new.items ≡ reply.old.items ++ entry identity.now) }
     ensures too_long { result ≡ Err SizeError.TooLong → 2 ^ 32 ≤ length (entry identity.now) }
 {
-    match blob_in(alloc, &identity.key) {
-        Ok(blob) => {
-            if blob.len() >= REPLY_LIMIT {
-                return Err(SizeError::TooLong);
-            }
-            push_both(reply, &Bytes::from_vec(blob), &identity.comment)
-        }
+    match identity.key.base_public_key(alloc) {
+        Ok(public) => push_both(reply, &public, &identity.comment),
         Err(NoMemory) => Err(SizeError::NoMemory),
     }
 }
 
-/// The blob of the public key in a private one. Refuses: `NoMemory`.
-fn blob_in(alloc: Global, key: &SshBasePrivateKey) -> Result<Vec<u8>, NoMemory>
-    ensures { IfOk result (λ blob. blob.items ≡ blob_of (public_part key.now)) }
+/// Appends a key's blob and a comment, each as a string. Refuses, in order: as `push_blob`; `NoMemory`.
+fn push_both(reply: &mut Vec<u8>, key: &SshBasePublicKey, comment: &Text) -> Result<(), SizeError>
+    ensures ok { OnOk result (reply.new.items ≡ reply.old.items ++ (string_of (blob_of key.now) ++ string_of comment.now)) }
+    ensures too_long { result ≡ Err SizeError.TooLong → 2 ^ 32 ≤ length (blob_of key.now) }
 {
-    let public = key.base_public_key(alloc)?;
-    bytes_of(alloc, &public)
+    match push_blob(reply, key) {
+        Ok(()) => match push_pieces(reply, &[Piece::text(comment)]) {
+            Ok(()) => Ok(()),
+            Err(_) => Err(SizeError::NoMemory),
+        },
+        Err(e) => Err(e),
+    }
 }
 
-/// Appends two strings.
-fn push_both(reply: &mut Vec<u8>, blob: &Bytes, comment: &Text) -> Result<(), SizeError>
-    ensures ok { OnOk result (reply.new.items ≡ reply.old.items ++ (string_of blob.now ++ string_of comment.now)) }
-    ensures err { result ≢ Err SizeError.TooLong }
+/// Appends a key's blob as a string. Refuses, in order: `TooLong`, where a length of the wire can't say the blob's; `NoMemory`.
+fn push_blob(reply: &mut Vec<u8>, key: &SshBasePublicKey) -> Result<(), SizeError>
+    ensures ok { OnOk result (reply.new.items ≡ reply.old.items ++ string_of (blob_of key.now)) }
+    ensures too_long { result ≡ Err SizeError.TooLong → 2 ^ 32 ≤ length (blob_of key.now) }
 {
-    match push_pieces(reply, &[Piece::bytes(blob)]) {
+    let pieces = blob_pieces(key);
+    let len = pieces_len(&pieces);
+    if len >= REPLY_LIMIT as u64 {
+        return Err(SizeError::TooLong);
+    }
+    match push_pieces(reply, &[Piece::uint32(len as u32)]) {
         Ok(()) => {}
         Err(_) => return Err(SizeError::NoMemory),
     }
-    match push_pieces(reply, &[Piece::text(comment)]) {
+    match push_pieces(reply, &pieces) {
         Ok(()) => Ok(()),
         Err(_) => Err(SizeError::NoMemory),
     }
+}
+
+/// The fields of a key's blob, its name first.
+#[tactic(auto, unfolding(picky_sshpub::specs::Blob::blob_of))]
+fn blob_pieces(key: &SshBasePublicKey) -> [Piece<'_>; 4]
+    ensures { concat result ≡ blob_of key.now }
+{
+    pieces_behind(Piece::string(key.kind().name().as_bytes()), key)
 }
 
 /// The signature in its format. Refuses: `NoMemory`.
