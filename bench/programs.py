@@ -1,5 +1,6 @@
-"""Builds and times programs for the scripts of bench/ and for check/refused_memory."""
+"""Builds, counts and times programs for the scripts of bench/ and for check/refused_memory."""
 import os
+import re
 import shutil
 import subprocess
 import sys
@@ -72,6 +73,17 @@ def fastest(command, source, rounds=9):
         best = spent if best is None else min(best, spent)
         peak = max(peak, usage.ru_maxrss)
     return best, small_peak(command, source) or peak
+
+
+def instructions(command, source, env={}):
+    """How many instructions callgrind counts over a file as standard input. A run may end with any status."""
+    with open(source, "rb") as stdin:
+        ran = subprocess.run(["valgrind", "--tool=callgrind", "--callgrind-out-file=/dev/null", *command], stdin=stdin,
+                             stdout=subprocess.DEVNULL, stderr=subprocess.PIPE, text=True, env=env)
+    counted = re.search(r"Collected : (\d+)", ran.stderr)
+    if not counted:
+        sys.exit(ran.stderr)
+    return int(counted[1])
 
 
 def small_peak(command, source):

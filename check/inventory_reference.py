@@ -110,10 +110,11 @@ class Fields:
 
 
 def all_of(content, read):
-    """Reads one piece after the other, until none of the bytes is left over."""
-    fields = Fields(content)
+    """The pieces that stand one after the other, until none of the bytes is left over."""
+    fields, found = Fields(content), []
     while fields.left():
-        read(fields)
+        found.append(read(fields))
+    return found
 
 
 # ---- public keys (RFC 4253, section 6.6; RFC 5656; RFC 8709; PROTOCOL.u2f)
@@ -181,6 +182,24 @@ def public_line(text):
     return Item("public", public_key(Fields(unbase64(second, "base64"))), comment)
 
 
+class Certificate(NamedTuple):
+    """What a certificate says, apart from its nonce, its serial number, its key id and the signature itself. Keys are blobs."""
+    key: bytes
+    is_host: bool
+    principals: list
+    valid_after: int
+    valid_before: int
+    critical_options: list
+    extensions: list
+    issuer: bytes
+    # The bytes that the issuer signed.
+    signed: bytes
+    comment: str
+
+    def item(self):
+        return Item("public", self.key, self.comment)
+
+
 def certificate(text):
     _, second, comment = words_of(text)
     fields = Fields(unbase64(second, "base64"))
@@ -188,25 +207,26 @@ def certificate(text):
     if not CERT_TYPES[name]:
         raise Refused("DSS")
     fields.string()
-    blob = public_fields(CERT_TYPES[name], fields)
+    key = public_fields(CERT_TYPES[name], fields)
     fields.number(8)
-    if fields.number() not in (1, 2):
+    kind = fields.number()
+    if kind not in (1, 2):
         raise Refused("certificate's kind")
     fields.text()
-    all_of(fields.string(), Fields.text)
-    fields.number(8)
-    fields.number(8)
-    all_of(fields.string(), lambda it: (it.name(CRITICAL, "critical option"), it.string()))
-    all_of(fields.string(), lambda it: (it.text(), it.string()))
+    principals = all_of(fields.string(), Fields.text)
+    valid_after, valid_before = fields.number(8), fields.number(8)
+    critical_options = all_of(fields.string(), lambda it: (it.name(CRITICAL, "critical option"), it.string()))
+    extensions = all_of(fields.string(), lambda it: (it.text(), it.string()))
     fields.string()
-    public_key(Fields(fields.string()))
+    issuer = public_key(Fields(fields.string()))
+    signed = fields.content[:fields.at]
     fields.number()
     form = fields.name(SIGNATURES, "signature's format")
     fields.string()
     if form in (SK_ECDSA, SK_ED25519):
         fields.number(1)
         fields.number()
-    return Item("public", blob, comment)
+    return Certificate(key, kind == 2, principals, valid_after, valid_before, critical_options, extensions, issuer, signed, comment)
 
 
 # ---- OpenSSH's private keys (PROTOCOL.key)
@@ -401,7 +421,7 @@ def form_of(text):
     if text.startswith("---- "):
         return "PuTTY public", putty_public
     if words_of(text)[0] in CERT_TYPES:
-        return "certificate", lambda it, _: certificate(it)
+        return "certificate", lambda it, _: certificate(it).item()
     return "public line", lambda it, _: public_line(it)
 
 

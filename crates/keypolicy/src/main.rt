@@ -101,17 +101,5 @@ fn end(e: GivenError) -> ExitCode {
 
 /// How the process ends.
 fn exit_code(status: PolicyStatus) -> ExitCode {
-    let code: u8 = match status {
-        PolicyStatus::Granted | PolicyStatus::Message => 0,
-        PolicyStatus::Denied => 1,
-        PolicyStatus::Usage => 2,
-        PolicyStatus::BadOffer => 3,
-        PolicyStatus::ReadFault => 4,
-        PolicyStatus::WriteFault => 5,
-        PolicyStatus::OutsideFault => 6,
-        PolicyStatus::NoMemory => 7,
-        PolicyStatus::InputTooLong => 8,
-        PolicyStatus::InputNotUtf8 => 9,
-    };
-    ExitCode::from(code)
+    ExitCode::from(status.exit_code())
 }

@@ -33,7 +33,7 @@ serves_none signs tells_in tells_out now = record {
   faults = now.signer_faults;
   run = refl;
   no_higher = omega arith;
-  exact = λ ok. refl;
+  exact = λ remembers. refl;
   reads = λ t. record { rest = now.left; are = refl; ends = ends_here now.left; halts = refl };
   wrote = λ t. sym (append-nil now.written);
   counts = (refl, refl);
@@ -52,17 +52,18 @@ wrote_nothing statuses.TooMany before after other same = same ∙ sym (append-ni
 -- serving ended
 pub serves_stop : (signs : Relation) (tells_in tells_out : Type 0) (status : AgentStatus) (old new : Scene)
     → status ≢ statuses.WriteFault → new.kept ≡ old.kept → old.signer_faults ≤ new.signer_faults
+    → (status ≢ statuses.NoMemory → new.signer_faults ≡ old.signer_faults)
     → (tells_in → EndsIn old.left new.left) → (tells_in → Halts (Err status) old.left new.left)
     → new.written ≡ old.written → Counts (Err status) old new
     → Serves signs tells_in tells_out (Err status) 0 old new
-serves_stop signs tells_in tells_out status old new other kept rises ends halts written counts = record {
+serves_stop signs tells_in tells_out status old new other kept rises calm ends halts written counts = record {
   exchanges = [];
   count = refl;
   each = tt;
   faults = old.signer_faults;
   run = ap (λ k. machine k old.signer_faults) (sym kept);
   no_higher = rises;
-  exact = λ ok. cc ok;
+  exact = λ remembers. sym (calm (λ is. remembers (ap Err is)));
   reads = λ t. record { rest = old.left; are = refl; ends = ends t; halts = halts t };
   wrote = λ t. wrote_nothing status old.written new.written other written;
   counts = counts;
@@ -88,7 +89,7 @@ serves_one signs tells_in tells_out message reply old new is step left written c
   faults = new.signer_faults;
   run = (machine new.kept new.signer_faults, step, refl);
   no_higher = omega arith;
-  exact = λ ok. refl;
+  exact = λ remembers. refl;
   reads = λ t. record {
     rest = new.left;
     are = left t ∙ ap (λ f. f ++ new.left) (sym (framed_once message));
@@ -113,7 +114,7 @@ serves_broken signs tells_in tells_out message reply old new is step left writte
   faults = new.signer_faults;
   run = (machine new.kept new.signer_faults, step, refl);
   no_higher = omega arith;
-  exact = λ ok. cc;
+  exact = λ remembers. refl;
   reads = λ t. record {
     rest = new.left;
     are = left t ∙ ap (λ f. f ++ new.left) (sym (framed_once message));
@@ -199,7 +200,7 @@ serves_joined few many tells_in tells_out tells_in' tells_out' r n m old mid new
   faults = second.faults;
   run =
       let start : Run many (machine old.kept old.signer_faults) first.exchanges (machine mid.kept mid.signer_faults) =
-      subst (λ f. Run many (machine old.kept old.signer_faults) first.exchanges (machine mid.kept f)) (first.exact refl) first.run in
+      subst (λ f. Run many (machine old.kept old.signer_faults) first.exchanges (machine mid.kept f)) (first.exact (λ is. cc is)) first.run in
       run_joined many (machine old.kept old.signer_faults) first.exchanges second.exchanges
       (machine mid.kept mid.signer_faults) (machine new.kept second.faults) start
       (run_under few many under (machine mid.kept mid.signer_faults) second.exchanges (machine new.kept second.faults) second.run);
@@ -252,7 +253,7 @@ served_many signs tells_in tells_out n old new full serves = record {
     faults = serves.faults;
     run = serves.run;
     no_higher = serves.no_higher;
-    exact = λ ok. cc ok;
+    exact = λ remembers. serves.exact (λ is. cc is);
     reads = λ t.
         let reads = serves.reads t in
         record { rest = reads.rest; are = reads.are; ends = reads.ends; halts = reads.halts };

@@ -20,14 +20,15 @@ use Rattle.picky_agent.proofs.ServedLemmas.{ends_here, serves_broken, serves_one
 stops : {I A : Type 0} (signs : Relation) (tells : I → Type 0) (left : I → List ℕ) (faults : I → ℕ) (tells_out : Type 0)
     (status : AgentStatus) (r : Result A FrameError) (kept kept' : Kept) (n n' : ℕ) (source source' : I) (written : List ℕ)
     (sink_faults : ℕ)
-    → status ≢ statuses.WriteFault → kept' ≡ kept → n ≤ n' → Walks tells left faults r source source'
+    → status ≢ statuses.WriteFault → kept' ≡ kept → n ≤ n' → (status ≢ statuses.NoMemory → n' ≡ n)
+    → Walks tells left faults r source source'
     → (tells source → Halts (Err status) (left source) (left source'))
     → Counts (Err status) (scene kept n (left source) (faults source) written sink_faults)
     (scene kept' n' (left source') (faults source') written sink_faults)
     → Serves signs (tells source) tells_out (Err status) 0 (scene kept n (left source) (faults source) written sink_faults)
     (scene kept' n' (left source') (faults source') written sink_faults)
-stops signs tells left faults tells_out status r kept kept' n n' source source' written sink_faults other same rises walks halts counts =
-    serves_stop signs (tells source) tells_out status _ _ other same rises
+stops signs tells left faults tells_out status r kept kept' n n' source source' written sink_faults other same rises calm walks halts counts =
+    serves_stop signs (tells source) tells_out status _ _ other same rises calm
     (λ told. walks.front told (left source) (ends_here (left source))) halts refl counts
 
 -- a message was taken, and there was no memory for its reply
@@ -38,7 +39,7 @@ pub serves_unanswered : {I : Type 0} (signs : Relation) (tells : I → Type 0) (
     (scene kept' n' (left source') (faults source') written sink_faults)
 serves_unanswered signs tells left faults tells_out message kept kept' n n' source source' written sink_faults takes same rises =
     stops signs tells left faults tells_out statuses.NoMemory _ kept kept' n n' source source' written sink_faults
-    (λ other. cc other) same rises takes.walks (λ told. tt) (takes.walks.calm, refl)
+    (λ other. cc other) same rises (λ other. absurd (other refl)) takes.walks (λ told. tt) (takes.walks.calm, refl)
 
 -- the stream ended
 pub serves_end : {I : Type 0} (signs : Relation) (tells : I → Type 0) (left : I → List ℕ) (faults : I → ℕ) (tells_out : Type 0)
@@ -48,7 +49,7 @@ pub serves_end : {I : Type 0} (signs : Relation) (tells : I → Type 0) (left : 
     (scene kept n (left source') (faults source') written sink_faults)
 serves_end signs tells left faults tells_out kept n source source' written sink_faults takes =
     stops signs tells left faults tells_out statuses.Done _ kept kept n n source source' written sink_faults
-    (λ other. cc other) refl (omega arith) takes.walks takes.fronts (takes.walks.calm, refl)
+    (λ other. cc other) refl (omega arith) (λ remembers. refl) takes.walks takes.fronts (takes.walks.calm, refl)
 
 -- no message was taken
 pub serves_refused : {I : Type 0} (signs : Relation) (tells : I → Type 0) (left : I → List ℕ) (faults : I → ℕ) (tells_out : Type 0)
@@ -58,16 +59,16 @@ pub serves_refused : {I : Type 0} (signs : Relation) (tells : I → Type 0) (lef
     (scene kept n (left source) (faults source) written sink_faults) (scene kept n (left source') (faults source') written sink_faults)
 serves_refused signs tells left faults tells_out errors.BadFrame kept n source source' written sink_faults takes =
     stops signs tells left faults tells_out statuses.BadFrame _ kept kept n n source source' written sink_faults
-    (λ other. cc other) refl (omega arith) takes.walks takes.fronts (takes.walks.calm (λ other. cc other), refl)
+    (λ other. cc other) refl (omega arith) (λ remembers. refl) takes.walks takes.fronts (takes.walks.calm (λ other. cc other), refl)
 serves_refused signs tells left faults tells_out errors.Cut kept n source source' written sink_faults takes =
     stops signs tells left faults tells_out statuses.Cut _ kept kept n n source source' written sink_faults
-    (λ other. cc other) refl (omega arith) takes.walks takes.fronts (takes.walks.calm (λ other. cc other), refl)
+    (λ other. cc other) refl (omega arith) (λ remembers. refl) takes.walks takes.fronts (takes.walks.calm (λ other. cc other), refl)
 serves_refused signs tells left faults tells_out errors.ReadFault kept n source source' written sink_faults takes =
     stops signs tells left faults tells_out statuses.ReadFault _ kept kept n n source source' written sink_faults
-    (λ other. cc other) refl (omega arith) takes.walks takes.fronts (takes.walks.fault refl, refl)
+    (λ other. cc other) refl (omega arith) (λ remembers. refl) takes.walks takes.fronts (takes.walks.fault refl, refl)
 serves_refused signs tells left faults tells_out errors.NoMemory kept n source source' written sink_faults takes =
     stops signs tells left faults tells_out statuses.NoMemory _ kept kept n n source source' written sink_faults
-    (λ other. cc other) refl (omega arith) takes.walks takes.fronts (takes.walks.calm (λ other. cc other), refl)
+    (λ other. cc other) refl (omega arith) (λ remembers. refl) takes.walks takes.fronts (takes.walks.calm (λ other. cc other), refl)
 
 -- ---- a message was taken, and its reply was put
 

@@ -1,5 +1,5 @@
 -- What is served of a stream, and how serving ends.
-use Rattle.std.specs.Prelude.{◌≡◌, ◌<◌, ◌≤◌, ◌-◌, ◌^◌, ◌++◌, ℕ, List, [], ◌∷◌, length, take, Result, Ok, Err}
+use Rattle.std.specs.Prelude.{◌≡◌, ◌≢◌, ◌<◌, ◌≤◌, ◌-◌, ◌^◌, ◌++◌, ℕ, List, [], ◌∷◌, length, take, Result, Ok, Err}
 use Rattle.std.specs.List.{AllByRecursion}
 use Rattle.picky_layout.specs.Wire.{string_of}
 use Rattle.picky_wire.specs.Count.{Rose}
@@ -79,11 +79,12 @@ pub record Serves (signs : Relation) (tells_in tells_out : Type 0) (result : Res
   pub exchanges : List Exchange
   pub count : length exchanges ≡ n
   pub each : AllByRecursion IsExchange exchanges
-  -- the machine runs over them from what was kept to what is, and its number of faults is no higher than the signer's
+  -- the machine runs over them from what was kept to what is; where memory didn't run out, its number of faults is the signer's, and
+  -- else no higher
   pub faults : ℕ
   pub run : Run signs (machine old.kept old.signer_faults) exchanges (machine new.kept faults)
   pub no_higher : faults ≤ new.signer_faults
-  pub exact : result ≡ Ok tt → faults ≡ new.signer_faults
+  pub exact : result ≢ Err statuses.NoMemory → faults ≡ new.signer_faults
   -- the streams
   pub reads : tells_in → Reads result exchanges old.left new.left
   pub wrote : tells_out → Wrote result exchanges old.written new.written

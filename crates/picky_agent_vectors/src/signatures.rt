@@ -4,14 +4,15 @@ ghost use Rattle.std.proofs.Common.{lit<};
 
 use crate::keys::{KEYS, KeyRow, key_of, numbered_key};
 use crate::talks::{FAILURE, LIST, SUCCESS, Talk, add, is_answered, list_of, sign, signed};
-use picky_keys::{Issuer, PublicKeyRef, SignatureAlgorithm};
+use picky_keys::{Issuer, PrivateKey, PublicKeyRef, SignatureAlgorithm};
 use picky_suite::{HandedSigner, MemorySigner, SignError, Signer};
 use picky_wire::Bytes;
 use std::alloc::Global;
 use std::mem::ManuallyDrop;
 use std::test::Fail;
 
-/// A signer that answers what it was asked: the algorithm, the last byte of the public key, and the message. It counts its calls.
+/// A signer that answers what it was asked: the algorithm, the last bytes of the public key and of the secret, and the message. It
+/// counts its calls.
 #[derive(Drop)]
 struct Telling {
     calls: u32,
@@ -31,7 +32,7 @@ impl Signer for Telling {
         algorithm: SignatureAlgorithm,
         message: &[u8],
     ) -> Result<Bytes, SignError> {
-        match told(alloc, algorithm, last_byte(issuer), message) {
+        match told(alloc, algorithm, issuer, message) {
             Some(signature) => {
                 self.calls = self.calls.saturating_add(1);
                 Ok(signature)
@@ -41,8 +42,15 @@ impl Signer for Telling {
     }
 }
 
-fn told(alloc: Global, algorithm: SignatureAlgorithm, last: u8, message: &[u8]) -> Option<Bytes> {
-    let text = format!(in alloc; "{algorithm:?} {last} ").ok()?;
+fn told(
+    alloc: Global,
+    algorithm: SignatureAlgorithm,
+    issuer: &Issuer,
+    message: &[u8],
+) -> Option<Bytes> {
+    let last = last_byte(issuer);
+    let secret = secret_byte(issuer);
+    let text = format!(in alloc; "{algorithm:?} {last} {secret} ").ok()?;
     let mut signature = Vec::from_slice(alloc, text.as_bytes()).ok()?;
     signature.extend_from_slice(message).ok()?;
     Bytes::new(alloc, signature.as_slice()).ok()
@@ -54,6 +62,20 @@ fn last_byte(issuer: &Issuer) -> u8 {
         PublicKeyRef::Rsa { n, .. } => n.bytes(),
         PublicKeyRef::Ec { point, .. } => point.as_slice(),
         PublicKeyRef::Ed { key } => key.as_slice(),
+    };
+    match bytes.last() {
+        Some(byte) => *byte,
+        None => 0,
+    }
+}
+
+/// The last byte of the last secret number, and 0 where the issuer has none.
+fn secret_byte(issuer: &Issuer) -> u8 {
+    let bytes = match issuer {
+        Issuer::Private(PrivateKey::Rsa { q, .. }) => q.bytes(),
+        Issuer::Private(PrivateKey::Ec { secret, .. }) => secret.bytes(),
+        Issuer::Private(PrivateKey::Ed { secret, .. }) => secret.as_slice(),
+        Issuer::Public(_) => return 0,
     };
     match bytes.last() {
         Some(byte) => *byte,
@@ -84,6 +106,15 @@ static OTHER_TYPES: [(usize, &str, &str); 4] = [
 
 static FLAGS: [u32; 5] = [0, 1, 2, 4, 0xffff_ffff];
 
+/// The last byte of the last secret number in a private blob: that of Ed25519 has the public key behind it.
+fn secret_of(row: &KeyRow, private: &[u8]) -> u8 {
+    let behind = if row.name == "Ed25519" { 33 } else { 1 };
+    match private.get(private.len().saturating_sub(behind)) {
+        Some(byte) => *byte,
+        None => 0,
+    }
+}
+
 /// Of the row's key a signature with these flags is asked by the algorithm, over the message, and has the format.
 fn is_signed_by(
     alloc: Global,
@@ -97,7 +128,8 @@ fn is_signed_by(
         Some(byte) => *byte,
         None => 0,
     };
-    let wanted = ManuallyDrop::new(format!(in alloc; "{algorithm} {last} a message")?);
+    let secret = secret_of(row, key.private.as_slice());
+    let wanted = ManuallyDrop::new(format!(in alloc; "{algorithm} {last} {secret} a message")?);
     let add = ManuallyDrop::new(add(alloc, key.private.as_slice(), b"k")?);
     let sign = ManuallyDrop::new(sign(alloc, key.public.as_slice(), b"a message", flags)?);
     let reply = ManuallyDrop::new(signed(alloc, format, wanted.as_str().as_bytes())?);
