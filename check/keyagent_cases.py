@@ -14,7 +14,7 @@ BAD_FRAME, CUT, READ_FAULT, WRITE_FAULT, NO_MEMORY, NO_HEX = (End(status, b"") f
 # The longest message, and how many identities there are at most.
 LONGEST, MOST = 262_144, 1_024
 
-# The types of messages and replies (draft-miller-ssh-agent-04, section 5.1), of which these stand without fields too: the failure,
+# The types of messages and replies (draft-miller-ssh-agent-04), of which these stand without fields too: the failure,
 # the success, the list that is asked for, and that all identities are to be removed.
 TYPES = (5, 6, 11, 12, 13, 14, 17, 18, 19, 22, 23)
 FAILURE, SUCCESS, LIST, LISTED, SIGN, SIGNED, ADD, REMOVE, REMOVE_ALL, LOCK, UNLOCK = (bytes([it]) for it in TYPES)
@@ -23,7 +23,7 @@ SIGNATURE = bytes(range(200, 264 - 8)) + b"end"
 HANDED = {"KEYCONV_SIGNATURE": SIGNATURE.hex()}
 
 
-# ---- messages, their type and contents (draft-miller-ssh-agent-04, section 4)
+# ---- messages, their type and contents (draft-miller-ssh-agent-04)
 
 
 def sign(blob, message=b"message", flags=0):
