@@ -9,13 +9,16 @@ use Rattle.picky_layout.specs.Wire.{string, string_of, uint32}
 use Rattle.picky_layout.proofs.Grammar.{one_front}
 use Rattle.picky_layout.proofs.Numbers.{uint32_spells}
 use Rattle.picky_layout.proofs.Strings.{string_spells}
+use Rattle.picky_agent_state.specs.Kept.{Kept}
 use Rattle.picky_agent_state.specs.Message.{IsMessage}
+use Rattle.picky_agent_state.specs.Request.{Request, Identities, Sign, Add, Remove, RemoveAll, Lock, Unlock, Unfit, request_of}
+use Rattle.picky_agent_state.specs.Step.{AsksSigner}
 use Rattle.picky_agent.specs.declared.status.AgentStatus.{AgentStatus}
 use Rattle.picky_agent.specs.declared.status.AgentStatus.TheVariants as statuses
 use Rattle.picky_suite.specs.Signs.{Relation}
 use Rattle.picky_agent.specs.Run.{Exchange, IsExchange, asked}
 use Rattle.picky_agent.specs.Served.{Reads, Scene, Served}
-use Rattle.picky_agent.specs.Ending.{Ending, AtMessage, AtBadLength, InMessage, EndsAs, IsEnding, Tells}
+use Rattle.picky_agent.specs.Ending.{Ending, AtMessage, AtBadLength, InMessage, EndsAs, HasNoSign, IsEnding, IsOther, Tells}
 
 -- one number stands in front of bytes
 one_number : (a b : ℕ) (x y : List ℕ) → a < 2 ^ 32 → b < 2 ^ 32 → to_be_bytes w32 a ++ x ≡ to_be_bytes w32 b ++ y
@@ -113,6 +116,39 @@ pub one_ending : (stream : List ℕ) (ms ns : List (List ℕ)) (e f : Ending) �
     → (ms ≡ ns) × (e ≡ f)
 one_ending stream ms ns e f first second =
     one_list ms ns e f first.rest second.rest first.each second.each first.ends second.ends (sym first.are ∙ second.are)
+
+-- ---- where no signature is asked
+
+-- what asks for none asks no signer
+pub other_asks_none : (kept : Kept) (request : Request) → IsOther request → AsksSigner kept request → ⊥
+other_asks_none kept Identities other asks = asks
+other_asks_none kept (Sign asked) other asks = other
+other_asks_none kept (Add added) other asks = asks
+other_asks_none kept (Remove key) other asks = asks
+other_asks_none kept RemoveAll other asks = asks
+other_asks_none kept (Lock pass) other asks = asks
+other_asks_none kept (Unlock pass) other asks = asks
+other_asks_none kept Unfit other asks = asks
+
+-- nor does the message in front, nor what follows it
+pub no_sign_behind : (stream m rest : List ℕ) → IsMessage m → stream ≡ string_of m ++ rest → HasNoSign stream
+    → IsOther (request_of m) × HasNoSign rest
+no_sign_behind stream m rest is same none = go none.messages none.ending none.ends none.none
+  where
+    go : (ms : List (List ℕ)) (ending : Ending) → EndsAs stream ms ending → AllByRecursion (λ k. IsOther (request_of k)) ms
+        → IsOther (request_of m) × HasNoSign rest
+    go [] ending ends others = absurd (no_ending ending ends.rest m rest is (sym ends.are ∙ same) ends.ends)
+    go (n ∷ ns) ending ends (other, others) =
+        let front = one_message n m (flat_map string_of ns ++ ends.rest) rest ends.each.0 is
+        (sym (behind n ns ends.rest) ∙ sym ends.are ∙ same) in (
+          subst (λ (k : List ℕ). IsOther (request_of k)) front.0 other,
+          record {
+            messages = ns;
+            ending = ending;
+            ends = record { each = ends.each.1; rest = ends.rest; are = sym front.1; ends = ends.ends };
+            none = others;
+          },
+        )
 
 -- ---- how serving ends
 

@@ -1,6 +1,6 @@
 -- Lemmas on messages that are taken from a source.
-use Rattle.std.proofs.Common.{◌≡◌, ◌≢◌, ◌≤◌, ◌<◌, ◌++◌, ◌∙◌, ℕ, List, [], ◌∷◌, length, sym, ap, subst, refl, arith, append_assoc, Result}
-use Rattle.std.proofs.Common.{Ok, Err, Some}
+use Rattle.std.proofs.Common.{◌≡◌, ◌≢◌, ◌≤◌, ◌<◌, ◌+◌, ◌⊎◌, ◌++◌, ◌∙◌, ℕ, List, [], ◌∷◌, length, sym, ap, subst, refl, arith}
+use Rattle.std.proofs.Common.{append_assoc, inl, inr, Result, Ok, Err, Some}
 use Rattle.std.specs.Prelude.{slice_index}
 use Rattle.std.specs.Int.{w32, from_be_bytes, to_be_bytes}
 use Rattle.std.proofs.lemmas.List.{length-append}
@@ -11,7 +11,7 @@ use Rattle.picky_layout.specs.Outcome.{map_err}
 use Rattle.picky_layout.specs.Wire.{byte_array, string_of}
 use Rattle.picky_layout.proofs.Numbers.{bytes_in_front}
 use Rattle.picky_wire.specs.Count.{Rose}
-use Rattle.picky_wire.specs.Takes.{Calm}
+use Rattle.picky_wire.specs.Takes.{Calm, EndsIn}
 use Rattle.picky_wire.specs.Flaws.{wire_error}
 use Rattle.picky_wire.specs.declared.error.WireError.{WireError}
 use Rattle.picky_wire.specs.declared.error.WireError.TheVariants as wire
@@ -19,8 +19,8 @@ use Rattle.picky_wire.proofs.ByteArrayLemmas.{piece_taken_by}
 use Rattle.picky_wire.proofs.ReadLemmas.{byte_array-refused}
 use Rattle.picky_agent.specs.declared.frame.FrameError.{FrameError}
 use Rattle.picky_agent.specs.declared.frame.FrameError.TheVariants as errors
-use Rattle.picky_agent.specs.Frame.{TakesMessage, Walks, message_limit}
-use Rattle.picky_agent.specs.inner.Frame.{Bodies, Lens, first_missing, frame_error}
+use Rattle.picky_agent.specs.Frame.{Fronts, IsCut, TakesMessage, TakesPart, Walks, message_limit}
+use Rattle.picky_agent.specs.inner.Frame.{Bodies, Lens, TakesLess, first_missing, frame_error}
 
 -- ---- one read of so many bytes
 
@@ -36,6 +36,18 @@ too_few n bytes e refused = go ((byte_array n).read bytes) refl refused
     go : (r : Result (List ℕ × List ℕ) Flaw) → (byte_array n).read bytes ≡ r → map_err wire_error r ≡ Err e → length bytes < n
     go (Ok x) is other = cc other
     go (Err f) is why = (byte_array-refused n bytes f is).1
+
+-- all of what is left is left
+pub ends_here : (bytes : List ℕ) → EndsIn bytes bytes
+ends_here bytes = record { taken = []; are = refl }
+
+-- a read that failed took fewer
+pub takes_less : (n : ℕ) (before after : List ℕ) → EndsIn before after → length before < n + length after → TakesLess n before after
+takes_less n before after ends few = record {
+  taken = ends.taken;
+  are = ends.are;
+  less = omega (arith, ap length ends.are, length-append ends.taken after, few);
+}
 
 no_bytes : (bytes : List ℕ) → length bytes < 1 → bytes ≡ []
 no_bytes [] none = refl
@@ -78,18 +90,18 @@ walks_as tells left faults x (Err e) old new no_fault walks = record {
 -- ---- a length
 
 -- the stream ends before it, or the first byte wasn't read
-pub first_missed : (e : WireError) (before after : List ℕ)
+pub first_missed : (e : WireError) (before after : List ℕ) → EndsIn before after → length before < 1 + length after
     → (e ≢ wire.ReadFault → e ≢ wire.NoMemory → map_err wire_error ((byte_array 1).read before) ≡ Err e)
     → Lens (first_missing e) before after
-first_missed wire.ReadFault before after refused = tt
-first_missed wire.NoMemory before after refused = tt
-first_missed wire.UnexpectedEnd before after refused =
+first_missed wire.ReadFault before after ends few refused = takes_less 4 before after ends (omega (arith, few))
+first_missed wire.NoMemory before after ends few refused = takes_less 4 before after ends (omega (arith, few))
+first_missed wire.UnexpectedEnd before after ends few refused =
     no_bytes before (too_few 1 before wire.UnexpectedEnd (refused (λ same. cc same) (λ same. cc same)))
-first_missed wire.WriteFault before after refused =
+first_missed wire.WriteFault before after ends few refused =
     no_bytes before (too_few 1 before wire.WriteFault (refused (λ same. cc same) (λ same. cc same)))
-first_missed wire.InvalidUtf8 before after refused =
+first_missed wire.InvalidUtf8 before after ends few refused =
     no_bytes before (too_few 1 before wire.InvalidUtf8 (refused (λ same. cc same) (λ same. cc same)))
-first_missed wire.TooLong before after refused =
+first_missed wire.TooLong before after ends few refused =
     no_bytes before (too_few 1 before wire.TooLong (refused (λ same. cc same) (λ same. cc same)))
 
 -- a byte was read, and the next three weren't
@@ -98,18 +110,26 @@ cut_length : (first before mid : List ℕ) → length first ≡ 1 → before ≡
 cut_length first before mid one same few =
     (omega (arith, ap length same, length-append first mid), omega (arith, ap length same, length-append first mid))
 
-pub rest_missed : (e : WireError) (first before mid after : List ℕ) → length first ≡ 1 → before ≡ first ++ mid
+less_behind : (first before mid after : List ℕ) → length first ≡ 1 → before ≡ first ++ mid → TakesLess 3 mid after
+    → TakesLess 4 before after
+less_behind first before mid after one same less = record {
+  taken = first ++ less.taken;
+  are = same ∙ ap (λ m. first ++ m) less.are ∙ sym (append_assoc first less.taken after);
+  less = omega (arith, one, length-append first less.taken, less.less);
+}
+
+pub rest_missed : (e : WireError) (first before mid after : List ℕ) → length first ≡ 1 → before ≡ first ++ mid → TakesLess 3 mid after
     → (e ≢ wire.ReadFault → e ≢ wire.NoMemory → map_err wire_error ((byte_array 3).read mid) ≡ Err e)
     → Lens (Err (frame_error e)) before after
-rest_missed wire.ReadFault first before mid after one same refused = tt
-rest_missed wire.NoMemory first before mid after one same refused = tt
-rest_missed wire.UnexpectedEnd first before mid after one same refused =
+rest_missed wire.ReadFault first before mid after one same less refused = less_behind first before mid after one same less
+rest_missed wire.NoMemory first before mid after one same less refused = less_behind first before mid after one same less
+rest_missed wire.UnexpectedEnd first before mid after one same less refused =
     cut_length first before mid one same (too_few 3 mid wire.UnexpectedEnd (refused (λ is. cc is) (λ is. cc is)))
-rest_missed wire.WriteFault first before mid after one same refused =
+rest_missed wire.WriteFault first before mid after one same less refused =
     cut_length first before mid one same (too_few 3 mid wire.WriteFault (refused (λ is. cc is) (λ is. cc is)))
-rest_missed wire.InvalidUtf8 first before mid after one same refused =
+rest_missed wire.InvalidUtf8 first before mid after one same less refused =
     cut_length first before mid one same (too_few 3 mid wire.InvalidUtf8 (refused (λ is. cc is) (λ is. cc is)))
-rest_missed wire.TooLong first before mid after one same refused =
+rest_missed wire.TooLong first before mid after one same less refused =
     cut_length first before mid one same (too_few 3 mid wire.TooLong (refused (λ is. cc is) (λ is. cc is)))
 
 -- all four were read
@@ -137,19 +157,53 @@ length_stands len first rest before mid after one three is each same next =
 
 -- ---- the bytes of a message
 
-pub body_missed : (e : WireError) (len : ℕ) (before after : List ℕ)
+pub body_missed : (e : WireError) (len : ℕ) (before after : List ℕ) → EndsIn before after
+    → (e ≡ wire.ReadFault → length before < len + length after) → (e ≡ wire.NoMemory → length before < len + length after)
     → (e ≢ wire.ReadFault → e ≢ wire.NoMemory → map_err wire_error ((byte_array len).read before) ≡ Err e)
     → Bodies len (Err (frame_error e)) before after
-body_missed wire.ReadFault len before after refused = tt
-body_missed wire.NoMemory len before after refused = tt
-body_missed wire.UnexpectedEnd len before after refused =
+body_missed wire.ReadFault len before after ends cut room refused = takes_less len before after ends (cut refl)
+body_missed wire.NoMemory len before after ends cut room refused = takes_less len before after ends (room refl)
+body_missed wire.UnexpectedEnd len before after ends cut room refused =
     too_few len before wire.UnexpectedEnd (refused (λ is. cc is) (λ is. cc is))
-body_missed wire.WriteFault len before after refused =
+body_missed wire.WriteFault len before after ends cut room refused =
     too_few len before wire.WriteFault (refused (λ is. cc is) (λ is. cc is))
-body_missed wire.InvalidUtf8 len before after refused =
+body_missed wire.InvalidUtf8 len before after ends cut room refused =
     too_few len before wire.InvalidUtf8 (refused (λ is. cc is) (λ is. cc is))
-body_missed wire.TooLong len before after refused =
+body_missed wire.TooLong len before after ends cut room refused =
     too_few len before wire.TooLong (refused (λ is. cc is) (λ is. cc is))
+
+-- ---- a part of a message
+
+short_part : (taken : List ℕ) → length taken < 4 → (taken ≡ []) ⊎ IsCut taken
+short_part [] few = inl refl
+short_part (b ∷ taken) few = inr (inl (omega arith, few))
+
+-- of its length
+length_part : (before after : List ℕ) → TakesLess 4 before after → TakesPart before after
+length_part before after less = record { taken = less.taken; are = less.are; part = short_part less.taken less.less }
+
+pub length_fronts : (e : FrameError) (before after : List ℕ) → Lens (Err e) before after → Fronts (Err e) before after
+length_fronts errors.BadFrame before after lens = lens
+length_fronts errors.Cut before after lens = inl lens
+length_fronts errors.ReadFault before after lens = length_part before after lens
+length_fronts errors.NoMemory before after lens = length_part before after lens
+
+-- of what follows that
+body_part : (len : ℕ) (before mid after : List ℕ) → 1 ≤ len → len ≤ message_limit → before ≡ to_be_bytes w32 len ++ mid
+    → TakesLess len mid after → TakesPart before after
+body_part len before mid after some few stands less = record {
+  taken = to_be_bytes w32 len ++ less.taken;
+  are = stands ∙ ap (λ m. to_be_bytes w32 len ++ m) less.are ∙ sym (append_assoc (to_be_bytes w32 len) less.taken after);
+  part = inr (inr (record { len = len; part = less.taken; are = refl; some = some; few = few; less = less.less }));
+}
+
+pub body_fronts : (e : FrameError) (len : ℕ) (before mid after : List ℕ) → 1 ≤ len → len ≤ message_limit
+    → before ≡ to_be_bytes w32 len ++ mid → Bodies len (Err e) mid after → Fronts (Err e) before after
+body_fronts errors.BadFrame len before mid after some few stands bodies = absurd bodies
+body_fronts errors.Cut len before mid after some few stands bodies =
+    inr (record { len = len; part = mid; are = stands; some = some; few = few; less = bodies })
+body_fronts errors.ReadFault len before mid after some few stands bodies = body_part len before mid after some few stands bodies
+body_fronts errors.NoMemory len before mid after some few stands bodies = body_part len before mid after some few stands bodies
 
 -- ---- a whole message
 
@@ -170,4 +224,26 @@ takes_message tells left faults len message old mid new some few is stands first
   is_message = record { some = omega arith; few = omega arith };
   walks = walks_then tells left faults (Some len) (Ok (Some message)) old mid new first
       (walks_as tells left faults message (Ok (Some message)) mid new (λ other. cc other) second);
+}
+
+-- the same refusal of another value
+walks_refused : {S A B : Type 0} (tells : S → Type 0) (left : S → List ℕ) (faults : S → ℕ) (e : FrameError) (old new : S)
+    → Walks {A = A} tells left faults (Err e) old new → Walks {A = B} tells left faults (Err e) old new
+walks_refused tells left faults e old new walks = record {
+  told = walks.told;
+  front = walks.front;
+  fault = λ is. let same : e ≡ errors.ReadFault = cc is in walks.fault (ap Err same);
+  calm = walks.calm;
+}
+
+-- a message whose bytes are refused
+pub refuses_message : {S : Type 0} (tells : S → Type 0) (left : S → List ℕ) (faults : S → ℕ) (len : ℕ) (e : FrameError)
+    (old mid new : S) → 1 ≤ len → len ≤ message_limit
+    → (tells old → left old ≡ to_be_bytes w32 len ++ left mid) → Walks tells left faults (Ok (Some len)) old mid
+    → (tells mid → Bodies len (Err e) (left mid) (left new)) → Walks {A = List ℕ} tells left faults (Err e) mid new
+    → TakesMessage tells left faults (Err e) old new
+refuses_message tells left faults len e old mid new some few stands first bodies second = record {
+  fronts = λ t. body_fronts e len (left old) (left mid) (left new) some few (stands t) (bodies (first.told t));
+  is_message = tt;
+  walks = walks_then tells left faults (Some len) (Err e) old mid new first (walks_refused tells left faults e mid new second);
 }

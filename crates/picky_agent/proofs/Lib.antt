@@ -1,5 +1,5 @@
 pub mod FrameLemmas
 pub mod RunLaws
 pub mod ServedLemmas
-pub mod TurnLemmas
 pub mod EndingLaws
+pub mod TurnLemmas

@@ -16,11 +16,8 @@ use Rattle.picky_agent.specs.declared.status.AgentStatus.TheVariants as statuses
 use Rattle.picky_agent.specs.Run.{Exchange, Run, asked, answered}
 use Rattle.picky_agent.specs.Served.{BreaksOff, Counts, Halts, HasCount, Reads, Scene, Served, Serves, Wrote, most_messages}
 use Rattle.picky_agent.specs.inner.Turn.{taken_in}
+use Rattle.picky_agent.proofs.FrameLemmas.{ends_here}
 use Rattle.picky_agent.proofs.RunLaws.{each_joined, run_joined, run_under}
-
--- all of what is left is left
-pub ends_here : (bytes : List ℕ) → EndsIn bytes bytes
-ends_here bytes = record { taken = []; are = refl }
 
 -- ---- no message
 
@@ -77,12 +74,14 @@ one message reply = record { message = message; reply = reply } ∷ []
 framed_once : (bytes : List ℕ) → string_of bytes ++ [] ≡ string_of bytes
 framed_once bytes = append-nil (string_of bytes)
 
--- a message was answered
-pub serves_one : (signs : Relation) (tells_in tells_out : Type 0) (message reply : List ℕ) (old new : Scene)
-    → IsMessage message → Step signs (machine old.kept old.signer_faults) message reply (machine new.kept new.signer_faults)
-    → (tells_in → old.left ≡ string_of message ++ new.left) → (tells_out → new.written ≡ old.written ++ string_of reply)
-    → Counts (Ok tt) old new → Serves signs tells_in tells_out (Ok tt) 1 old new
-serves_one signs tells_in tells_out message reply old new is step left written counts = record {
+-- a message was taken, and a reply was put that may have been broken off
+serves_message : (signs : Relation) (tells_in tells_out : Type 0) (message reply : List ℕ) (r : Result (Unit {0}) AgentStatus)
+    (old new : Scene) → IsMessage message
+    → Step signs (machine old.kept old.signer_faults) message reply (machine new.kept new.signer_faults)
+    → (tells_in → old.left ≡ string_of message ++ new.left) → Halts r new.left new.left
+    → (tells_out → Wrote r (one message reply) old.written new.written) → Counts r old new
+    → Serves signs tells_in tells_out r 1 old new
+serves_message signs tells_in tells_out message reply r old new is step left halts wrote counts = record {
   exchanges = one message reply;
   count = refl;
   each = (is, tt);
@@ -94,11 +93,20 @@ serves_one signs tells_in tells_out message reply old new is step left written c
     rest = new.left;
     are = left t ∙ ap (λ f. f ++ new.left) (sym (framed_once message));
     ends = ends_here new.left;
-    halts = refl;
+    halts = halts;
   };
-  wrote = λ t. written t ∙ ap (λ f. old.written ++ f) (sym (framed_once reply));
+  wrote = wrote;
   counts = counts;
 }
+
+-- a message was answered
+pub serves_one : (signs : Relation) (tells_in tells_out : Type 0) (message reply : List ℕ) (old new : Scene)
+    → IsMessage message → Step signs (machine old.kept old.signer_faults) message reply (machine new.kept new.signer_faults)
+    → (tells_in → old.left ≡ string_of message ++ new.left) → (tells_out → new.written ≡ old.written ++ string_of reply)
+    → Counts (Ok tt) old new → Serves signs tells_in tells_out (Ok tt) 1 old new
+serves_one signs tells_in tells_out message reply old new is step left written counts =
+    serves_message signs tells_in tells_out message reply (Ok tt) old new is step left refl
+    (λ t. written t ∙ ap (λ f. old.written ++ f) (sym (framed_once reply))) counts
 
 -- a message was taken, and its reply wasn't written whole
 pub serves_broken : (signs : Relation) (tells_in tells_out : Type 0) (message reply : List ℕ) (old new : Scene)
@@ -107,30 +115,17 @@ pub serves_broken : (signs : Relation) (tells_in tells_out : Type 0) (message re
     → (tells_out → (n : ℕ) × (new.written ≡ old.written ++ take n (string_of reply)) × (n < length (string_of reply)))
     → Counts (Err statuses.WriteFault) old new
     → Serves signs tells_in tells_out (Err statuses.WriteFault) 1 old new
-serves_broken signs tells_in tells_out message reply old new is step left written counts = record {
-  exchanges = one message reply;
-  count = refl;
-  each = (is, tt);
-  faults = new.signer_faults;
-  run = (machine new.kept new.signer_faults, step, refl);
-  no_higher = omega arith;
-  exact = λ remembers. refl;
-  reads = λ t. record {
-    rest = new.left;
-    are = left t ∙ ap (λ f. f ++ new.left) (sym (framed_once message));
-    ends = ends_here new.left;
-    halts = refl;
-  };
-  wrote = λ t. record {
-    answered_all = [];
-    last = record { message = message; reply = reply };
-    are = refl;
-    len = (written t).0;
-    less = (written t).2;
-    written = (written t).1 ∙ ap (λ f. f ++ take (written t).0 (string_of reply)) (sym (append-nil old.written));
-  };
-  counts = counts;
-}
+serves_broken signs tells_in tells_out message reply old new is step left written counts =
+    serves_message signs tells_in tells_out message reply (Err statuses.WriteFault) old new is step left refl
+    (λ t. record {
+      answered_all = [];
+      last = record { message = message; reply = reply };
+      are = refl;
+      len = (written t).0;
+      less = (written t).2;
+      written = (written t).1 ∙ ap (λ f. f ++ take (written t).0 (string_of reply)) (sym (append-nil old.written));
+    })
+    counts
 
 -- ---- one stretch after another
 

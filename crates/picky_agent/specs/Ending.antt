@@ -1,8 +1,9 @@
 -- Where a stream ends: the messages that it begins with, and what stands behind them.
-use Rattle.std.specs.Prelude.{◌≡◌, ◌++◌, ℕ, List, [], flat_map}
+use Rattle.std.specs.Prelude.{◌≡◌, ◌++◌, ⊤, ℕ, List, [], flat_map}
 use Rattle.std.specs.List.{AllByRecursion}
 use Rattle.picky_layout.specs.Wire.{string_of}
 use Rattle.picky_agent_state.specs.Message.{IsMessage}
+use Rattle.picky_agent_state.specs.Request.{Request, Sign, request_of}
 use Rattle.picky_agent.specs.declared.status.AgentStatus.{AgentStatus}
 use Rattle.picky_agent.specs.declared.status.AgentStatus.TheVariants as statuses
 use Rattle.picky_agent.specs.Frame.{HasBadLength, IsCut}
@@ -34,3 +35,16 @@ Tells statuses.ReadFault ending = Unit {0}
 Tells statuses.WriteFault ending = Unit {0}
 Tells statuses.NoMemory ending = Unit {0}
 Tells statuses.TooMany ending = Unit {0}
+
+-- ---- a stream that asks for no signature
+
+abbrev pub IsOther : Request → Type 0
+IsOther (Sign asked) = ⊥
+IsOther request = ⊤
+
+-- none of the messages before its ending does
+pub record HasNoSign (stream : List ℕ) : Type 0 where
+  pub messages : List (List ℕ)
+  pub ending : Ending
+  pub ends : EndsAs stream messages ending
+  pub none : AllByRecursion (λ message. IsOther (request_of message)) messages

@@ -28,14 +28,20 @@ pub record HasPart (bytes : List ℕ) : Type 0 where
 abbrev pub IsCut : (bytes : List ℕ) → Type 0
 IsCut bytes = ((0 < length bytes) × (length bytes < 4)) ⊎ HasPart bytes
 
+-- what was taken is nothing, or the beginning of a message that is not whole
+pub record TakesPart (before after : List ℕ) : Type 0 where
+  pub taken : List ℕ
+  pub are : before ≡ taken ++ after
+  pub part : (taken ≡ []) ⊎ IsCut taken
+
 -- what is said of the bytes by the message in front, by their end and by a refusal
 abbrev pub Fronts : Result (Option (List ℕ)) FrameError → (before after : List ℕ) → Type 0
 Fronts (Ok (Some message)) before after = before ≡ string_of message ++ after
 Fronts (Ok None) before after = before ≡ []
 Fronts (Err errors.BadFrame) before after = HasBadLength before after
 Fronts (Err errors.Cut) before after = IsCut before
-Fronts (Err errors.ReadFault) before after = Unit {0}
-Fronts (Err errors.NoMemory) before after = Unit {0}
+Fronts (Err errors.ReadFault) before after = TakesPart before after
+Fronts (Err errors.NoMemory) before after = TakesPart before after
 
 -- what each step over the source keeps, and when it counts a fault
 pub record Walks {S A : Type 0} (tells : S → Type 0) (left : S → List ℕ) (faults : S → ℕ) (result : Result A FrameError)

@@ -1,5 +1,6 @@
 -- What is served of a stream, and how serving ends.
-use Rattle.std.specs.Prelude.{◌≡◌, ◌≢◌, ◌<◌, ◌≤◌, ◌-◌, ◌^◌, ◌++◌, ℕ, List, [], ◌∷◌, length, take, Result, Ok, Err}
+use Rattle.std.specs.Prelude.{◌≡◌, ◌≢◌, ◌<◌, ◌≤◌, ◌-◌, ◌^◌, ◌++◌, ◌⊎◌, ℕ, List, [], ◌∷◌, length, take}
+use Rattle.std.specs.Prelude.{Result, Ok, Err}
 use Rattle.std.specs.List.{AllByRecursion}
 use Rattle.picky_layout.specs.Wire.{string_of}
 use Rattle.picky_wire.specs.Count.{Rose}
@@ -8,7 +9,7 @@ use Rattle.picky_suite.specs.Signs.{Relation}
 use Rattle.picky_agent_state.specs.Kept.{Kept, machine}
 use Rattle.picky_agent.specs.declared.status.AgentStatus.{AgentStatus}
 use Rattle.picky_agent.specs.declared.status.AgentStatus.TheVariants as statuses
-use Rattle.picky_agent.specs.Frame.{HasBadLength, IsCut}
+use Rattle.picky_agent.specs.Frame.{HasBadLength, IsCut, IsMessage, TakesPart}
 use Rattle.picky_agent.specs.Run.{Exchange, IsExchange, Run, asked, answered}
 
 -- all that there is at one moment: what the agent keeps, what the source has left, what was written, and the three counts of faults
@@ -20,7 +21,8 @@ pub record Scene : Type 0 where
   pub written : List ℕ
   pub sink_faults : ℕ
 
-abbrev pub scene : Kept → (signer_faults : ℕ) → (left : List ℕ) → (source_faults : ℕ) → (written : List ℕ) → (sink_faults : ℕ) → Scene
+abbrev pub scene : Kept → (signer_faults : ℕ) → (left : List ℕ) → (source_faults : ℕ) → (written : List ℕ) → (sink_faults : ℕ)
+    → Scene
 scene kept signer_faults left source_faults written sink_faults = record {
   kept = kept;
   signer_faults = signer_faults;
@@ -32,14 +34,20 @@ scene kept signer_faults left source_faults written sink_faults = record {
 
 -- ---- what was read: the messages, and then what the answer says of the rest, of which this much is left. Ok: more may follow
 
+-- a message was taken, to which there is no reply
+pub record TakesOne (rest left : List ℕ) : Type 0 where
+  pub message : List ℕ
+  pub is_message : IsMessage message
+  pub are : rest ≡ string_of message ++ left
+
 abbrev pub Halts : Result (Unit {0}) AgentStatus → (rest left : List ℕ) → Type 0
 Halts (Ok more) rest left = rest ≡ left
 Halts (Err statuses.Done) rest left = rest ≡ []
 Halts (Err statuses.BadFrame) rest left = HasBadLength rest left
 Halts (Err statuses.Cut) rest left = IsCut rest
-Halts (Err statuses.ReadFault) rest left = Unit {0}
+Halts (Err statuses.ReadFault) rest left = TakesPart rest left
 Halts (Err statuses.WriteFault) rest left = rest ≡ left
-Halts (Err statuses.NoMemory) rest left = Unit {0}
+Halts (Err statuses.NoMemory) rest left = TakesPart rest left ⊎ TakesOne rest left
 Halts (Err statuses.TooMany) rest left = rest ≡ left
 
 pub record Reads (result : Result (Unit {0}) AgentStatus) (exchanges : List Exchange) (before after : List ℕ) : Type 0 where

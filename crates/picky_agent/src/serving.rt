@@ -1,11 +1,11 @@
 //! The messages of a stream, each answered in turn.
 
-ghost use Rattle.std.specs.Prelude.{◌≡◌, ◌≢◌, ◌↔◌, ℕ, List, Err};
+ghost use Rattle.std.specs.Prelude.{◌≡◌, ◌≢◌, ◌↔◌, ℕ, List, Err, OnOk};
 ghost use Rattle.picky_keys.specs.declared.public_key.PublicKey.{PublicKey};
 ghost use Rattle.picky_keys.specs.declared.algorithm.SignatureAlgorithm.{SignatureAlgorithm as Algorithm};
 ghost use Rattle.picky_layout.specs.Wire.{string_of};
 ghost use Rattle.picky_wire.specs.Puts.{Puts};
-ghost use Rattle.picky_agent.specs.Ending.{Ending, EndsAs, Tells};
+ghost use Rattle.picky_agent.specs.Ending.{Ending, EndsAs, HasNoSign, Tells};
 ghost use Rattle.picky_agent.specs.Served.{Served, Serves, scene};
 ghost use Rattle.picky_agent.specs.inner.Turn.{frame_status as frame_status_of, taken_in};
 
@@ -35,6 +35,9 @@ pub fn serve<G: Signer, I: Source, O: Sink>(
     ensures ending { I.tells source.old → (messages : List (List ℕ)) (ending : Ending) → EndsAs (I.left source.old) messages ending
         → Tells result ending }
 
+    // A stream without a request for a signature leaves the signer untouched.
+    ensures unasked { I.tells source.old → HasNoSign (I.left source.old) → signer.new ≡ signer.old }
+
     // Which signatures are good stays; a source and a sink that tell go on telling.
     ensures signs { (k : PublicKey) (a : Algorithm) (m s : List ℕ) → G.signs signer.new k a m s ↔ G.signs signer.old k a m s }
     ensures source_tells { I.tells source.old → I.tells source.new }
@@ -61,6 +64,8 @@ fn serve_one<G: Signer, I: Source, O: Sink>(
         (scene agent.old (G.faults signer.old) (I.left source.old) (I.faults source.old) (O.written out.old) (O.faults out.old))
         (scene agent.new (G.faults signer.new) (I.left source.new) (I.faults source.new) (O.written out.new) (O.faults out.new)) }
     ensures few { result ≢ Err AgentStatus.TooMany }
+    ensures unasked { I.tells source.old → HasNoSign (I.left source.old) → signer.new ≡ signer.old }
+    ensures goes_on { I.tells source.old → HasNoSign (I.left source.old) → OnOk result (HasNoSign (I.left source.new)) }
     ensures signs { (k : PublicKey) (a : Algorithm) (m s : List ℕ) → G.signs signer.new k a m s ↔ G.signs signer.old k a m s }
     ensures source_tells { I.tells source.old → I.tells source.new }
     ensures out_tells { O.tells out.old → O.tells out.new }

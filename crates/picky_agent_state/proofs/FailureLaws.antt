@@ -14,7 +14,7 @@ use Rattle.picky_sshkey_blob.specs.Key.{public_part}
 use Rattle.picky_agent_state.specs.declared.identity.Identity.{Identity}
 use Rattle.picky_agent_state.specs.Kept.{Kept, Machine, is_locked}
 use Rattle.picky_agent_state.specs.Held.{HasKey, HasNone, IsAt}
-use Rattle.picky_agent_state.specs.Request.{Request, Identities, Sign, Add, Remove, RemoveAll, Lock, Unlock, Unfit, request_of}
+use Rattle.picky_agent_state.specs.Request.{Request, SignRequest, Identities, Sign, Add, Remove, RemoveAll, Lock, Unlock, Unfit, request_of}
 use Rattle.picky_agent_state.specs.Reply.{entry, failure, success, fitted, listing}
 use Rattle.picky_agent_state.specs.Signing.{Way, way_for}
 use Rattle.picky_agent_state.specs.Rows.{Appends, Fails, Replaces, Succeeds, TakesOut, HasNothing, is_full, most_identities, opens, shown}
@@ -124,50 +124,51 @@ add_only false old added reply new (inr appends) fails =
     inr (appends.is_new, leb-true most_identities (length old.identities) full)
 
 -- a signature
-asks_must : (signs : Relation) (old : Machine) (key : SshBasePublicKey) (way : Option Way) (message reply : List ℕ) (new : Machine)
-    → Asks signs old key way message reply new → way ≡ None → Still old Fails reply new
-asks_must signs old key (Some way) message reply new asks none = cc none
-asks_must signs old key None message reply new asks none = asks
+asks_must : (signs : Relation) (old : Machine) (asked : SignRequest) (way : Option Way) (reply : List ℕ) (new : Machine)
+    → Asks signs old asked way reply new → way ≡ None → Still old Fails reply new
+asks_must signs old asked (Some way) reply new asks none = cc none
+asks_must signs old asked None reply new asks none = asks
 
-sign_must : (signs : Relation) (b : Bool) (old : Machine) (key : SshBasePublicKey) (flags : ℕ) (message reply : List ℕ) (new : Machine)
-    → MatchBool b (Still old Fails reply new) (AsksWith signs old key flags message reply new ⊎ AsksNone old key reply new)
-    → ((b ≡ true) ⊎ (HasNone key old.kept.identities ⊎ (way_for (kind_of key) flags ≡ None))) → Still old Fails reply new
-sign_must signs true old key flags message reply new row cause = row
-sign_must signs false old key flags message reply new row (inl locked) = cc locked
-sign_must signs false old key flags message reply new (inl asks) (inr (inl none)) =
-    absurd (has_one key old.kept.identities asks.place asks.is_at none)
-sign_must signs false old key flags message reply new (inl asks) (inr (inr none)) =
-    asks_must signs old key (way_for (kind_of key) flags) message reply new asks.asks none
-sign_must signs false old key flags message reply new (inr none) (inr cause) = none.fails
+sign_must : (signs : Relation) (b : Bool) (old : Machine) (asked : SignRequest) (reply : List ℕ) (new : Machine)
+    → MatchBool b (Still old Fails reply new) (AsksWith signs old asked reply new ⊎ AsksNone old asked reply new)
+    → ((b ≡ true) ⊎ (HasNone asked.key old.kept.identities ⊎ (way_for (kind_of asked.key) asked.flags ≡ None)))
+    → Still old Fails reply new
+sign_must signs true old asked reply new row cause = row
+sign_must signs false old asked reply new row (inl locked) = cc locked
+sign_must signs false old asked reply new (inl asks) (inr (inl none)) =
+    absurd (has_one asked.key old.kept.identities asks.place asks.is_at none)
+sign_must signs false old asked reply new (inl asks) (inr (inr none)) =
+    asks_must signs old asked (way_for (kind_of asked.key) asked.flags) reply new asks.asks none
+sign_must signs false old asked reply new (inr none) (inr cause) = none.fails
 
-asks_only : (signs : Relation) (old : Machine) (key : SshBasePublicKey) (flags : ℕ) (way : Option Way) (message reply : List ℕ)
-    (new : Machine) → way_for (kind_of key) flags ≡ way → Asks signs old key way message reply new → reply ≡ failure
-    → (way ≡ None) ⊎ SignerFails signs old (Sign key message flags) new
-asks_only signs old key flags None message reply new is asks fails = inl refl
-asks_only signs old key flags (Some way) message reply new is (inl signed) fails = inr (inr (record {
+asks_only : (signs : Relation) (old : Machine) (asked : SignRequest) (way : Option Way) (reply : List ℕ) (new : Machine)
+    → way_for (kind_of asked.key) asked.flags ≡ way → Asks signs old asked way reply new → reply ≡ failure
+    → (way ≡ None) ⊎ SignerFails signs old (Sign asked) new
+asks_only signs old asked None reply new is asks fails = inl refl
+asks_only signs old asked (Some way) reply new is (inl signed) fails = inr (inr (record {
   way = way;
   is_way = is;
   signature = signed.signature;
   good = signed.good;
   long = only_too_long 14 _ (λ other. omega (arith, other)) (sym signed.replies ∙ fails);
 }))
-asks_only signs old key flags (Some way) message reply new is (inr unsigned) fails = inr (inl unsigned.rose)
+asks_only signs old asked (Some way) reply new is (inr unsigned) fails = inr (inl unsigned.rose)
 
-sign_only : (signs : Relation) (b : Bool) (old : Machine) (key : SshBasePublicKey) (flags : ℕ) (message reply : List ℕ) (new : Machine)
-    → MatchBool b (Still old Fails reply new) (AsksWith signs old key flags message reply new ⊎ AsksNone old key reply new)
+sign_only : (signs : Relation) (b : Bool) (old : Machine) (asked : SignRequest) (reply : List ℕ) (new : Machine)
+    → MatchBool b (Still old Fails reply new) (AsksWith signs old asked reply new ⊎ AsksNone old asked reply new)
     → reply ≡ failure
-    → ((b ≡ true) ⊎ (HasNone key old.kept.identities ⊎ (way_for (kind_of key) flags ≡ None)))
-    ⊎ SignerFails signs old (Sign key message flags) new
-sign_only signs true old key flags message reply new row fails = inl (inl refl)
-sign_only signs false old key flags message reply new (inl asks) fails =
-    go (asks_only signs old key flags (way_for (kind_of key) flags) message reply new refl asks.asks fails)
+    → ((b ≡ true) ⊎ (HasNone asked.key old.kept.identities ⊎ (way_for (kind_of asked.key) asked.flags ≡ None)))
+    ⊎ SignerFails signs old (Sign asked) new
+sign_only signs true old asked reply new row fails = inl (inl refl)
+sign_only signs false old asked reply new (inl asks) fails =
+    go (asks_only signs old asked (way_for (kind_of asked.key) asked.flags) reply new refl asks.asks fails)
   where
-    go : (way_for (kind_of key) flags ≡ None) ⊎ SignerFails signs old (Sign key message flags) new
-        → ((false ≡ true) ⊎ (HasNone key old.kept.identities ⊎ (way_for (kind_of key) flags ≡ None)))
-        ⊎ SignerFails signs old (Sign key message flags) new
+    go : (way_for (kind_of asked.key) asked.flags ≡ None) ⊎ SignerFails signs old (Sign asked) new
+        → ((false ≡ true) ⊎ (HasNone asked.key old.kept.identities ⊎ (way_for (kind_of asked.key) asked.flags ≡ None)))
+        ⊎ SignerFails signs old (Sign asked) new
     go (inl way) = inl (inr (inr way))
     go (inr signer) = inr signer
-sign_only signs false old key flags message reply new (inr none) fails = inl (inr (inl none.none))
+sign_only signs false old asked reply new (inr none) fails = inl (inr (inl none.none))
 
 -- ---- by the request
 
@@ -179,8 +180,8 @@ must_fail : (signs : Relation) (old : Machine) (request : Request) (reply : List
     → StepOn signs old request reply new → MustFail old.kept request → Fails old.kept reply new.kept × (new.faults ≡ old.faults)
 must_fail signs old Identities reply new step long =
     ((step.row_holds.0 ∙ too_long_fails (listing (shown old.kept)) long, step.row_holds.1), step.calm)
-must_fail signs old (Sign key message flags) reply new step cause =
-    both_as_were old reply new (sign_must signs (is_locked old.kept) old key flags message reply new step cause)
+must_fail signs old (Sign asked) reply new step cause =
+    both_as_were old reply new (sign_must signs (is_locked old.kept) old asked reply new step cause)
 must_fail signs old (Add added) reply new step cause =
     (add_must (is_locked old.kept) old.kept added reply new.kept step.row_holds cause, step.calm)
 must_fail signs old (Remove key) reply new step cause =
@@ -200,8 +201,7 @@ only_fails : (signs : Relation) (old : Machine) (request : Request) (reply : Lis
 only_fails signs old Identities reply new step fails =
     let rest : List ℕ = to_be_bytes w32 (length (shown old.kept)) ++ flat_map entry (shown old.kept) in
     inl (only_too_long 12 rest (λ other. omega (arith, other)) (sym step.row_holds.0 ∙ fails))
-only_fails signs old (Sign key message flags) reply new step fails =
-    sign_only signs (is_locked old.kept) old key flags message reply new step fails
+only_fails signs old (Sign asked) reply new step fails = sign_only signs (is_locked old.kept) old asked reply new step fails
 only_fails signs old (Add added) reply new step fails =
     inl (add_only (is_locked old.kept) old.kept added reply new.kept step.row_holds fails)
 only_fails signs old (Remove key) reply new step fails =

@@ -1,4 +1,5 @@
 pub mod KeyLemmas
+pub mod EntryLemmas
 pub mod ReplyLemmas
 pub mod AskedLemmas
 pub mod StepLemmas

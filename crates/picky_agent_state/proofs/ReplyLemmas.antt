@@ -1,34 +1,24 @@
 -- Lemmas on replies.
-use Rattle.std.proofs.Common.{◌≡◌, ◌≤◌, ◌<◌, ◌+◌, ◌^◌, ◌++◌, ◌∙◌, [], ◌∷◌, ℕ, List, length, get_or, ap, sym, arith, append_assoc}
-use Rattle.std.specs.Prelude.{flat_map, min, if◌then◌else◌}
+use Rattle.std.proofs.Common.{◌≡◌, ◌≤◌, ◌<◌, ◌+◌, ◌^◌, ◌++◌, ◌∙◌, [], ◌∷◌, ℕ, Bool, false, List, length, take, get_or, ap, refl, sym, arith}
+use Rattle.std.proofs.Common.{append_assoc, Result, Ok, Err, IfOk}
+use Rattle.std.specs.Prelude.{flat_map, map, if◌then◌else◌}
 use Rattle.std.specs.Int.{w32, to_be_bytes}
 use Rattle.std.proofs.lemmas.Bool.{le-ltb}
-use Rattle.std.proofs.lemmas.List.{append-nil, length-append}
+use Rattle.std.proofs.lemmas.List.{append-nil, length-append, length-map, take_more}
+use Rattle.std.proofs.lemmas.List.Folds.{concat-append}
 use Rattle.std.specs.List.{concat}
-use Rattle.picky_sshpub.specs.Blob.{blob_of}
-use Rattle.picky_sshkey_blob.specs.Key.{public_part}
-use Rattle.std.proofs.lemmas.List.Folds.{length-flat_map-take}
 use Rattle.picky_layout.specs.Wire.{string_of}
 use Rattle.picky_wire.proofs.WriteLemmas.{length-string_of}
 use Rattle.picky_cert_names.specs.declared.signature_format.SshSignatureFormat.{SshSignatureFormat}
 use Rattle.picky_cert_names.specs.Names.{format_name}
 use Rattle.picky_agent_state.specs.declared.identity.Identity.{Identity}
+use Rattle.picky_agent_state.specs.Kept.{Kept, is_locked}
+use Rattle.picky_agent_state.specs.Rows.{Lists}
 use Rattle.picky_agent_state.specs.Reply.{entry, failure, fitted, listing, signed_reply}
 
 -- what is too long is the failure
 pub too_long_fails : (reply : List ℕ) → 2 ^ 32 ≤ length reply → fitted reply ≡ failure
 too_long_fails reply long = ap (λ b. if b then reply else failure) (le-ltb (length reply) (2 ^ 32) long)
-
--- an entry that is too long makes the list too long
-pub long_entry_fails : (identities : List Identity) (i : ℕ) (d : Identity) → i < length identities
-    → 2 ^ 32 ≤ length (entry (get_or identities i d)) → fitted (listing identities) ≡ failure
-long_entry_fails identities i d inside long =
-    too_long_fails (listing identities)
-    (omega (
-      arith,
-      length-flat_map-take entry identities i d inside,
-      length-append (12 ∷ to_be_bytes w32 (length identities)) (flat_map entry identities),
-    ))
 
 -- ---- a signature's reply
 
@@ -75,28 +65,43 @@ signed_bytes format signature len start head tail byte number name text start_is
     ∙ ap (λ t. (14 ∷ to_be_bytes w32 len ++ string_of (format_name format)) ++ t) (append-nil (string_of signature))
     ∙ signed_pieces format signature len is
 
--- a blob that is too long makes its entry too long
-pub long_blob : (identity : Identity) (blob : List ℕ) → blob ≡ blob_of (public_part identity.key) → 2 ^ 32 ≤ length blob
-    → 2 ^ 32 ≤ length (entry identity)
-long_blob identity blob is long =
-    omega (
-      arith,
-      ap length is,
-      length-string_of (blob_of (public_part identity.key)),
-      length-append (string_of (blob_of (public_part identity.key))) (string_of identity.comment),
-      long,
-    )
+-- ---- a list
 
--- ---- a blob as a string
+-- the entries, one after another
+entries_are : (identities : List Identity) → concat (map entry identities) ≡ flat_map entry identities
+entries_are [] = refl
+entries_are (identity ∷ more) = ap (λ rest. entry identity ++ rest) (entries_are more)
 
-pub short_len : (pieces : List (List ℕ)) (blob : List ℕ) (len : ℕ) → concat pieces ≡ blob → len ≡ min (length (concat pieces)) (2 ^ 40)
-    → len < 2 ^ 32 → len ≡ length blob
-short_len pieces blob len is len_is short = omega (arith, len_is, ap length is, short)
+-- what has the entries of these identities is their list
+pub listed : (entries : List (List ℕ)) (identities : List Identity) → entries ≡ map entry identities
+    → 12 ∷ to_be_bytes w32 (length entries) ++ concat entries ≡ listing identities
+listed entries identities are =
+    ap (λ es. 12 ∷ to_be_bytes w32 (length es) ++ concat es) are
+    ∙ ap (λ n. 12 ∷ to_be_bytes w32 n ++ concat (map entry identities)) (length-map identities entry)
+    ∙ ap (λ rest. 12 ∷ to_be_bytes w32 (length identities) ++ rest) (entries_are identities)
 
-pub blob_string : (blob start head tail number : List ℕ) (pieces : List (List ℕ)) (len : ℕ) → concat pieces ≡ blob → len ≡ length blob
-    → number ≡ to_be_bytes w32 len → head ≡ start ++ concat (number ∷ []) → tail ≡ head ++ concat pieces
-    → tail ≡ start ++ string_of blob
-unfolding string_of
-blob_string blob start head tail number pieces len is len_is number_is head_is tail_is =
-    tail_is ∙ ap (λ h. h ++ concat pieces) (head_is ∙ ap (λ n. start ++ n) (append-nil number ∙ number_is ∙ ap (to_be_bytes w32) len_is))
-    ∙ ap (λ b. (start ++ to_be_bytes w32 (length blob)) ++ b) is ∙ append_assoc start (to_be_bytes w32 (length blob)) blob
+-- one entry more
+concat_more : (entries : List (List ℕ)) (i : ℕ) (item : List ℕ) → i < length entries → item ≡ get_or entries i item
+    → concat (take (i + 1) entries) ≡ concat (take i entries) ++ item
+concat_more entries i item inside is =
+    ap concat (take_more entries i item inside) ∙ concat-append (take i entries) (get_or entries i item ∷ [])
+    ∙ ap (λ rest. concat (take i entries) ++ rest) (append-nil (get_or entries i item) ∙ sym is)
+
+pub listed_more : (n : ℕ) (entries : List (List ℕ)) (i : ℕ) (item seen head new : List ℕ) → i < length entries
+    → item ≡ get_or entries i item → head ≡ 12 ∷ to_be_bytes w32 n ++ concat (take i entries) → seen ≡ item → new ≡ head ++ seen
+    → new ≡ 12 ∷ to_be_bytes w32 n ++ concat (take (i + 1) entries)
+listed_more n entries i item seen head new inside is head_is seen_is new_is =
+    new_is ∙ ap (λ s. head ++ s) seen_is ∙ ap (λ h. h ++ item) head_is
+    ∙ ap (λ rest. 12 ∷ rest) (append_assoc (to_be_bytes w32 n) (concat (take i entries)) item)
+    ∙ ap (λ rest. 12 ∷ to_be_bytes w32 n ++ rest) (sym (concat_more entries i item inside is))
+
+-- the row of an agent that isn't locked
+pub lists : {E : Type 0} (kept : Kept) (entries : List (List ℕ)) (r : Result (List ℕ) E) → is_locked kept ≡ false
+    → entries ≡ map entry kept.identities
+    → IfOk r (λ reply. reply ≡ fitted (12 ∷ to_be_bytes w32 (length entries) ++ concat entries)) → IfOk r (λ reply. Lists kept reply kept)
+lists kept entries (Ok reply) unlocked are is = (
+  is ∙ ap fitted (listed entries kept.identities are)
+      ∙ ap (λ (b : Bool). fitted (listing (if b then [] else kept.identities))) (sym unlocked),
+  refl,
+)
+lists kept entries (Err e) unlocked are is = tt

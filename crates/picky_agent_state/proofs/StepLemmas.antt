@@ -8,7 +8,7 @@ use Rattle.picky_sshkey_blob.specs.Key.{public_part}
 use Rattle.picky_agent_state.specs.declared.identity.Identity.{Identity}
 use Rattle.picky_agent_state.specs.Kept.{Kept, Machine, is_locked, machine}
 use Rattle.picky_agent_state.specs.Held.{IsAt}
-use Rattle.picky_agent_state.specs.Request.{Request, request_of}
+use Rattle.picky_agent_state.specs.Request.{Request, SignRequest, request_of, sign_request}
 use Rattle.picky_agent_state.specs.Reply.{failure}
 use Rattle.picky_agent_state.specs.Signing.{Way, way_for}
 use Rattle.picky_agent_state.specs.Rows.{Fails}
@@ -23,32 +23,34 @@ held_has key identities place held at is =
     ap (λ (i : Identity). public_part i.key) (is ∙ get_or_from_slice_get identities place at.identity held at.stands) ∙ at.has
 
 -- what asks the signer with that identity is the row
-pub asks_with : {E : Type 0} (signs : Relation) (old : Machine) (key : SshBasePublicKey) (flags : ℕ) (message : List ℕ) (new : Machine)
-    (r : Result (List ℕ) E) (place : ℕ) (held : Identity) → is_locked old.kept ≡ false → IsAt key old.kept.identities place
+pub asks_with : {E : Type 0} (signs : Relation) (old : Machine) (asked : SignRequest) (new : Machine) (r : Result (List ℕ) E)
+    (place : ℕ) (held : Identity) → is_locked old.kept ≡ false → IsAt asked.key old.kept.identities place
     → held ≡ get_or old.kept.identities place held
-    → IfOk r (λ reply. Asks signs old (public_part held.key) (way_for (kind_of (public_part held.key)) flags) message reply new)
-    → IfOk r (λ reply. AsksToSign signs old key flags message reply new)
-asks_with signs old key flags message new (Ok reply) place held unlocked at is asks =
+    → IfOk r (λ reply. Asks signs old (sign_request (public_part held.key) asked.message asked.flags)
+    (way_for (kind_of (public_part held.key)) asked.flags) reply new)
+    → IfOk r (λ reply. AsksToSign signs old asked reply new)
+asks_with signs old asked new (Ok reply) place held unlocked at is asks =
     subst
-    (λ (b : Bool). MatchBool b (Still old Fails reply new) (AsksWith signs old key flags message reply new ⊎ AsksNone old key reply new))
+    (λ (b : Bool). MatchBool b (Still old Fails reply new) (AsksWith signs old asked reply new ⊎ AsksNone old asked reply new))
     (sym unlocked)
     (inl (record {
       place = place;
       is_at = at;
-      asks = subst (λ (k : SshBasePublicKey). Asks signs old k (way_for (kind_of k) flags) message reply new)
-          (held_has key old.kept.identities place held at is) asks;
+      asks = subst
+          (λ (k : SshBasePublicKey). Asks signs old (sign_request k asked.message asked.flags) (way_for (kind_of k) asked.flags) reply new)
+          (held_has asked.key old.kept.identities place held at is) asks;
     }))
-asks_with signs old key flags message new (Err e) place held unlocked at is asks = tt
+asks_with signs old asked new (Err e) place held unlocked at is asks = tt
 
 -- where the agent can't sign, it is not for want of an identity
-pub no_way : (kept : Kept) (key : SshBasePublicKey) (flags place : ℕ) (held : Identity) → is_locked kept ≡ false
-    → IsAt key kept.identities place → held ≡ get_or kept.identities place held → (CanSign kept key flags → ⊥)
-    → way_for (kind_of (public_part held.key)) flags ≡ None
-no_way kept key flags place held unlocked at is never =
-    ap (λ (k : SshBasePublicKey). way_for (kind_of k) flags) (held_has key kept.identities place held at is)
-    ∙ go (way_for (kind_of key) flags) refl
+pub no_way : (kept : Kept) (asked : SignRequest) (place : ℕ) (held : Identity) → is_locked kept ≡ false
+    → IsAt asked.key kept.identities place → held ≡ get_or kept.identities place held → (CanSign kept asked → ⊥)
+    → way_for (kind_of (public_part held.key)) asked.flags ≡ None
+no_way kept asked place held unlocked at is never =
+    ap (λ (k : SshBasePublicKey). way_for (kind_of k) asked.flags) (held_has asked.key kept.identities place held at is)
+    ∙ go (way_for (kind_of asked.key) asked.flags) refl
   where
-    go : (way : Option Way) → way_for (kind_of key) flags ≡ way → way_for (kind_of key) flags ≡ None
+    go : (way : Option Way) → way_for (kind_of asked.key) asked.flags ≡ way → way_for (kind_of asked.key) asked.flags ≡ None
     go None is_way = is_way
     go (Some way) is_way =
         absurd (never (record { unlocked = unlocked; place = place; is_at = at; way = way; is_way = is_way }))

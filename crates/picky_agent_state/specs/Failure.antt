@@ -2,12 +2,11 @@
 use Rattle.std.specs.Prelude.{◌≡◌, ◌≢◌, ◌≤◌, ◌^◌, ◌⊎◌, ⊤, ℕ, true, List, length, Some, None}
 use Rattle.picky_wire.specs.Count.{Rose}
 use Rattle.picky_suite.specs.Signs.{Relation}
-use Rattle.picky_sshpub.specs.declared.key.SshBasePublicKey.{SshBasePublicKey}
 use Rattle.picky_sshpub.specs.Key.{kind_of, public_key_of}
 use Rattle.picky_sshkey_blob.specs.Key.{public_part}
 use Rattle.picky_agent_state.specs.Kept.{Kept, Machine, is_locked}
 use Rattle.picky_agent_state.specs.Held.{HasNone}
-use Rattle.picky_agent_state.specs.Request.{Request, Identities, Sign, Add, Remove, RemoveAll, Lock, Unlock, Unfit, request_of}
+use Rattle.picky_agent_state.specs.Request.{Request, SignRequest, Identities, Sign, Add, Remove, RemoveAll, Lock, Unlock, Unfit, request_of}
 use Rattle.picky_agent_state.specs.Reply.{failure, listing, signed_reply}
 use Rattle.picky_agent_state.specs.Rows.{Fails, most_identities, shown}
 use Rattle.picky_agent_state.specs.Signing.{Way, way_for}
@@ -24,8 +23,8 @@ IsTooLong reply = 2 ^ 32 ≤ length reply
 abbrev pub MustFail : Kept → Request → Type 0
 MustFail kept Unfit = ⊤
 MustFail kept Identities = IsTooLong (listing (shown kept))
-MustFail kept (Sign key message flags) =
-    IsLocked kept ⊎ (HasNone key kept.identities ⊎ (way_for (kind_of key) flags ≡ None))
+MustFail kept (Sign asked) =
+    IsLocked kept ⊎ (HasNone asked.key kept.identities ⊎ (way_for (kind_of asked.key) asked.flags ≡ None))
 MustFail kept (Add added) =
     IsLocked kept ⊎ (HasNone (public_part added.key) kept.identities × (most_identities ≤ length kept.identities))
 MustFail kept (Remove key) = IsLocked kept ⊎ HasNone key kept.identities
@@ -36,16 +35,15 @@ MustFail kept (Unlock pass) = kept.pass ≢ Some pass
 -- ---- or the signer, which is asked for a signature in no other case: it counted a fault, or gave a good one with which the reply
 -- is too long
 
-pub record IsSignedTooLong (signs : Relation) (key : SshBasePublicKey) (flags : ℕ) (message : List ℕ) : Type 0 where
+pub record IsSignedTooLong (signs : Relation) (asked : SignRequest) : Type 0 where
   pub way : Way
-  pub is_way : way_for (kind_of key) flags ≡ Some way
+  pub is_way : way_for (kind_of asked.key) asked.flags ≡ Some way
   pub signature : List ℕ
-  pub good : signs (public_key_of key) way.0 message signature
+  pub good : signs (public_key_of asked.key) way.0 asked.message signature
   pub long : IsTooLong (signed_reply way.1 signature)
 
 abbrev pub SignerFails : Relation → (old : Machine) → Request → (new : Machine) → Type 0
-SignerFails signs old (Sign key message flags) new =
-    Rose old.faults new.faults ⊎ IsSignedTooLong signs key flags message
+SignerFails signs old (Sign asked) new = Rose old.faults new.faults ⊎ IsSignedTooLong signs asked
 SignerFails signs old request new = ⊥
 
 -- ---- so the failure comes in each of the first cases, and else in those of the signer alone

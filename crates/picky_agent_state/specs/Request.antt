@@ -10,11 +10,19 @@ use Rattle.picky_sshpub.specs.Blob.{blob}
 use Rattle.picky_sshkey_blob.specs.Blob.{secret}
 use Rattle.picky_agent_state.specs.declared.identity.Identity.{Identity}
 
+-- a signature of the message with the identity that has the key, by these flags
+pub record SignRequest : Type 0 where
+  pub key : SshBasePublicKey
+  pub message : List ℕ
+  pub flags : ℕ
+
+abbrev pub sign_request : SshBasePublicKey → (message : List ℕ) → (flags : ℕ) → SignRequest
+sign_request key message flags = record { key = key; message = message; flags = flags }
+
 pub data Request : Type 0 where
   -- the list of identities
   Identities : Request
-  -- a signature of the message with the identity that has the key
-  Sign : (key : SshBasePublicKey) (message : List ℕ) (flags : ℕ) → Request
+  Sign : SignRequest → Request
   Add : Identity → Request
   Remove : (key : SshBasePublicKey) → Request
   RemoveAll : Request
@@ -37,7 +45,7 @@ sign_fields = do
   key ← key_string
   message ← at 1 string
   flags ← at 2 uint32
-  done (Sign key message flags)
+  done (Sign (sign_request key message flags))
 
 -- the private key's blob, which begins with its name
 -- string comment, which is text

@@ -2,11 +2,10 @@
 use Rattle.std.specs.Prelude.{◌≡◌, ◌⊎◌, ℕ, false, List, Option, Some, None, MatchBool}
 use Rattle.picky_wire.specs.Count.{Rose}
 use Rattle.picky_suite.specs.Signs.{Relation}
-use Rattle.picky_sshpub.specs.declared.key.SshBasePublicKey.{SshBasePublicKey}
 use Rattle.picky_sshpub.specs.Key.{kind_of, public_key_of}
 use Rattle.picky_agent_state.specs.Kept.{Kept, Machine, is_locked}
 use Rattle.picky_agent_state.specs.Held.{HasNone, IsAt}
-use Rattle.picky_agent_state.specs.Request.{Request, Identities, Sign, Add, Remove, RemoveAll, Lock, Unlock, Unfit, request_of}
+use Rattle.picky_agent_state.specs.Request.{Request, SignRequest, Identities, Sign, Add, Remove, RemoveAll, Lock, Unlock, Unfit, request_of}
 use Rattle.picky_agent_state.specs.Reply.{failure, fitted, signed_reply}
 use Rattle.picky_agent_state.specs.Signing.{Way, way_for}
 use Rattle.picky_agent_state.specs.Rows.{Fails, Lists, Adds, Removes, RemovesAll, Locks, Unlocks}
@@ -19,10 +18,9 @@ pub record Still (old : Machine) (row : Kept → List ℕ → Kept → Type 0) (
 -- ---- a signature with an identity
 
 -- the signer gave one that is good under the key
-pub record IsSigned (signs : Relation) (old : Machine) (key : SshBasePublicKey) (way : Way) (message reply : List ℕ) (new : Machine)
-    : Type 0 where
+pub record IsSigned (signs : Relation) (old : Machine) (asked : SignRequest) (way : Way) (reply : List ℕ) (new : Machine) : Type 0 where
   pub signature : List ℕ
-  pub good : signs (public_key_of key) way.0 message signature
+  pub good : signs (public_key_of asked.key) way.0 asked.message signature
   pub replies : reply ≡ fitted (signed_reply way.1 signature)
   pub unchanged : new ≡ old
 
@@ -33,31 +31,30 @@ pub record IsUnsigned (old : Machine) (reply : List ℕ) (new : Machine) : Type 
   pub rose : Rose old.faults new.faults
 
 -- the signer is asked; for a hardware key it is not, and the reply is the failure
-abbrev pub Asks : Relation → (old : Machine) → SshBasePublicKey → Option Way → (message reply : List ℕ) → (new : Machine) → Type 0
-Asks signs old key (Some way) message reply new = IsSigned signs old key way message reply new ⊎ IsUnsigned old reply new
-Asks signs old key None message reply new = Still old Fails reply new
+abbrev pub Asks : Relation → (old : Machine) → SignRequest → Option Way → (reply : List ℕ) → (new : Machine) → Type 0
+Asks signs old asked (Some way) reply new = IsSigned signs old asked way reply new ⊎ IsUnsigned old reply new
+Asks signs old asked None reply new = Still old Fails reply new
 
 -- an identity has the key
-pub record AsksWith (signs : Relation) (old : Machine) (key : SshBasePublicKey) (flags : ℕ) (message reply : List ℕ) (new : Machine)
-    : Type 0 where
+pub record AsksWith (signs : Relation) (old : Machine) (asked : SignRequest) (reply : List ℕ) (new : Machine) : Type 0 where
   pub place : ℕ
-  pub is_at : IsAt key old.kept.identities place
-  pub asks : Asks signs old key (way_for (kind_of key) flags) message reply new
+  pub is_at : IsAt asked.key old.kept.identities place
+  pub asks : Asks signs old asked (way_for (kind_of asked.key) asked.flags) reply new
 
 -- none has it
-pub record AsksNone (old : Machine) (key : SshBasePublicKey) (reply : List ℕ) (new : Machine) : Type 0 where
-  pub none : HasNone key old.kept.identities
+pub record AsksNone (old : Machine) (asked : SignRequest) (reply : List ℕ) (new : Machine) : Type 0 where
+  pub none : HasNone asked.key old.kept.identities
   pub fails : Still old Fails reply new
 
-abbrev pub AsksToSign : Relation → (old : Machine) → SshBasePublicKey → (flags : ℕ) → (message reply : List ℕ) → (new : Machine) → Type 0
-AsksToSign signs old key flags message reply new = MatchBool (is_locked old.kept) (Still old Fails reply new)
-    (AsksWith signs old key flags message reply new ⊎ AsksNone old key reply new)
+abbrev pub AsksToSign : Relation → (old : Machine) → SignRequest → (reply : List ℕ) → (new : Machine) → Type 0
+AsksToSign signs old asked reply new = MatchBool (is_locked old.kept) (Still old Fails reply new)
+    (AsksWith signs old asked reply new ⊎ AsksNone old asked reply new)
 
 -- ---- by the request
 
 abbrev pub StepOn : Relation → (old : Machine) → Request → (reply : List ℕ) → (new : Machine) → Type 0
 StepOn signs old Identities reply new = Still old Lists reply new
-StepOn signs old (Sign key message flags) reply new = AsksToSign signs old key flags message reply new
+StepOn signs old (Sign asked) reply new = AsksToSign signs old asked reply new
 StepOn signs old (Add added) reply new = Still old (λ before. Adds before added) reply new
 StepOn signs old (Remove key) reply new = Still old (λ before. Removes before key) reply new
 StepOn signs old RemoveAll reply new = Still old RemovesAll reply new
@@ -72,13 +69,13 @@ Step signs old message reply new = StepOn signs old (request_of message) reply n
 -- ---- when the signer is asked
 
 -- the agent isn't locked, an identity has the key, and that is no hardware key
-pub record CanSign (kept : Kept) (key : SshBasePublicKey) (flags : ℕ) : Type 0 where
+pub record CanSign (kept : Kept) (asked : SignRequest) : Type 0 where
   pub unlocked : is_locked kept ≡ false
   pub place : ℕ
-  pub is_at : IsAt key kept.identities place
+  pub is_at : IsAt asked.key kept.identities place
   pub way : Way
-  pub is_way : way_for (kind_of key) flags ≡ Some way
+  pub is_way : way_for (kind_of asked.key) asked.flags ≡ Some way
 
 abbrev pub AsksSigner : Kept → Request → Type 0
-AsksSigner kept (Sign key message flags) = CanSign kept key flags
+AsksSigner kept (Sign asked) = CanSign kept asked
 AsksSigner kept request = ⊥

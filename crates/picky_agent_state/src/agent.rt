@@ -1,6 +1,6 @@
 //! An agent: what it keeps, and how it answers a message.
 
-ghost use Rattle.std.specs.Prelude.{◌≡◌, ◌≤◌, ◌↔◌, ◌∷◌, ◌++◌, [], ℕ, List, length, vec_len, IfOk, OnErr, MatchBool};
+ghost use Rattle.std.specs.Prelude.{◌≡◌, ◌≤◌, ◌↔◌, ◌∷◌, ◌++◌, [], ℕ, List, length, IfOk, OnErr, MatchBool};
 ghost use Rattle.picky_keys.specs.declared.public_key.PublicKey.{PublicKey};
 ghost use Rattle.picky_keys.specs.declared.algorithm.SignatureAlgorithm.{SignatureAlgorithm as Algorithm};
 ghost use Rattle.picky_sshpub.specs.View.{key_seen};
@@ -8,13 +8,15 @@ ghost use Rattle.picky_sshkey_blob.specs.Key.{IsPrivateKey};
 ghost use Rattle.picky_sshkey_blob.specs.View.{key_seen as private_seen};
 ghost use Rattle.picky_agent_state.specs.Message.{IsMessage};
 ghost use Rattle.picky_agent_state.specs.Kept.{Kept, machine, new_agent, is_locked as is_locked_in};
-ghost use Rattle.picky_agent_state.specs.Request.{request_of};
+ghost use Rattle.picky_agent_state.specs.Request.{request_of, sign_request};
 ghost use Rattle.picky_agent_state.specs.Rows.{is_full, most_identities, opens as opens_in, Adds, Fails, Lists, Locks, Removes, RemovesAll, Succeeds, Unlocks};
 ghost use Rattle.picky_agent_state.specs.Step.{AsksSigner, AsksToSign, CanSign, Step};
+ghost use Rattle.picky_agent_state.specs.inner.Asked.{CanAdd, identity_seen};
 
 use crate::asked::{Asked, read_request};
 use crate::held::{place_of, public_of};
 use crate::identity::Identity;
+use crate::keyring::Keyring;
 use crate::reply::{failure, listing_of, success};
 use crate::signing::sign_with;
 use picky_sshkey_blob::PrivateView;
@@ -31,16 +33,14 @@ const MOST_IDENTITIES: usize = 1024;
 #[derive(Drop)]
 pub struct Agent {
     alloc: Global,
-    identities: Vec<Identity>,
+    keyring: Keyring,
     pass: Option<Bytes>,
 }
 
 impl Model for Agent {
     ghost Value = { Kept };
 
-    ghost view = { λ a. record { identities = a.identities.items; pass = a.pass } };
-
-    ghost invariant = { λ a. vec_len a.identities ≤ 1024 };
+    ghost view = { λ a. record { identities = a.keyring; pass = a.pass } };
 }
 
 impl Agent {
@@ -50,7 +50,7 @@ impl Agent {
     {
         Agent {
             alloc,
-            identities: Vec::new(alloc),
+            keyring: Keyring::new(alloc),
             pass: None,
         }
     }
@@ -60,7 +60,7 @@ impl Agent {
         ensures all { result.now ≡ self.now.identities }
         ensures few { length result.now ≤ most_identities }
     {
-        self.identities.as_slice()
+        self.keyring.identities()
     }
 
     /// Whether it is locked.
@@ -107,7 +107,7 @@ impl Agent {
         if self.is_locked() {
             return listing_of(self.alloc, &[]);
         }
-        listing_of(self.alloc, self.identities.as_slice())
+        listing_of(self.alloc, self.keyring.entries())
     }
 
     fn sign<G: Signer>(
@@ -118,17 +118,17 @@ impl Agent {
         message: &[u8],
     ) -> Result<Bytes, NoMemory>
         ensures asks { IfOk result (λ reply. AsksToSign (G.signs signer.old) (machine self.now (G.faults signer.old))
-            (key_seen key.now) flags message.now reply (machine self.now (G.faults signer.new))) }
+            (sign_request (key_seen key.now) message.now flags) reply (machine self.now (G.faults signer.new))) }
         ensures signs { (k : PublicKey) (a : Algorithm) (m s : List ℕ) → G.signs signer.new k a m s ↔ G.signs signer.old k a m s }
         ensures never_falls { G.faults signer.old ≤ G.faults signer.new }
-        ensures unasked { (CanSign self.now (key_seen key.now) flags → ⊥) → signer.new ≡ signer.old }
+        ensures unasked { (CanSign self.now (sign_request (key_seen key.now) message.now flags) → ⊥) → signer.new ≡ signer.old }
     {
         if self.is_locked() {
             return failure(self.alloc);
         }
-        match place_of(self.identities.as_slice(), key) {
+        match place_of(self.keyring.identities(), key) {
             Some(place) => {
-                let identity = &self.identities[place];
+                let identity = &self.keyring.identities()[place];
                 sign_with(self.alloc, signer, &identity.key, flags, message)
             }
             None => failure(self.alloc),
@@ -136,41 +136,43 @@ impl Agent {
     }
 
     fn add(&mut self, key: &PrivateView<'_>, comment: &str) -> Result<Bytes, NoMemory>
-        requires { IsPrivateKey (private_seen key.now) }
-        ensures row { IfOk result (λ reply. Adds self.old (record { key = private_seen key.now; comment = comment.now }) reply self.new) }
+        requires { CanAdd key.now comment.now }
+        ensures row { IfOk result (λ reply. Adds self.old (identity_seen key.now comment.now) reply self.new) }
         ensures unchanged { OnErr result (self.new ≡ self.old) }
     {
         if self.is_locked() {
             return failure(self.alloc);
         }
-        match place_of(self.identities.as_slice(), &public_of(key)) {
+        match place_of(self.keyring.identities(), &public_of(key)) {
             Some(place) => {
                 let identity = identity_of(self.alloc, key, comment)?;
                 let reply = success(self.alloc)?;
-                self.identities[place] = identity;
-                Ok(reply)
+                match self.keyring.replace(self.alloc, place, identity) {
+                    Ok(()) => Ok(reply),
+                    Err(NoMemory) => Err(NoMemory),
+                }
             }
             None => self.append(key, comment),
         }
     }
 
     fn append(&mut self, key: &PrivateView<'_>, comment: &str) -> Result<Bytes, NoMemory>
-        requires { IsPrivateKey (private_seen key.now) }
+        requires { CanAdd key.now comment.now }
         ensures room { IfOk result (λ reply. MatchBool (is_full self.old) (Fails self.old reply self.new)
             (Succeeds (record self.old {
               identities = self.old.identities
-                  ++ record { key = private_seen key.now; comment = comment.now } ∷ [];
+                  ++ identity_seen key.now comment.now ∷ [];
             }) reply self.new)) }
         ensures unchanged { OnErr result (self.new ≡ self.old) }
     {
-        if self.identities.len() >= MOST_IDENTITIES {
+        if self.keyring.identities().len() >= MOST_IDENTITIES {
             return failure(self.alloc);
         }
         let identity = identity_of(self.alloc, key, comment)?;
         let reply = success(self.alloc)?;
-        match self.identities.push(identity) {
+        match self.keyring.push(self.alloc, identity) {
             Ok(()) => Ok(reply),
-            Err(_) => Err(NoMemory),
+            Err(NoMemory) => Err(NoMemory),
         }
     }
 
@@ -181,10 +183,10 @@ impl Agent {
         if self.is_locked() {
             return failure(self.alloc);
         }
-        match place_of(self.identities.as_slice(), key) {
+        match place_of(self.keyring.identities(), key) {
             Some(place) => {
                 let reply = success(self.alloc)?;
-                let _ = self.identities.remove(place);
+                self.keyring.remove(place);
                 Ok(reply)
             }
             None => failure(self.alloc),
@@ -199,7 +201,7 @@ impl Agent {
             return failure(self.alloc);
         }
         let reply = success(self.alloc)?;
-        self.identities = Vec::new(self.alloc);
+        self.keyring = Keyring::new(self.alloc);
         Ok(reply)
     }
 

@@ -1,9 +1,9 @@
 //! What a message asks, seen where it stands.
 
-ghost use Rattle.std.specs.Prelude.{◌≡◌, ◌^◌, ◌<◌, length, IfOk};
+ghost use Rattle.std.specs.Prelude.{◌≡◌, ◌^◌, ◌<◌, ◌≤◌, length, IfOk};
 ghost use Rattle.picky_wire.specs.View.{Sees, why_in};
 ghost use Rattle.picky_sshpub.specs.View.{key_seen};
-ghost use Rattle.picky_agent_state.specs.Message.{IsMessage};
+ghost use Rattle.picky_agent_state.specs.Message.{IsMessage, message_limit};
 ghost use Rattle.picky_agent_state.specs.Request.{add_fields, key_string, lock_fields, remove_fields, request_of, sign_fields, unlock_fields};
 ghost use Rattle.picky_agent_state.specs.inner.Asked.{asked_found, asked_seen, KeepsAsked};
 
@@ -103,7 +103,7 @@ fn sign_at<'a>(contents: &'a [u8], from: usize) -> Result<(Asked<'a>, usize), St
 
 #[tactic(auto, unfolding(crate::specs::Request::add_fields))]
 fn add_at<'a>(contents: &'a [u8], from: usize) -> Result<(Asked<'a>, usize), Stuck<'a>>
-    requires { length contents.now < 2 ^ 32 }
+    requires { length contents.now ≤ message_limit }
     ensures sees { Sees asked_seen why_in add_fields contents.now from result }
     ensures keeps { IfOk result (λ found. KeepsAsked found.0) }
 {

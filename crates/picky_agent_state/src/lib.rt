@@ -5,6 +5,7 @@ mod agent;
 mod asked;
 mod held;
 mod identity;
+mod keyring;
 pub mod laws;
 mod message_type;
 mod reply;

@@ -1,17 +1,21 @@
 //! The replies, as bytes.
 
-ghost use Rattle.std.specs.Prelude.{◌≡◌, ◌∷◌, ◌++◌, [], ◌^◌, ◌<◌, ◌≤◌, length, Err, IfOk, OnOk};
+ghost use Rattle.std.specs.Prelude.{◌≡◌, ◌∷◌, ◌++◌, [], ◌^◌, ◌<◌, ◌≤◌, ◌+◌, length, IfOk};
+ghost use Rattle.std.specs.Int.{w32, to_be_bytes};
 ghost use Rattle.std.specs.List.{concat};
 ghost use Rattle.picky_layout.specs.Wire.{string_of};
 ghost use Rattle.picky_sshpub.specs.Blob.{blob_of};
-ghost use Rattle.picky_agent_state.specs.Reply.{entry, failure as failure_reply, fitted, listing, signed_reply, success as success_reply};
+ghost use Rattle.picky_sshkey_blob.specs.Key.{public_part};
+ghost use Rattle.picky_agent_state.specs.Reply.{entry, failure as failure_reply, fitted, signed_reply, success as success_reply};
 ghost use Rattle.picky_agent_state.specs.Rows.{most_identities};
+ghost use Rattle.picky_agent_state.specs.inner.Entry.{HasEntry};
 
 use crate::identity::Identity;
 use crate::message_type;
 use picky_cert_names::SshSignatureFormat;
-use picky_sshpub::{SshBasePublicKey, pieces_behind};
-use picky_wire::{Bytes, NoMemory, Piece, SizeError, Text, pieces_len, push_pieces};
+use picky_sshkey_blob::SshBasePrivateKey;
+use picky_sshpub::bytes_of;
+use picky_wire::{Bytes, NoMemory, Piece, Text, push_pieces};
 use std::alloc::Global;
 
 /// How many bytes a reply doesn't reach.
@@ -51,81 +55,65 @@ fn fit(alloc: Global, reply: Vec<u8>) -> Result<Bytes, NoMemory>
     Ok(Bytes::from_vec(reply))
 }
 
-/// The list of the identities. Refuses: `NoMemory`.
-pub(crate) fn listing_of(alloc: Global, identities: &[Identity]) -> Result<Bytes, NoMemory>
-    requires { length identities.now ≤ most_identities }
-    ensures { IfOk result (λ reply. reply ≡ fitted (listing identities.now)) }
+/// The list that has these entries. Refuses: `NoMemory`.
+pub(crate) fn listing_of(alloc: Global, entries: &[Bytes]) -> Result<Bytes, NoMemory>
+    requires { length entries.now ≤ most_identities }
+    ensures { IfOk result (λ reply. reply ≡ fitted (12 ∷ to_be_bytes w32 (length entries.now) ++ concat entries.now)) }
 {
     let mut reply = Vec::new(alloc);
     let head = [
         Piece::byte(message_type::IDENTITIES_ANSWER),
-        Piece::uint32(identities.len() as u32),
+        Piece::uint32(entries.len() as u32),
     ];
     match push_pieces(&mut reply, &head) {
         Ok(()) => {}
         Err(_) => return Err(NoMemory),
     }
-    'identities: for identity in identities {
-        match push_entry(alloc, &mut reply, identity) {
+    'entries: for entry in entries {
+        match reply.extend_from_slice(entry.as_slice()) {
             Ok(()) => {}
-            Err(SizeError::TooLong) => return failure(alloc),
-            Err(SizeError::NoMemory) => return Err(NoMemory),
+            Err(_) => return Err(NoMemory),
         }
     }
     fit(alloc, reply)
 }
 
-/// Appends the identity's entry. Refuses, in order: `TooLong`, where it is too long for any reply; `NoMemory`.
-fn push_entry(alloc: Global, reply: &mut Vec<u8>, identity: &Identity) -> Result<(), SizeError>
-    ensures ok { OnOk result (reply.new.items ≡ reply.old.items ++ entry identity.now) }
-    ensures too_long { result ≡ Err SizeError.TooLong → 2 ^ 32 ≤ length (entry identity.now) }
+/// The identity's entry in a list. Refuses: `NoMemory`.
+pub(crate) fn entry_of(alloc: Global, identity: &Identity) -> Result<Bytes, NoMemory>
+    requires { HasEntry identity.now }
+    ensures { IfOk result (λ bytes. bytes ≡ entry identity.now) }
 {
-    match identity.key.base_public_key(alloc) {
-        Ok(public) => push_both(reply, &public, &identity.comment),
-        Err(NoMemory) => Err(SizeError::NoMemory),
+    match blob_in(alloc, &identity.key) {
+        Ok(blob) => strings_of(alloc, blob.as_slice(), &identity.comment),
+        Err(NoMemory) => Err(NoMemory),
     }
 }
 
-/// Appends a key's blob and a comment, each as a string. Refuses, in order: as `push_blob`; `NoMemory`.
-fn push_both(reply: &mut Vec<u8>, key: &SshBasePublicKey, comment: &Text) -> Result<(), SizeError>
-    ensures ok { OnOk result (reply.new.items ≡ reply.old.items ++ (string_of (blob_of key.now) ++ string_of comment.now)) }
-    ensures too_long { result ≡ Err SizeError.TooLong → 2 ^ 32 ≤ length (blob_of key.now) }
+/// The blob of the public key in a private one. Refuses: `NoMemory`.
+fn blob_in(alloc: Global, key: &SshBasePrivateKey) -> Result<Vec<u8>, NoMemory>
+    ensures { IfOk result (λ blob. blob.items ≡ blob_of (public_part key.now)) }
 {
-    match push_blob(reply, key) {
-        Ok(()) => match push_pieces(reply, &[Piece::text(comment)]) {
-            Ok(()) => Ok(()),
-            Err(_) => Err(SizeError::NoMemory),
-        },
-        Err(e) => Err(e),
+    match key.base_public_key(alloc) {
+        Ok(public) => bytes_of(alloc, &public),
+        Err(NoMemory) => Err(NoMemory),
     }
 }
 
-/// Appends a key's blob as a string. Refuses, in order: `TooLong`, where a length of the wire can't say the blob's; `NoMemory`.
-fn push_blob(reply: &mut Vec<u8>, key: &SshBasePublicKey) -> Result<(), SizeError>
-    ensures ok { OnOk result (reply.new.items ≡ reply.old.items ++ string_of (blob_of key.now)) }
-    ensures too_long { result ≡ Err SizeError.TooLong → 2 ^ 32 ≤ length (blob_of key.now) }
+/// A blob and a comment, each as a string. Refuses: `NoMemory`.
+fn strings_of(alloc: Global, blob: &[u8], comment: &Text) -> Result<Bytes, NoMemory>
+    requires { length blob.now + length comment.now + 8 < 2 ^ 32 }
+    ensures { IfOk result (λ bytes. bytes ≡ string_of blob.now ++ string_of comment.now) }
 {
-    let pieces = blob_pieces(key);
-    let len = pieces_len(&pieces);
-    if len >= REPLY_LIMIT as u64 {
-        return Err(SizeError::TooLong);
+    let len = blob.len() + comment.as_str().len() + 8;
+    match Vec::with_capacity(alloc, len) {
+        Ok(mut entry) => {
+            match push_pieces(&mut entry, &[Piece::string(blob), Piece::text(comment)]) {
+                Ok(()) => Ok(Bytes::from_vec(entry)),
+                Err(_) => Err(NoMemory),
+            }
+        }
+        Err(_) => Err(NoMemory),
     }
-    match push_pieces(reply, &[Piece::uint32(len as u32)]) {
-        Ok(()) => {}
-        Err(_) => return Err(SizeError::NoMemory),
-    }
-    match push_pieces(reply, &pieces) {
-        Ok(()) => Ok(()),
-        Err(_) => Err(SizeError::NoMemory),
-    }
-}
-
-/// The fields of a key's blob, its name first.
-#[tactic(auto, unfolding(picky_sshpub::specs::Blob::blob_of))]
-fn blob_pieces(key: &SshBasePublicKey) -> [Piece<'_>; 4]
-    ensures { concat result ≡ blob_of key.now }
-{
-    pieces_behind(Piece::string(key.kind().name().as_bytes()), key)
 }
 
 /// The signature in its format. Refuses: `NoMemory`.

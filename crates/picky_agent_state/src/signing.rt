@@ -7,6 +7,7 @@ ghost use Rattle.picky_sshpub.specs.Key.{kind_of};
 ghost use Rattle.picky_sshkey_blob.specs.Key.{public_part};
 ghost use Rattle.picky_agent_state.specs.Kept.{Kept, machine};
 ghost use Rattle.picky_agent_state.specs.Signing.{algorithm_for as algorithm_of, is_set as is_set_in, rsa_hash as rsa_hash_of, way_for as way_of};
+ghost use Rattle.picky_agent_state.specs.Request.{sign_request};
 ghost use Rattle.picky_agent_state.specs.Step.{Asks};
 
 use crate::message_type;
@@ -68,7 +69,8 @@ pub(crate) fn sign_with<G: Signer>(
     message: &[u8],
 ) -> Result<Bytes, NoMemory>
     ensures asks { (kept : Kept) → IfOk result (λ reply. Asks (G.signs signer.old) (machine kept (G.faults signer.old))
-        (public_part key.now) (way_of (kind_of (public_part key.now)) flags) message.now reply (machine kept (G.faults signer.new))) }
+        (sign_request (public_part key.now) message.now flags) (way_of (kind_of (public_part key.now)) flags) reply
+        (machine kept (G.faults signer.new))) }
     ensures unasked { way_of (kind_of (public_part key.now)) flags ≡ None → signer.new ≡ signer.old }
     ensures signs { (k : PublicKey) (a : Algorithm) (m s : List ℕ) → G.signs signer.new k a m s ↔ G.signs signer.old k a m s }
     ensures never_falls { G.faults signer.old ≤ G.faults signer.new }
@@ -88,8 +90,8 @@ fn ask<G: Signer>(
     format: SshSignatureFormat,
     message: &[u8],
 ) -> Result<Bytes, NoMemory>
-    ensures asks { (kept : Kept) → IfOk result (λ reply. Asks (G.signs signer.old) (machine kept (G.faults signer.old))
-        (public_part key.now) (Some (algorithm, format)) message.now reply (machine kept (G.faults signer.new))) }
+    ensures asks { (kept : Kept) (flags : ℕ) → IfOk result (λ reply. Asks (G.signs signer.old) (machine kept (G.faults signer.old))
+        (sign_request (public_part key.now) message.now flags) (Some (algorithm, format)) reply (machine kept (G.faults signer.new))) }
     ensures signs { (k : PublicKey) (a : Algorithm) (m s : List ℕ) → G.signs signer.new k a m s ↔ G.signs signer.old k a m s }
     ensures never_falls { G.faults signer.old ≤ G.faults signer.new }
 {

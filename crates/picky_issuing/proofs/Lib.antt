@@ -1,5 +1,5 @@
 mod EqualityLemmas
-mod NumberLaws
+pub mod NumberLaws
 pub mod PartsLemmas
 pub mod PartsLaws
 pub mod PartsText

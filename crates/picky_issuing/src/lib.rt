@@ -10,4 +10,4 @@ mod value;
 
 pub use options::{CertOptions, options_of};
 pub use parts::{Parts, parts_of};
-pub use value::number_of;
+pub use value::{cert_type_of, number_of};

@@ -15,7 +15,7 @@ use Rattle.picky_policy.specs.Decided.{Accepts, Allows, Answers, Decides, Line}
 use Rattle.picky_policy.specs.Decided.{asks, decided, granted, is_kept_back, line_for, options_left}
 use Rattle.picky_policy.specs.Demands.{Demands, no_demands}
 use Rattle.picky_policy.specs.Rules.{judged}
-use Rattle.picky_policy.specs.Verifies.{Keeps, Relation}
+use Rattle.picky_policy.specs.Verifies.{Relation}
 use Rattle.picky_policy.specs.declared.deciding.DecideError.{DecideError}
 use Rattle.picky_policy.specs.declared.deciding.DecideError.TheVariants as errors
 use Rattle.picky_policy.specs.declared.decision.Decision.{Decision}
@@ -104,21 +104,62 @@ module _ (verifies : Relation) (entries : List AuthEntry) (user : List ℕ) (mom
   denied_so offer asked rose result why grant decides is =
       denies offer why grant (subst (Decides (Accepts verifies offer) (decided entries offer user moment) asked rose) is decides)
 
+  -- and memory runs out only in place of a grant
+  pub wanted_so : (offer : Offer) (asked : Bool) (rose : Type 0) (result : Result Decision DecideError)
+      → Decides (Accepts verifies offer) (decided entries offer user moment) asked rose result
+      → result ≡ Err errors.NoMemory → (grant : Grant) × Allows verifies entries offer user moment grant
+  wanted_so offer asked rose result decides is =
+      let some = subst (Decides (Accepts verifies offer) (decided entries offer user moment) asked rose) is decides in
+      (some.0, grants offer some.0 some.1)
+
   -- a key is decided on without the verifier
   pub key_decides : (key : SshPublicKey) (rose : Type 0) (result : Result Decision DecideError)
-      → IfOk result (λ decision. Answers (Unit {0}) (decided entries (offers.Key key) user moment) decision)
-      → result ≢ Err errors.VerifierFault
+      → Decides (Unit {0}) (decided entries (offers.Key key) user moment) false ⊥ result
       → Decides (Accepts verifies (offers.Key key)) (decided entries (offers.Key key) user moment)
       (asks entries (offers.Key key) user moment) rose result
-  key_decides key rose (Ok decision) answers calm = answers
-  key_decides key rose (Err errors.VerifierFault) answers calm = absurd (calm refl)
-  key_decides key rose (Err errors.NoMemory) answers calm = tt
+  key_decides key rose (Ok decision) decides = decides
+  key_decides key rose (Err errors.VerifierFault) decides = absurd decides.1
+  key_decides key rose (Err errors.NoMemory) decides = decides
 
--- ---- the verifier
+-- a grant was decided on, and what is answered is that grant, or that memory ran out
+pub grant_decides : (accepts : Type 0) (says : Result Grant Denial) (asked : Bool) (rose : Type 0) (grant : Grant)
+    (result : Result Decision DecideError) → says ≡ Ok grant → accepts
+    → IfOk result (λ decision. decision ≡ decisions.Granted grant) → result ≢ Err errors.VerifierFault
+    → Decides accepts says asked rose result
+grant_decides accepts says asked rose grant result is good granted calm =
+    subst (λ s. Decides accepts s asked rose result) (sym is) (go result granted calm)
+  where
+    go : (r : Result Decision DecideError) → IfOk r (λ decision. decision ≡ decisions.Granted grant)
+        → r ≢ Err errors.VerifierFault → Decides accepts (Ok grant) asked rose r
+    go (Ok decision) granted calm = subst (Answers accepts (Ok grant)) (sym granted) (refl, good)
+    go (Err errors.VerifierFault) granted calm = absurd (calm refl)
+    go (Err errors.NoMemory) granted calm = (grant, (refl, good))
 
--- one that isn't asked keeps what it says
-pub keeps_all : (verifies : Relation) → Keeps verifies verifies
-keeps_all verifies key signature message = (λ good. good, λ good. good)
+-- so it is of the line of a key
+pub key_grants : (entries : List AuthEntry) (key : SshPublicKey) (user : List ℕ) (moment : Timestamp) (line : Line) (d : Demands)
+    (result : Result Decision DecideError) → line_for false key.inner_key entries ≡ Some line → d ≡ no_demands
+    → IfOk result (λ decision. decision ≡ decisions.Granted (granted line d)) → result ≢ Err errors.VerifierFault
+    → Decides (Unit {0}) (decided entries (offers.Key key) user moment) false ⊥ result
+unfolding decided
+key_grants entries key user moment line d result found none gives calm =
+    let says : decided entries (offers.Key key) user moment ≡ Ok (granted line d) =
+    ap (λ o. and_then (ok_or o denials.NoLine) (λ l. Ok (granted l no_demands))) found
+    ∙ ap (λ e. Ok (granted line e)) (sym none) in
+    grant_decides (Unit {0}) (decided entries (offers.Key key) user moment) false ⊥ (granted line d) result says tt gives calm
+
+-- and of the issuer's line, where the rules and the signature are kept
+pub certificate_grants : (accepts : Type 0) (asked : Bool) (rose : Type 0) (entries : List AuthEntry) (c : SshCertificate)
+    (message user : List ℕ) (moment : Timestamp) (line : Line) (d : Demands) (result : Result Decision DecideError)
+    → line_for true c.signature_key.inner_key entries ≡ Some line → judged line.options c user moment ≡ Ok d → accepts
+    → IfOk result (λ decision. decision ≡ decisions.Granted (granted line d)) → result ≢ Err errors.VerifierFault
+    → Decides accepts (decided entries (offers.Certificate c message) user moment) asked rose result
+unfolding decided
+certificate_grants accepts asked rose entries c message user moment line d result found kept good gives calm =
+    let says : decided entries (offers.Certificate c message) user moment ≡ Ok (granted line d) =
+    ap (λ o. and_then (ok_or o denials.NoAuthority) (λ l. and_then (judged l.options c user moment) (λ e. Ok (granted l e)))) found
+    ∙ ap (λ r. and_then r (λ e. Ok (granted line e))) kept in
+    grant_decides accepts (decided entries (offers.Certificate c message) user moment) asked rose (granted line d) result says good
+    gives calm
 
 -- ---- the options that are handed out
 

@@ -1,5 +1,5 @@
 -- How a run ends, status by status.
-use Rattle.std.proofs.Common.{◌≡◌, ◌≢◌, ◌⊎◌, ℕ, List, [], Option, Some, None, Ok, Err}
+use Rattle.std.proofs.Common.{◌≡◌, ◌≢◌, ◌⊎◌, ℕ, List, [], Option, Some, Ok, Err}
 use Rattle.std.proofs.Common.{refl, sym, ◌∙◌, ap, inl, inr, subst}
 use Rattle.std.specs.Option.{option_map}
 use Rattle.picky_policy.specs.Command.{Asked, asked_by, asked_for}
@@ -20,11 +20,6 @@ asked_is words found command a is some named =
 pub names_it : (words : List (List ℕ)) (found : Option Command) (command : Command)
     → option_map asked_by found ≡ asked_for words → found ≡ Some command → asked_for words ≡ Some (asked_by command)
 names_it words found command is some = sym is ∙ ap (option_map asked_by) some
-
--- and without a command they name nothing
-pub names_none : (words : List (List ℕ)) (found : Option Command) (a : Asked)
-    → option_map asked_by found ≡ asked_for words → found ≡ None → asked_for words ≡ Some a → ⊥
-names_none words found a is none named = let both : None ≡ Some a = sym (ap (option_map asked_by) none) ∙ is ∙ named in cc both
 
 -- ---- an answer
 

@@ -4,7 +4,7 @@ use Rattle.std.proofs.Common.{take, IfErr, IfOk, Result, Ok, Err, refl, sym, ◌
 use Rattle.std.specs.Str.{IsUtf8, is_utf8}
 use Rattle.picky_layout.specs.Outcome.{and_then, map_err, map_ok}
 use Rattle.picky_input.specs.Input.{input_limit}
-use Rattle.picky_input.specs.SourceText.{IsSourceText, Leaves, Reads, text_of}
+use Rattle.picky_input.specs.SourceText.{IsSourceText, Reads, text_of}
 use Rattle.picky_input.specs.declared.source_text.SourceError.{SourceError}
 use Rattle.picky_input.specs.declared.source_text.SourceError.TheVariants as source
 use Rattle.picky_input.proofs.TextLaws.{is_source_text, no_text_exactly, too_long_exactly}
@@ -241,21 +241,6 @@ source_comes verifies asked input read_rose rose source.InputTooLong status is r
     inr (inr (inr (offered_without input source.InputTooLong reads ∙ ap Err (sym is))))
 source_comes verifies asked input read_rose rose source.InputNotUtf8 status is reads count =
     inr (inr (inr (offered_without input source.InputNotUtf8 reads ∙ ap Err (sym is))))
-
-pub some_source_comes : (verifies : Relation) (asked : Asked) (read_rose rose : Type 0) (e : SourceError) (status : PolicyStatus)
-    → status ≡ source_status e → (e ≡ source.ReadFault → read_rose) → (status ≡ statuses.InputTooLong → ⊥)
-    → (status ≡ statuses.InputNotUtf8 → ⊥) → (input : List ℕ) × Comes verifies asked input read_rose rose (Err status)
-some_source_comes verifies asked read_rose rose source.ReadFault status is count long text = ([], inr (inl (is, count refl)))
-some_source_comes verifies asked read_rose rose source.NoMemory status is count long text = ([], inl is)
-some_source_comes verifies asked read_rose rose source.InputTooLong status is count long text = absurd (long is)
-some_source_comes verifies asked read_rose rose source.InputNotUtf8 status is count long text = absurd (text is)
-
-pub source_leaves : (e : SourceError) (status : PolicyStatus) (before after : List ℕ) → status ≡ source_status e
-    → Leaves (Err e) before after → LeavesAt status before after
-source_leaves source.ReadFault status before after is leaves = subst (λ s. LeavesAt s before after) (sym is) leaves
-source_leaves source.NoMemory status before after is leaves = subst (λ s. LeavesAt s before after) (sym is) tt
-source_leaves source.InputTooLong status before after is leaves = subst (λ s. LeavesAt s before after) (sym is) leaves
-source_leaves source.InputNotUtf8 status before after is leaves = subst (λ s. LeavesAt s before after) (sym is) leaves
 
 pub source_not_asked : (asked : Asked) (input text : List ℕ) → text_of input ≡ Ok text → asks_of asked input ≡ false
     → asks_with asked text (offered_in text) ≡ false

@@ -141,12 +141,13 @@ pub record IsDecision (verifies : Relation) (entries : List AuthEntry) (offer : 
   pub denied : (why : Denial) (grant : Grant) → decision ≡ decisions.Denied why
       → Allows verifies entries offer user moment grant → ⊥
 
--- what a call answers: a decision; or the verifier's fault, where it was asked and counted one; or want of memory
+-- what a call answers: a decision; or the verifier's fault, where it was asked and counted one; or want of memory, in place of a
+-- grant alone
 abbrev pub Decides : (accepts : Type 0) → Result Grant Denial → (asked : Bool) → (rose : Type 0)
     → Result Decision DecideError → Type 0
 Decides accepts says asked rose (Ok decision) = Answers accepts says decision
 Decides accepts says asked rose (Err errors.VerifierFault) = (asked ≡ true) × rose
-Decides accepts says asked rose (Err errors.NoMemory) = Unit {0}
+Decides accepts says asked rose (Err errors.NoMemory) = (grant : Grant) × Answers accepts says (decisions.Granted grant)
 
 -- which signatures are good stays; the count moves for the verifier's fault alone; one that isn't asked is as it was
 pub record LeavesVerifier {S A : Type 0} (verifies : S → Relation) (faults : S → ℕ) (asked : Bool)

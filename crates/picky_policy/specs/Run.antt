@@ -1,5 +1,6 @@
 -- A run: what it writes for the bytes of its source, and how it ends.
-use Rattle.std.specs.Prelude.{◌≡◌, ◌<◌, ◌++◌, ℕ, Bool, true, false, List, [], length, take, Option, Some, None, Result, Ok, Err}
+use Rattle.std.specs.Prelude.{◌≡◌, ◌<◌, ◌++◌, ℕ, Bool, true, false, List, [], length, take}
+use Rattle.std.specs.Prelude.{Option, Some, None, Result, Ok, Err}
 use Rattle.picky_layout.specs.Outcome.{and_then, map_err}
 use Rattle.picky_wire.specs.declared.timestamp.Timestamp.{Timestamp}
 pub use Rattle.picky_input.specs.Input.{input_limit, TakesInput}
@@ -84,7 +85,8 @@ pub record IsOutsideFault (asked : Asked) (input : List ℕ) (rose : Type 0) : T
 -- ---- what is written
 
 -- a decision was asked for, and its status and its lines are these
-abbrev pub IsDecisionOf : Asked → (decides : (user : List ℕ) → Timestamp → Decision → Type 0) → Decision → (text : List ℕ) → Type 0
+abbrev pub IsDecisionOf : Asked → (decides : (user : List ℕ) → Timestamp → Decision → Type 0) → Decision → (text : List ℕ)
+    → Type 0
 IsDecisionOf (Deciding user moment) decides decision text = decides user moment decision × (text ≡ decision_text decision)
 IsDecisionOf Printing decides decision text = ⊥
 

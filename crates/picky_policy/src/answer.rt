@@ -119,6 +119,7 @@ fn take_offer(alloc: Global, text: &str) -> Result<Offer, PolicyStatus>
 fn unread(e: ReadError) -> PolicyStatus
     ensures two { (result ≡ PolicyStatus.NoMemory) ⊎ (result ≡ PolicyStatus.BadOffer) }
     ensures want { e ≡ ReadError.NoMemory → result ≡ PolicyStatus.NoMemory }
+    ensures bad { e ≢ ReadError.NoMemory → result ≡ PolicyStatus.BadOffer }
 {
     match e {
         ReadError::NoMemory => PolicyStatus::NoMemory,

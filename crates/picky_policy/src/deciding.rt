@@ -1,12 +1,12 @@
 //! The decision on an offer.
 
-ghost use Rattle.std.specs.Prelude.{◌≡◌, ◌≢◌, ◌++◌, ◌∷◌, [], ℕ, List, Err, Ok, IfOk, OnOk};
+ghost use Rattle.std.specs.Prelude.{◌≡◌, ◌≢◌, ◌++◌, ◌∷◌, [], ℕ, List, Err, Ok, IfOk, OnOk, false};
 ghost use Rattle.std.specs.Option.{option_copied};
 ghost use Rattle.picky_wire.specs.Count.{Rose};
 ghost use Rattle.picky_wire.specs.declared.timestamp.Timestamp.{Timestamp as Moment};
 ghost use Rattle.picky_authorized.specs.Entries.{AreFit};
 ghost use Rattle.picky_policy.specs.Decided.{asks, decided, granted as granted_by, is_kept_back as is_kept_back_option, options_left};
-ghost use Rattle.picky_policy.specs.Decided.{Accepts, Allows, Answers, Decides, LeavesVerifier};
+ghost use Rattle.picky_policy.specs.Decided.{Accepts, Allows, Decides, LeavesVerifier};
 ghost use Rattle.picky_policy.specs.declared.decision.Denial.{Denial as Why};
 ghost use Rattle.picky_policy.specs.declared.decision.Grant.{Grant as Given};
 ghost use Rattle.picky_policy.specs.declared.offer.Offer.TheVariants as offers;
@@ -40,7 +40,8 @@ pub enum DecideError {
 ///
 /// A key needs a line without `cert-authority`, of which the first decides. A certificate needs one of its issuer with
 /// `cert-authority`, of which the first decides, and is denied by the first rule that fails, in the order of `Denial`. The
-/// verifier is asked last, and only where no rule fails. Refuses, in order: `VerifierFault`.
+/// verifier is asked last, and only where no rule fails. Memory runs out only in place of a grant. Refuses, in order:
+/// `VerifierFault`.
 pub fn decide<V: Verifier>(
     alloc: Global,
     entries: &List<AuthEntry>,
@@ -55,6 +56,8 @@ pub fn decide<V: Verifier>(
         → Allows (V.verifies verifier.old) entries.now offer.now user.now moment grant }
     ensures denied { (why : Why) (grant : Given) → result ≡ Ok (Decision.Denied why)
         → Allows (V.verifies verifier.old) entries.now offer.now user.now moment grant → ⊥ }
+    ensures no_memory_only_if_let_in { result ≡ Err DecideError.NoMemory
+        → (grant : Given) × Allows (V.verifies verifier.old) entries.now offer.now user.now moment grant }
 
     // The decision in the order of the rules, and when the verifier's fault comes.
     ensures decides { Decides (Accepts (V.verifies verifier.old) offer.now) (decided entries.now offer.now user.now moment)
@@ -100,9 +103,8 @@ fn decide_key(
     entries: &[AuthEntry],
     key: &SshPublicKey,
 ) -> Result<Decision, DecideError>
-    ensures answers { (user : List ℕ) (moment : Moment) → IfOk result (λ decision.
-        Answers (Unit {0}) (decided entries.now (offers.Key key.now) user moment) decision) }
-    ensures no_fault { result ≢ Err DecideError.VerifierFault }
+    ensures { (user : List ℕ) (moment : Moment)
+        → Decides (Unit {0}) (decided entries.now (offers.Key key.now) user moment) false ⊥ result }
 {
     match line_for(false, &key.inner_key, entries) {
         Some(line) => grant(alloc, line, Demanded::nothing()),

@@ -1,5 +1,6 @@
 -- Words of this crate's private contracts: what a run comes to, status by status.
-use Rattle.std.specs.Prelude.{◌≡◌, ◌⊎◌, ◌<◌, ◌+◌, ◌++◌, ℕ, List, [], length, take, drop, string_bytes, Result, Ok, Err}
+use Rattle.std.specs.Prelude.{◌≡◌, ◌⊎◌, ◌<◌, ◌+◌, ◌++◌, ℕ, List, [], length, take, drop, string_bytes}
+use Rattle.std.specs.Prelude.{Result, Ok, Err}
 use Rattle.picky_policy.specs.Command.{Asked}
 use Rattle.picky_policy.specs.Run.{Gives, IsAnswer, IsFaultOf, IsOutsideFault, file_part, input_limit, offered, offered_in}
 use Rattle.picky_policy.specs.Verifies.{Relation}
@@ -33,7 +34,8 @@ AnswersText verifies asked text rose (Ok said) =
     (offer : Offer) × (offered_in text ≡ Ok offer) × IsAnswer verifies asked (file_part text) offer said.0 said.1
 AnswersText verifies asked text rose (Err status) =
     (status ≡ statuses.NoMemory)
-    ⊎ ((offer : Offer) × (status ≡ statuses.OutsideFault) × (offered_in text ≡ Ok offer) × IsFaultOf asked (file_part text) offer rose)
+    ⊎ ((offer : Offer) × (status ≡ statuses.OutsideFault) × (offered_in text ≡ Ok offer)
+    × IsFaultOf asked (file_part text) offer rose)
     ⊎ (offered_in text ≡ Err status)
 
 -- the same for the bytes of a source, which may fail

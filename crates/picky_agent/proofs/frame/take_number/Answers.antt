@@ -2,7 +2,7 @@
 use Rattle.std.proofs.Common.{sym, subst, Result, Err, Option, ℕ}
 use Rattle.picky_agent.specs.declared.frame.FrameError.{FrameError}
 use Rattle.picky_agent.specs.inner.Frame.{Lens}
-use Rattle.picky_agent.proofs.FrameLemmas.{first_missed, length_stands, read_stands, rest_missed}
+use Rattle.picky_agent.proofs.FrameLemmas.{ends_here, first_missed, length_stands, read_stands, rest_missed, takes_less}
 use Rattle.picky_agent.proofs.frame.take_number.Goals as goal
 
 pub returns-in-Err-clause-lens : goal.returns-in-Err-clause-lens
@@ -10,7 +10,8 @@ returns-in-Err-clause-lens g c = λ told.
     let before = g.S.Source.left c.args.source.now in
     let after = g.S.Source.left c.fill.new.source in
     subst (λ (r : Result (Option ℕ) FrameError). Lens r before after) (sym c.first_missing.ensures)
-    (first_missed c.in-Err.e before after (c.in-Err.ensures.takes.answers told))
+    (first_missed c.in-Err.e before after (c.in-Err.ensures.takes.front told before (ends_here before)) (c.in-Err.ensures.cut told)
+    (c.in-Err.ensures.takes.answers told))
 
 pub returns-in-Err-fill-clause-lens : goal.returns-in-Err-fill-clause-lens
 returns-in-Err-fill-clause-lens g c = λ told.
@@ -20,6 +21,8 @@ returns-in-Err-fill-clause-lens g c = λ told.
     subst (λ (e : FrameError). Lens (Err e) before after) (sym c.frame_error.ensures)
     (rest_missed c.in-Err-fill.e c.fill.new.buffer before mid after c.fill.auto.buffer
     (read_stands 1 before c.fill.new.buffer mid (c.in-Ok.ensures.takes.answers told))
+    (takes_less 3 mid after (c.in-Err-fill.ensures.takes.front (c.in-Ok.ensures.takes.told told) mid (ends_here mid))
+    (c.in-Err-fill.ensures.cut (c.in-Ok.ensures.takes.told told)))
     (c.in-Err-fill.ensures.takes.answers (c.in-Ok.ensures.takes.told told)))
 
 pub returns-clause-lens : goal.returns-clause-lens

@@ -1,5 +1,5 @@
 -- One turn after another, until one ends it or there were too many.
-use Rattle.std.proofs.Common.{ap, arith, Err}
+use Rattle.std.proofs.Common.{◌∙◌, ap, arith, refl, Err}
 use Rattle.picky_agent.proofs.EndingLaws.{served_tells}
 use Rattle.picky_agent.proofs.ServedLemmas.{served_by, served_many, serves_joined, serves_none}
 use Rattle.picky_agent.proofs.serving.serve.Goals as goal
@@ -27,6 +27,7 @@ pub messages-init : goal.messages-init
 messages-init g c = record {
   serves = serves_none (g.G.Signer.signs c.args.signer.now) (g.I.Source.tells c.args.source.now) (g.O.Sink.tells c.args.out.now) _;
   signs = λ k a m s. (λ good. good, λ good. good);
+  unasked = λ told none. (refl, none);
   source_tells = λ told. told;
   out_tells = λ told. told;
 }
@@ -44,6 +45,10 @@ messages-preserved g c = record {
       let turn = c.in-Ok.ensures.signs k a m s in
       let before = c.messages.invariant.signs k a m s in
       (λ good. before.0 (turn.0 good), λ good. turn.1 (before.1 good));
+  unasked = λ told none.
+      let before = c.messages.invariant.unasked told none in
+      let tells = c.messages.invariant.source_tells told in
+      (c.in-Ok.ensures.unasked tells before.1 ∙ before.0, c.in-Ok.ensures.goes_on tells before.1);
   source_tells = λ told. c.in-Ok.ensures.source_tells (c.messages.invariant.source_tells told);
   out_tells = λ told. c.in-Ok.ensures.out_tells (c.messages.invariant.out_tells told);
 }

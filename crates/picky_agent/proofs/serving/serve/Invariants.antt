@@ -1,8 +1,9 @@
 -- So many messages were answered.
 use Rattle.std.proofs.Common.{Ok}
-use Rattle.std.specs.Prelude.{◌↔◌, ℕ, List}
+use Rattle.std.specs.Prelude.{◌≡◌, ◌↔◌, ℕ, List}
 use Rattle.picky_keys.specs.declared.public_key.PublicKey.{PublicKey}
 use Rattle.picky_keys.specs.declared.algorithm.SignatureAlgorithm.{SignatureAlgorithm}
+use Rattle.picky_agent.specs.Ending.{HasNoSign}
 use Rattle.picky_agent.specs.Served.{Serves, scene}
 use Rattle.picky_agent.proofs.serving.serve.Given as goal
 
@@ -15,6 +16,8 @@ invariant-messages g l = record {
       (g.O.Sink.written l.out) (g.O.Sink.faults l.out));
   signs : (k : PublicKey) (a : SignatureAlgorithm) (m s : List ℕ)
       → g.G.Signer.signs l.signer k a m s ↔ g.G.Signer.signs l.initial.signer k a m s;
+  unasked : g.I.Source.tells l.initial.source → HasNoSign (g.I.Source.left l.initial.source)
+      → (l.signer ≡ l.initial.signer) × HasNoSign (g.I.Source.left l.source);
   source_tells : g.I.Source.tells l.initial.source → g.I.Source.tells l.source;
   out_tells : g.O.Sink.tells l.initial.out → g.O.Sink.tells l.out;
 }

@@ -5,7 +5,6 @@ use Rattle.picky_policy.specs.Command.{asked_by}
 use Rattle.picky_policy.specs.Run.{offered_in}
 use Rattle.picky_policy.specs.inner.Comes.{answer_shown}
 use Rattle.picky_policy.proofs.RunLemmas.{never_asked, source_comes, source_not_asked, text_comes, text_leaves}
-use Rattle.picky_policy.proofs.RunLemmas.{some_source_comes, source_leaves}
 use Rattle.picky_policy.proofs.answer.take_answer.Goals as goal
 
 pub returns-in-Ok-clause-told : goal.returns-in-Ok-clause-told

@@ -12,4 +12,4 @@ returns-in-Key-clause-decides g c =
     (asks c.args.entries.now o c.args.user.now c.args.moment)
     (Rose (g.V.Verifier.faults c.args.verifier.now) (g.V.Verifier.faults c.args.verifier.now)) c.decide_key.result) (sym c.in-Key.is)
     (key_decides verifies c.args.entries.now c.args.user.now c.args.moment c.in-Key.key _ c.decide_key.result
-    (c.decide_key.ensures.answers c.args.user.now c.args.moment) c.decide_key.ensures.no_fault)
+    (c.decide_key.ensures c.args.user.now c.args.moment))

@@ -5,8 +5,7 @@ use Rattle.picky_policy.specs.Command.{Printing, asked_by}
 use Rattle.picky_policy.specs.Run.{Gives, IsOutsideFault, WritesAnswer, WritesPrefix, asks_of}
 use Rattle.picky_policy.specs.declared.status.PolicyStatus.TheVariants as statuses
 use Rattle.picky_policy.proofs.EndLemmas.{asked_is, complete_end, end_of_source, ends_at, ends_done, ends_in_front, exact_end, leaves_at}
-use Rattle.picky_policy.proofs.EndLemmas.{done_is_no_text_fault, done_is_not_too_long, ends_gives, names_it, names_none}
-use Rattle.picky_policy.proofs.DecideLemmas.{keeps_all}
+use Rattle.picky_policy.proofs.EndLemmas.{done_is_no_text_fault, done_is_not_too_long, ends_gives, names_it}
 use Rattle.picky_policy.proofs.RunLemmas.{bad_offer_so, no_text_so, too_long_so}
 use Rattle.picky_policy.proofs.run.run_policy.Goals as goal
 

@@ -4,7 +4,7 @@ use Rattle.picky_sshpub.specs.View.{key_seen}
 use Rattle.picky_sshkey_blob.specs.View.{key_seen as private_seen}
 use Rattle.picky_agent_state.specs.declared.identity.Identity.{Identity}
 use Rattle.picky_agent_state.specs.Kept.{Kept, machine}
-use Rattle.picky_agent_state.specs.Request.{Request, Identities, Sign, Add, Remove, RemoveAll, Lock, Unlock, Unfit}
+use Rattle.picky_agent_state.specs.Request.{Request, Identities, Sign, Add, Remove, RemoveAll, Lock, Unlock, Unfit, sign_request}
 use Rattle.picky_agent_state.specs.Rows.{Adds, Fails, Lists, Locks, Removes, RemovesAll, Unlocks}
 use Rattle.picky_agent_state.specs.Step.{AsksSigner}
 use Rattle.picky_agent_state.proofs.StepLemmas.{fails, stays, steps}
@@ -22,7 +22,7 @@ returns-in-Sign-clause-step g c =
     let kept = c.args.self.now in
     steps (g.G.Signer.signs c.args.signer.now) (machine kept (g.G.Signer.faults c.args.signer.now))
     (machine kept (g.G.Signer.faults c.sign.new.signer))
-    (Sign (key_seen c.in-Sign.key) c.in-Sign.message.now c.in-Sign.flags) c.args.message.now c.sign.result
+    (Sign (sign_request (key_seen c.in-Sign.key) c.in-Sign.message.now c.in-Sign.flags)) c.args.message.now c.sign.result
     c.in-Sign.ensures.request c.sign.ensures.asks
 
 pub returns-in-Sign-clause-unasked : goal.returns-in-Sign-clause-unasked
