@@ -115,11 +115,11 @@ def putty_file(version, name, blob, private, comment):
 USER, HOST = 1, 2
 
 
-def to_be_signed(name, nonce, fields, kind, issuer, key_id=b"", principals=b"", after=0, before=0, critical=b"", extensions=b""):
+def to_be_signed(name, nonce, fields, kind, issuer, key_id=b"", principals=b"", after=0, before=0, critical=b"", extensions=b"", serial=0):
     """What the issuer signs of a certificate. `fields` are those of the subject's key after its name. The principals, the
     critical options and the extensions come as the bytes of their lists."""
     return b"".join((
-        string(name), string(nonce), fields, uint64(0), uint32(kind), string(key_id), string(principals),
+        string(name), string(nonce), fields, uint64(serial), uint32(kind), string(key_id), string(principals),
         uint64(after), uint64(before), string(critical), string(extensions), string(b""), string(issuer),
     ))
 

@@ -183,9 +183,13 @@ def public_line(text):
 
 
 class Certificate(NamedTuple):
-    """What a certificate says, apart from its nonce, its serial number, its key id and the signature itself. Keys are blobs."""
+    """What a certificate says. Keys are blobs, and of a signature the format and what follows it."""
+    name: str
+    nonce: bytes
     key: bytes
+    serial: int
     is_host: bool
+    key_id: str
     principals: list
     valid_after: int
     valid_before: int
@@ -194,6 +198,8 @@ class Certificate(NamedTuple):
     issuer: bytes
     # The bytes that the issuer signed.
     signed: bytes
+    form: str
+    signature: bytes
     comment: str
 
     def item(self):
@@ -206,13 +212,12 @@ def certificate(text):
     name = fields.name(CERT_TYPES)
     if not CERT_TYPES[name]:
         raise Refused("DSS")
-    fields.string()
+    nonce = fields.string()
     key = public_fields(CERT_TYPES[name], fields)
-    fields.number(8)
-    kind = fields.number()
+    serial, kind = fields.number(8), fields.number()
     if kind not in (1, 2):
         raise Refused("certificate's kind")
-    fields.text()
+    key_id = fields.text()
     principals = all_of(fields.string(), Fields.text)
     valid_after, valid_before = fields.number(8), fields.number(8)
     critical_options = all_of(fields.string(), lambda it: (it.name(CRITICAL, "critical option"), it.string()))
@@ -222,11 +227,11 @@ def certificate(text):
     signed = fields.content[:fields.at]
     fields.number()
     form = fields.name(SIGNATURES, "signature's format")
-    fields.string()
+    signature = string(fields.string())
     if form in (SK_ECDSA, SK_ED25519):
-        fields.number(1)
-        fields.number()
-    return Certificate(key, kind == 2, principals, valid_after, valid_before, critical_options, extensions, issuer, signed, comment)
+        signature += fields.take(5)
+    return Certificate(name, nonce, key, serial, kind == 2, key_id, principals, valid_after, valid_before, critical_options, extensions,
+                       issuer, signed, form, signature, comment)
 
 
 # ---- OpenSSH's private keys (PROTOCOL.key)

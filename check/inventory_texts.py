@@ -169,14 +169,14 @@ ZERO = b"\0\0\0\0"
 
 def certificate_nodes(name, key, issuer, nonce=bytes(32), kind=1, form=ED25519, principals=(b"root", b"me"), key_id=b"id",
                       critical=((b"force-command", b"true"),), extensions=((b"permit-pty", None), (b"x@y", b"1")), after=0,
-                      before=2**64 - 1):
+                      before=2**64 - 1, serial=7):
     """A certificate, of which the signature is the last node. An option's value is the string in its payload, None where that is
     empty, or a list: the nodes of its payload."""
     options = [[node for option, value in pairs for node in ([option], payload_nodes(value))] for pairs in (critical, extensions)]
     signature = [[form], [nonce * 2]]
     if form in (SK_ECDSA, SK_ED25519):
         signature += [b"\5", uint32(7)]
-    return [[name + V01], [nonce], *key.public[1:], uint64(7), uint32(kind), [key_id], [[it] for it in principals], uint64(after),
+    return [[name + V01], [nonce], *key.public[1:], uint64(serial), uint32(kind), [key_id], [[it] for it in principals], uint64(after),
             uint64(before), *options, [], issuer.public, signature]
 
 

@@ -2,7 +2,7 @@
 pub use Rattle.picky_layout.specs.ByteArray
 pub use Rattle.picky_layout.specs.Combine
 pub use Rattle.picky_layout.specs.Empty
-pub use Rattle.picky_layout.specs.Entry
+pub use Rattle.picky_layout.specs.Entry as LayoutEntry
 pub use Rattle.picky_layout.specs.Fixed
 pub use Rattle.picky_layout.specs.Flaw
 pub use Rattle.picky_layout.specs.Front
@@ -220,6 +220,16 @@ pub use Rattle.picky_issuing.specs.Options as IssuingOptions
 pub use Rattle.picky_issuing.specs.Parts as IssuingParts
 pub use Rattle.picky_issuing.specs.Steps
 pub use Rattle.picky_issuing.specs.Value
+pub use Rattle.picky_request.specs.Builder
+pub use Rattle.picky_request.specs.Names as LineNames
+pub use Rattle.picky_request.specs.Request as LineRequest
+pub use Rattle.picky_ledger.specs.Apply
+pub use Rattle.picky_ledger.specs.Entry as LedgerEntry
+pub use Rattle.picky_ledger.specs.LedgerText
+pub use Rattle.picky_ledger.specs.Replies
+pub use Rattle.picky_ledger.specs.Run as LedgerRun
+pub use Rattle.picky_ledger.specs.Runs
+pub use Rattle.picky_ledger.specs.State
 pub use Rattle.picky_inventory.specs.BadLine
 pub use Rattle.picky_inventory.specs.Command as InventoryCommand
 pub use Rattle.picky_inventory.specs.InOrder

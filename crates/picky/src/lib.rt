@@ -7,8 +7,10 @@
 pub mod agent;
 pub mod convert;
 pub mod inventory;
+pub mod ledger;
 pub mod policy;
 pub mod putty;
+pub mod request;
 pub mod ssh;
 pub mod wire;
 

@@ -1,0 +1,113 @@
+//! The program: its environment, standard input and standard output.
+#![tactic(auto)]
+
+use picky_ledger::{LedgerStatus, run_ledger};
+use picky_main::{GivenError, bytes_given, hex_variable, words};
+use picky_suite::HandedSigner;
+use picky_wire::{Bytes, StdSink, StdSource, Text};
+use std::process::ExitCode;
+
+const HELP: &str = "usage: keyledger < LEDGER
+
+Answers requests for certificates out of a ledger, in which no serial and no request stands twice. Reads standard input, and writes
+to standard output. The input is a ledger, a line that is exactly %%, the public key line of who issues, such a line, and request
+lines, of which empty ones are skipped. The output is the ledger after them, a line %%, and a line for each request.
+
+A ledger is the line next N, and a line for each entry: the id of its request, a space, the request line in base64, a space, and
+the certificate's line. The first ledger is the line next 1 alone.
+
+A request line is ID KIND PRINCIPALS AFTER BEFORE and the public key line of the subject, parted by single spaces: ID has no white
+space, KIND is client or host, PRINCIPALS is - for none, or names parted by commas, and AFTER and BEFORE are seconds since 1970.
+It is answered:
+
+  issued ID SERIAL    a certificate was made, and stands in the ledger
+  again ID SERIAL     the ledger has this very line
+  conflict ID SERIAL  the ledger has another line with this id
+  full ID             there is no serial left
+  refused ID NAME     no certificate is made for it: see the manual page for the names
+  bad                 the line is no request
+
+Environment: KEYCONV_FRESH, 32 fresh bytes for each request, in hex; KEYCONV_SIGNATURE, the signature of the bytes that the new
+certificate has to have signed, in hex and without the name of its format. This program signs nothing itself: it takes one
+signature, so a run has one new request at most, and one without a signature ends with status 8.
+
+  --help     this text
+  --version  the version
+
+Other words change nothing.
+
+Status: 0 done, 1 fewer than two lines %%, 2 no ledger, 3 no issuer, 4 too few fresh bytes, 5 the new ledger is too long, 6 read
+fault, 7 write fault, 8 outside fault, 9 out of memory, 10 input over 16 MiB, 11 input not UTF-8, 12 a variable isn't hex. With 0
+all is written, with 7 a part or nothing, with the others nothing.
+";
+
+const VERSION: &str = "keyledger 0.1.0\n";
+
+const FRESH: &str = "KEYCONV_FRESH";
+
+const SIGNATURE: &str = "KEYCONV_SIGNATURE";
+
+/// The status where a variable isn't hex.
+const NOT_HEX: u8 = 12;
+
+fn main(rt: HostRuntime) -> ExitCode {
+    match words(&rt) {
+        Ok(words) => answer(&rt, words.as_slice()),
+        Err(GivenError::Unfit) => perform(&rt),
+        Err(GivenError::NoMemory) => exit_code(LedgerStatus::NoMemory),
+    }
+}
+
+/// Does what the words say, which is the same for all but two.
+fn answer(rt: &HostRuntime, words: &[Text]) -> ExitCode {
+    match words {
+        [word] if word.as_str() == "--help" => print(rt, HELP),
+        [word] if word.as_str() == "--version" => print(rt, VERSION),
+        _ => perform(rt),
+    }
+}
+
+/// Answers the requests with what the environment gives.
+fn perform(rt: &HostRuntime) -> ExitCode {
+    match given(rt) {
+        Ok((fresh, signature)) => start(rt, &fresh, signature),
+        Err(GivenError::Unfit) => ExitCode::from(NOT_HEX),
+        Err(GivenError::NoMemory) => exit_code(LedgerStatus::NoMemory),
+    }
+}
+
+/// The fresh bytes and the signature.
+fn given(rt: &HostRuntime) -> Result<(Option<Bytes>, Option<Bytes>), GivenError> {
+    let fresh = hex_variable(rt, FRESH)?;
+    let signature = hex_variable(rt, SIGNATURE)?;
+    Ok((fresh, signature))
+}
+
+/// Answers the requests over the standard streams.
+fn start(rt: &HostRuntime, fresh: &Option<Bytes>, signature: Option<Bytes>) -> ExitCode {
+    let mut signer = HandedSigner::new(signature);
+    let mut source = StdSource::new(rt.stdin());
+    let mut out = StdSink::new(rt.stdout());
+    exit_code(run_ledger(
+        rt.alloc(),
+        bytes_given(fresh),
+        &mut signer,
+        &mut source,
+        &mut out,
+    ))
+}
+
+/// Prints a text on standard output.
+fn print(rt: &HostRuntime, text: &str) -> ExitCode {
+    match rt.print(text) {
+        Ok(()) => ExitCode::SUCCESS,
+        Err(_) => exit_code(LedgerStatus::WriteFault),
+    }
+}
+
+/// How the process ends.
+fn exit_code(status: LedgerStatus) -> ExitCode {
+    let code = status.exit_code();
+    drop(status);
+    ExitCode::from(code)
+}

@@ -1,0 +1,131 @@
+//! What is answered for the bytes of a source.
+
+ghost use Rattle.std.specs.Prelude.{◌≡◌, ◌≢◌, ◌↔◌, ◌≤◌, ◌*◌, ◌++◌, ℕ, List, length, string_bytes, Ok, Err, IfErr, IfOk, OnOk};
+ghost use Rattle.picky_keys.specs.declared.public_key.PublicKey.{PublicKey};
+ghost use Rattle.picky_keys.specs.declared.algorithm.SignatureAlgorithm.{SignatureAlgorithm as Algorithm};
+ghost use Rattle.picky_layout.specs.Outcome.{map_ok};
+ghost use Rattle.picky_wire.specs.Count.{Rose};
+ghost use Rattle.picky_issuing.specs.Parts.{mark_lf};
+ghost use Rattle.picky_ledger.specs.Run.{of_text, Asked, AsksNothing, TakesInput};
+ghost use Rattle.picky_ledger.specs.Runs.{nonce_len, NoneAsks};
+ghost use Rattle.picky_ledger.specs.inner.Comes.{AnswersAsked, AnswersText, Comes, LeavesFor};
+ghost use Rattle.picky_ledger.specs.inner.Shown.{given_shown};
+
+use crate::apply::LedgerError;
+use crate::asked::{Given, given_in};
+use crate::requests::answer_requests;
+use crate::status::{LedgerStatus, source_status};
+use picky_input::take_text;
+use picky_suite::Signer;
+use picky_wire::{SizeError, Source, Text};
+use std::alloc::{AllocError, Global};
+
+/// The text that is written for all bytes that the source has left, or why there is none.
+///
+/// Refuses, in order: `ReadFault`, `InputTooLong`, `InputNotUtf8`; `BadInput`, `BadLedger`, `BadIssuer`, `FreshTooShort`,
+/// `OutsideFault`, `TooLong`.
+pub(crate) fn take_answer<G: Signer, I: Source>(
+    alloc: Global,
+    fresh: &[u8],
+    signer: &mut G,
+    source: &mut I,
+) -> Result<String, LedgerStatus>
+    ensures told { I.tells source.old → Comes (G.signs signer.old) fresh.now (I.left source.old)
+        (Rose (I.faults source.old) (I.faults source.new)) (Rose (G.faults signer.old) (G.faults signer.new))
+        (map_ok (λ text. string_bytes text) result) }
+    ensures some { result ≢ Err LedgerStatus.InputTooLong → result ≢ Err LedgerStatus.InputNotUtf8
+        → (input : List ℕ) × Comes (G.signs signer.old) fresh.now input
+        (Rose (I.faults source.old) (I.faults source.new)) (Rose (G.faults signer.old) (G.faults signer.new))
+        (map_ok (λ text. string_bytes text) result) }
+    ensures leaves { I.tells source.old → LeavesFor result (I.left source.old) (I.left source.new) }
+    ensures taken { I.tells source.old → TakesInput (I.left source.old) (I.left source.new) }
+    ensures source_tells { I.tells source.old → I.tells source.new }
+    ensures source_calm { result ≢ Err LedgerStatus.ReadFault → I.faults source.new ≡ I.faults source.old }
+    ensures signs { (k : PublicKey) (a : Algorithm) (m s : List ℕ) → G.signs signer.new k a m s ↔ G.signs signer.old k a m s }
+    ensures signer_calm { result ≢ Err LedgerStatus.OutsideFault → G.faults signer.new ≡ G.faults signer.old }
+    ensures unasked { I.tells source.old → AsksNothing fresh.now (I.left source.old) → signer.new ≡ signer.old }
+{
+    match take_text(alloc, source) {
+        Ok(text) => {
+            let answer = answer_to(alloc, fresh, signer, text.as_str());
+            drop(text);
+            answer
+        }
+        Err(e) => Err(source_status(e)),
+    }
+}
+
+/// The same for a text.
+fn answer_to<G: Signer>(
+    alloc: Global,
+    fresh: &[u8],
+    signer: &mut G,
+    text: &str,
+) -> Result<String, LedgerStatus>
+    ensures answers { AnswersText (G.signs signer.old) fresh.now text.now (Rose (G.faults signer.old) (G.faults signer.new))
+        (map_ok (λ text. string_bytes text) result) }
+    ensures signs { (k : PublicKey) (a : Algorithm) (m s : List ℕ) → G.signs signer.new k a m s ↔ G.signs signer.old k a m s }
+    ensures calm { result ≢ Err LedgerStatus.OutsideFault → G.faults signer.new ≡ G.faults signer.old }
+    ensures unasked { ((given : Asked) → of_text fresh.now text.now ≡ Ok given
+        → NoneAsks given.issuer.inner_key given.ledger fresh.now given.requests) → signer.new ≡ signer.old }
+{
+    match given_in(alloc, fresh, text) {
+        Ok(given) => answer_given(alloc, given, fresh, signer),
+        Err(status) => Err(status),
+    }
+}
+
+/// The new ledger's text, the mark's line and the lines of the replies. Refuses, in order: `OutsideFault`, `TooLong`.
+fn answer_given<G: Signer>(
+    alloc: Global,
+    given: Given<'_>,
+    fresh: &[u8],
+    signer: &mut G,
+) -> Result<String, LedgerStatus>
+    requires { nonce_len * length (given_shown given).requests ≤ length fresh.now }
+    ensures answers { AnswersAsked (G.signs signer.old) fresh.now (given_shown given.entry) (Rose (G.faults signer.old) (G.faults signer.new))
+        (map_ok (λ text. string_bytes text) result) }
+    ensures signs { (k : PublicKey) (a : Algorithm) (m s : List ℕ) → G.signs signer.new k a m s ↔ G.signs signer.old k a m s }
+    ensures calm { result ≢ Err LedgerStatus.OutsideFault → G.faults signer.new ≡ G.faults signer.old }
+    ensures unasked { NoneAsks given.entry.issuer.inner_key given.entry.ledger fresh.now (given_shown given.entry).requests
+        → signer.new ≡ signer.old }
+{
+    let Given {
+        mut ledger,
+        issuer,
+        requests,
+    } = given;
+    // That it is a ledger is said by its getter.
+    let _ = ledger.entries();
+    let replies = match answer_requests(alloc, &mut ledger, &issuer, requests, fresh, signer) {
+        Ok(replies) => replies,
+        Err(LedgerError::SignerFault) => return Err(LedgerStatus::OutsideFault),
+        Err(LedgerError::NoMemory) => return Err(LedgerStatus::NoMemory),
+    };
+    match ledger.to_string(alloc) {
+        Ok(text) => joined(text, replies.as_str()),
+        Err(SizeError::TooLong) => Err(LedgerStatus::TooLong),
+        Err(SizeError::NoMemory) => Err(LedgerStatus::NoMemory),
+    }
+}
+
+/// The text of a ledger, the mark's line, and the replies. Refuses: `NoMemory`.
+fn joined(ledger: Text, replies: &str) -> Result<String, LedgerStatus>
+    ensures joined { IfOk result (λ text. string_bytes text ≡ ledger ++ (mark_lf ++ replies.now)) }
+    ensures want { IfErr result (λ status. status ≡ LedgerStatus.NoMemory) }
+{
+    let mut text = ledger.into_string();
+    match push_behind(&mut text, replies) {
+        Ok(()) => Ok(text),
+        Err(_) => Err(LedgerStatus::NoMemory),
+    }
+}
+
+/// Adds the mark's line and the replies. Refuses: want of memory.
+fn push_behind(text: &mut String, replies: &str) -> Result<(), AllocError>
+    ensures { OnOk result (string_bytes text.new ≡ string_bytes text.old ++ (mark_lf ++ replies.now)) }
+{
+    text.push_str("%%\n")?;
+    text.push_str(replies)?;
+    Ok(())
+}

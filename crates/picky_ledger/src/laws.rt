@@ -1,0 +1,49 @@
+//! The laws of this crate, each as the contract of a function that does nothing.
+
+ghost use Rattle.std.specs.Prelude.{◌≡◌, ◌<◌, ◌^◌, ◌++◌, ◌∷◌, ℕ, List, length, Ok, Err};
+ghost use Rattle.std.specs.Str.{IsUtf8};
+ghost use Rattle.picky_sshpub.specs.declared.key.SshBasePublicKey.{SshBasePublicKey as IssuerKey};
+ghost use Rattle.picky_wire.specs.Equality.{IsEquality};
+ghost use Rattle.picky_ledger.specs.Apply.{judged, Terms};
+ghost use Rattle.picky_ledger.specs.LedgerText.{ledger_in, ledger_text};
+ghost use Rattle.picky_ledger.specs.Runs.{IsAfter, Runs};
+ghost use Rattle.picky_ledger.specs.State.{IsLedger, State};
+ghost use Rattle.picky_ledger.specs.declared.entry.Entry.{Entry as AnEntry};
+ghost use Rattle.picky_ledger.specs.declared.reply.Reply.{Reply as AReply};
+ghost use Rattle.picky_ledger.specs.declared.reply.Reply.TheVariants as replies;
+
+use crate::apply::LedgerError;
+use crate::entry::Entry;
+use crate::ledger::{Ledger, LedgerTextError};
+use crate::reply::Reply;
+use crate::status::LedgerStatus;
+use picky_suite::Signer;
+
+/// A ledger's text is read as that ledger, and only a ledger's text is read.
+pub fn text_is_read_back()
+    ensures back { (l : State) → IsLedger l → length (ledger_text l) < 2 ^ 32 → ledger_in (ledger_text l) ≡ Ok l }
+    ensures only { (text : List ℕ) (l : State) → IsUtf8 text → length text < 2 ^ 32 → ledger_in text ≡ Ok l
+        → IsLedger l × (text ≡ ledger_text l) }
+{}
+
+/// What requests leave: the entries that a ledger had stay in front, each behind them is the certificate of a request, signed by
+/// the device, and a line that has its entry is answered with the serial of that.
+pub fn requests_leave_a_ledger<G: Signer>(_signer: &G)
+    ensures { (issuer : IssuerKey) (old new : State) (fresh : List ℕ) (lines : List (List ℕ)) (rs : List AReply) → IsLedger old
+        → Runs (G.signs _signer.now) issuer old fresh lines new rs → IsAfter (G.signs _signer.now) issuer old lines new rs }
+{}
+
+/// A line that a ledger has is answered with its serial again, whoever issues and whatever the nonce.
+pub fn kept_line_is_answered_again()
+    ensures { (t : Terms) (l : State) (front more : List AnEntry) (e : AnEntry) → IsLedger l → l.entries ≡ front ++ e ∷ more
+        → judged t l e.request ≡ Err (replies.Again e.serial) }
+{}
+
+/// Two values are equal exactly where their contents are.
+pub fn equality_is_of_contents()
+    ensures entry { IsEquality ⟦<Entry as PartialEq>⟧.eq }
+    ensures reply { IsEquality ⟦<Reply as PartialEq>⟧.eq }
+    ensures error { IsEquality ⟦<LedgerError as PartialEq>⟧.eq }
+    ensures text { IsEquality ⟦<LedgerTextError as PartialEq>⟧.eq }
+    ensures status { IsEquality ⟦<LedgerStatus as PartialEq>⟧.eq }
+{}

@@ -1,0 +1,23 @@
+//! A ledger of a certificate authority: which requests it was given, and the certificate that it issued for each.
+#![tactic(auto)]
+
+mod answer;
+mod apply;
+mod asked;
+mod entry;
+mod entry_line;
+pub mod laws;
+mod ledger;
+mod reading;
+mod reply;
+mod reply_line;
+mod requests;
+mod run;
+mod status;
+
+pub use apply::LedgerError;
+pub use entry::Entry;
+pub use ledger::{Ledger, LedgerTextError};
+pub use reply::Reply;
+pub use run::run_ledger;
+pub use status::LedgerStatus;

@@ -1,0 +1,212 @@
+//! Runs that end well: the ledger that is written, and the replies behind it.
+
+use crate::runs::{FRESH, ends};
+use picky_cert_rows::{CA_SK_ED, CA_SK_P256, P521};
+use std::alloc::Global;
+use std::mem::ManuallyDrop;
+use std::test::Fail;
+
+/// A ledger's text, the requests, and the ledger and the replies after them. The issuer is the key of zeros.
+struct Talk {
+    name: &'static str,
+    ledger: &'static str,
+    requests: &'static str,
+    new_ledger: &'static str,
+    replies: &'static str,
+}
+
+// What is written is docs/FORMATS.md's, "Ledgers", by hand; the certificates are those of crate::row_texts.
+static TALKS: [Talk; 14] = [
+    Talk {
+        name: "one line twice, and another with its id",
+        ledger: "next 1\n",
+        requests: "r1 host - 0 0 ssh-ed25519 B0 host\n\
+            r1 host - 0 0 ssh-ed25519 B0 host\n\
+            r1 host - 0 5 ssh-ed25519 B0 host\n",
+        new_ledger: "next 2\nr1 <r1> <n> <c1> host\n",
+        replies: "issued r1 1\nagain r1 1\nconflict r1 1\n",
+    },
+    Talk {
+        name: "a line that was kept, and another with its id",
+        ledger: "next 2\nr1 <r1> <n> <c1> host\n",
+        requests: "r1 host - 0 5 ssh-ed25519 B0 host\nr1 host - 0 0 ssh-ed25519 B0 host\n",
+        new_ledger: "next 2\nr1 <r1> <n> <c1> host\n",
+        replies: "conflict r1 1\nagain r1 1\n",
+    },
+    Talk {
+        name: "times in the wrong order",
+        ledger: "next 1\n",
+        requests: "r2 host - 5 0 ssh-ed25519 B0 host\n",
+        new_ledger: "next 1\n",
+        replies: "refused r2 InvalidTime\n",
+    },
+    Talk {
+        name: "no request",
+        ledger: "next 1\n",
+        requests: "",
+        new_ledger: "next 1\n",
+        replies: "",
+    },
+    Talk {
+        name: "empty lines alone",
+        ledger: "next 2\nr1 <r1> <n> <c1> host\n",
+        requests: "\n\r\n\n\n\n\n",
+        new_ledger: "next 2\nr1 <r1> <n> <c1> host\n",
+        replies: "",
+    },
+    // An id that was refused isn't taken.
+    Talk {
+        name: "a request that is mended",
+        ledger: "next 1\n",
+        requests: "r1 host - 5 0 ssh-ed25519 B0 host\nr1 host - 0 0 ssh-ed25519 B0 host\n",
+        new_ledger: "next 2\nr1 <r1> <n> <c1> host\n",
+        replies: "refused r1 InvalidTime\nissued r1 1\n",
+    },
+    Talk {
+        name: "a user, behind a gap in the serials",
+        ledger: "next 7\nr1 <r1> <n> <c1> host\n",
+        requests: "r2 client me,root 5 10 ssh-ed25519 B0 user two",
+        new_ledger: "next 8\nr1 <r1> <n> <c1> host\nr2 <r2>bw== <n> <c7> user two\n",
+        replies: "issued r2 7\n",
+    },
+    // The entry has the line without its end.
+    Talk {
+        name: "lines that end in CR LF, and empty ones",
+        ledger: "next 1\n",
+        requests: "\r\n\nr1 host - 0 0 ssh-ed25519 B0 host\r\n\n\nr1 host - 0 0 ssh-ed25519 B0 host\n",
+        new_ledger: "next 2\nr1 <r1> <n> <c1> host\n",
+        replies: "issued r1 1\nagain r1 1\n",
+    },
+    Talk {
+        name: "a line that is none, with an id",
+        ledger: "next 1\n",
+        requests: "r1 host - 0 ssh-ed25519 B0 host\n%%\nr1 host - 0 0 ssh-ed25519 B0 host",
+        new_ledger: "next 2\nr1 <r1> <n> <c1> host\n",
+        replies: "bad\nbad\nissued r1 1\n",
+    },
+    Talk {
+        name: "a space behind the line",
+        ledger: "next 2\nr1 <r1> <n> <c1> host\n",
+        requests: "r1 host - 0 0 ssh-ed25519 B0 host \n",
+        new_ledger: "next 2\nr1 <r1> <n> <c1> host\n",
+        replies: "conflict r1 1\n",
+    },
+    Talk {
+        name: "the last serial",
+        ledger: "next 18446744073709551614\n",
+        requests: "r1 host - 0 0 ssh-ed25519 B0 host\nr1 host - 0 0 ssh-ed25519 B0 host\n\
+            r2 client - 0 0 ssh-ed25519 B0\n",
+        new_ledger: "next 18446744073709551615\nr1 <r1> <n> <last> host\n",
+        replies: "issued r1 18446744073709551614\nagain r1 18446744073709551614\nfull r2\n",
+    },
+    // A request that would be refused, too.
+    Talk {
+        name: "no serial is left",
+        ledger: "next 18446744073709551615\nr1 <r1> <n> <c1> host\n",
+        requests: "r2 host - 5 0 ssh-ed25519 B0\nr1 host - 0 5 ssh-ed25519 B0 host\n\
+            r1 host - 0 0 ssh-ed25519 B0 host",
+        new_ledger: "next 18446744073709551615\nr1 <r1> <n> <c1> host\n",
+        replies: "full r2\nconflict r1 1\nagain r1 1\n",
+    },
+    // The certificate is another's, and is kept as it stands.
+    Talk {
+        name: "an entry whose certificate isn't of its request",
+        ledger: "next 9\nr1 <r1> <n> <c7> user two\n",
+        requests: "r1 host - 0 0 ssh-ed25519 B0 host",
+        new_ledger: "next 9\nr1 <r1> <n> <c7> user two\n",
+        replies: "again r1 7\n",
+    },
+    Talk {
+        name: "one id is another's front",
+        ledger: "next 2\nr1 <r1> <n> <c1> host\n",
+        requests: "r host - 5 0 ssh-ed25519 B0 host\nr11 host - 5 0 ssh-ed25519 B0 host\n\
+            R1 host - 5 0 ssh-ed25519 B0 host",
+        new_ledger: "next 2\nr1 <r1> <n> <c1> host\n",
+        replies: "refused r InvalidTime\nrefused r11 InvalidTime\nrefused R1 InvalidTime\n",
+    },
+];
+
+fn is_answered(alloc: Global, talk: &Talk) -> Result<bool, Fail> {
+    let (ledger, requests) = (talk.ledger, talk.requests);
+    let row = ManuallyDrop::new(format!(in alloc;
+        "{ledger}%%\nssh-ed25519 B0 ca\n%%\n{requests}"
+    )?);
+    let (ledger, replies) = (talk.new_ledger, talk.replies);
+    let out = ManuallyDrop::new(format!(in alloc; "{ledger}%%\n{replies}")?);
+    ends(alloc, FRESH, row.as_str(), "Done", out.as_str())
+}
+
+#[test]
+fn answers_requests_in_order(rt: HostRuntime) -> Result<(), Fail> {
+    for talk in &TALKS {
+        assert!(rt; is_answered(rt.alloc(), talk)?, "{}", talk.name);
+    }
+    Ok(())
+}
+
+/// By this issuer's line the requests at a new ledger are replied so, and none is issued.
+fn replies(alloc: Global, issuer: &str, requests: &str, replies: &str) -> Result<bool, Fail> {
+    let row = ManuallyDrop::new(format!(in alloc; "next 1\n%%\n{issuer}\n%%\n{requests}")?);
+    let out = ManuallyDrop::new(format!(in alloc; "next 1\n%%\n{replies}")?);
+    ends(alloc, FRESH, row.as_str(), "Done", out.as_str())
+}
+
+// Issuers on devices sign by no algorithm, and no certificates for NIST P-521 are made. The order of refusals is docs/FORMATS.md's,
+// "Requests for certificates": the subject, the times, the issuer.
+#[test]
+fn says_why_none_is_issued(rt: HostRuntime) -> Result<(), Fail> {
+    for issuer in [CA_SK_ED, CA_SK_P256] {
+        assert!(rt;
+            replies(
+                rt.alloc(),
+                issuer,
+                "a client - 0 0 ssh-ed25519 B0\nb host - 5 0 ssh-ed25519 B0",
+                "refused a IncorrectSignatureAlgorithm\nrefused b InvalidTime\n"
+            )?,
+            "{issuer}"
+        );
+        assert!(rt; refuses_p521(rt.alloc(), issuer)?, "{issuer}");
+    }
+    assert!(rt; refuses_p521(rt.alloc(), "ssh-ed25519 B0")?);
+    Ok(())
+}
+
+fn refuses_p521(alloc: Global, issuer: &str) -> Result<bool, Fail> {
+    let requests = ManuallyDrop::new(format!(in alloc;
+        "a client - 0 0 {P521}\nb host - 5 0 {P521}\n"
+    )?);
+    replies(
+        alloc,
+        issuer,
+        requests.as_str(),
+        "refused a UnsupportedCertificateKeyType\nrefused b UnsupportedCertificateKeyType\n",
+    )
+}
+
+/// The bytes 0 to 63.
+fn two_nonces(alloc: Global) -> Result<Vec<u8>, Fail> {
+    let mut bytes = ManuallyDrop::new(Vec::new(alloc));
+    for byte in 0..64 {
+        bytes.push(byte)?;
+    }
+    Ok(ManuallyDrop::into_inner(bytes))
+}
+
+fn takes_second_nonce(alloc: Global, requests: &str, first: &str) -> Result<bool, Fail> {
+    let fresh = ManuallyDrop::new(two_nonces(alloc)?);
+    let row = ManuallyDrop::new(format!(in alloc; "next 8\n%%\nssh-ed25519 B0\n%%\n{requests}")?);
+    let out = ManuallyDrop::new(format!(in alloc;
+        "next 9\nr1 <r1> <n> <c8> host\n%%\n{first}issued r1 8\n"
+    )?);
+    ends(alloc, fresh.as_slice(), row.as_str(), "Done", out.as_str())
+}
+
+// Each request has a nonce, whether a certificate is made of it or not; an empty line has none.
+#[test]
+fn gives_each_request_its_nonce(rt: HostRuntime) -> Result<(), Fail> {
+    let bad = "\n?\n\nr1 host - 0 0 ssh-ed25519 B0 host\n";
+    assert!(rt; takes_second_nonce(rt.alloc(), bad, "bad\n")?);
+    let late = "r0 host - 5 0 ssh-ed25519 B0\nr1 host - 0 0 ssh-ed25519 B0 host\n";
+    assert!(rt; takes_second_nonce(rt.alloc(), late, "refused r0 InvalidTime\n")?);
+    Ok(())
+}

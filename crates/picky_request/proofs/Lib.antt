@@ -1,0 +1,4 @@
+mod CutLaws
+pub mod NameLaws
+mod EqualityLemmas
+pub mod LineLaws

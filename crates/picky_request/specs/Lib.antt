@@ -1,0 +1,4 @@
+pub mod Names
+pub mod Request
+pub mod Builder
+pub mod inner

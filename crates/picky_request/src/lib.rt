@@ -1,0 +1,11 @@
+//! Requests for certificates, a line each, and the certificates that they ask for.
+#![tactic(auto)]
+
+mod asked;
+pub mod laws;
+mod names;
+mod request;
+mod words;
+
+pub use asked::{algorithm_by, type_for};
+pub use request::CertRequestLine;
