@@ -4,6 +4,7 @@ import re
 import shutil
 import subprocess
 import sys
+import tempfile
 import time
 from pathlib import Path
 
@@ -77,8 +78,9 @@ def fastest(command, source, rounds=9):
 
 def instructions(command, source, env={}):
     """How many instructions callgrind counts over a file as standard input. A run may end with any status."""
-    with open(source, "rb") as stdin:
-        ran = subprocess.run(["valgrind", "--tool=callgrind", "--callgrind-out-file=/dev/null", *command], stdin=stdin,
+    # Callgrind puts a file in the place of the one that it is given, and root's in that of a device.
+    with open(source, "rb") as stdin, tempfile.TemporaryDirectory() as folder:
+        ran = subprocess.run(["valgrind", "--tool=callgrind", f"--callgrind-out-file={folder}/counts", *command], stdin=stdin,
                              stdout=subprocess.DEVNULL, stderr=subprocess.PIPE, text=True, env=env)
     counted = re.search(r"Collected : (\d+)", ran.stderr)
     if not counted:
