@@ -55,8 +55,8 @@ def ledger(following, *entries):
     return b"next %d\n" % following + b"".join(entries)
 
 
-R1 = request()
-FIRST = entry(R1, signed(1, b"r1"))
+REQUEST = request()
+FIRST = entry(REQUEST, signed(1, b"r1"))
 EMPTY, ONE = ledger(1), ledger(2, FIRST)
 
 
@@ -79,16 +79,18 @@ def replies():
     yield answered("no request", b"", EMPTY, [], env={})
     yield answered("empty lines", b"\n\r\n\n", EMPTY, [], env={})
     other = request(before=5)
-    yield answered("a request, again, and another of its id", R1 + R1 + other, ONE, [b"issued r1 1", b"again r1 1", b"conflict r1 1"])
-    yield answered("a second run", R1 + other, ONE, [b"again r1 1", b"conflict r1 1"], ONE)
-    yield answered("again, without a signature", R1 + other, ONE, [b"again r1 1", b"conflict r1 1"], ONE, env=given(2, None))
+    yield answered("a request, again, and another of its id", REQUEST + REQUEST + other, ONE,
+                   [b"issued r1 1", b"again r1 1", b"conflict r1 1"])
+    yield answered("a second run", REQUEST + other, ONE, [b"again r1 1", b"conflict r1 1"], ONE)
+    yield answered("again, without a signature", REQUEST + other, ONE, [b"again r1 1", b"conflict r1 1"], ONE, env=given(2, None))
     yield answered("times in the wrong order", request(b"r2", after=5), ONE, [b"refused r2 InvalidTime"], ONE)
     yield answered("a subject of P-521", request(b"r2", key=line(b"k", P521, OF_P521, b"")), EMPTY,
                    [b"refused r2 UnsupportedCertificateKeyType"])
-    yield answered("an issuer that is a security key", R1 + request(b"r2", after=1), EMPTY,
+    yield answered("an issuer that is a security key", REQUEST + request(b"r2", after=1), EMPTY,
                    [b"refused r1 IncorrectSignatureAlgorithm", b"refused r2 InvalidTime"], issuer=line(b"ca", SK_ED25519, DEVICE))
     full, nearly = ledger(LAST, FIRST), ledger(LAST - 1, FIRST)
-    yield answered("no serial left", R1 + request(b"r2") + request(b"r3", after=1), full, [b"again r1 1", b"full r2", b"full r3"], full)
+    yield answered("no serial left", REQUEST + request(b"r2") + request(b"r3", after=1), full,
+                   [b"again r1 1", b"full r2", b"full r3"], full)
     yield answered("one serial left", request(b"r2") + request(b"r3"),
                    ledger(LAST, FIRST, entry(request(b"r2"), signed(LAST - 1, b"r2"))), [b"issued r2 %d" % (LAST - 1), b"full r3"], nearly)
     yield answered("a serial that was left out", request(b"r2"), ledger(10, FIRST, entry(request(b"r2"), signed(9, b"r2"))),
@@ -107,7 +109,7 @@ def replies():
     }
     for name, text in bad.items():
         yield answered(f"bad: {name}", text, EMPTY, [b"bad"])
-        yield answered(f"bad: {name}, and then a good one", text + R1, ONE, [b"bad", b"issued r1 1"])
+        yield answered(f"bad: {name}, and then a good one", text + REQUEST, ONE, [b"bad", b"issued r1 1"])
         yield answered(f"bad: {name}, without a signature", text, ONE, [b"bad"], ONE, env=given(1, None))
 
 
@@ -120,18 +122,18 @@ def certificates():
     message = signed(1, b"h", names=(b"a.example.org", b"b.example.org"), before=LAST)
     yield answered("a host's", host, ledger(2, entry(host, message)), [b"issued h 1"])
     for name, form, blob in ((RSA, b"rsa-sha2-512", OF_RSA), (CURVE, CURVE, OF_CURVE), (P521, P521, OF_P521), (ED25519, ED25519, OTHER)):
-        after = ledger(2, entry(R1, signed(1, b"r1", issuer=blob), form, b"signature"))
-        yield answered(f"by {name.decode()}", R1, after, [b"issued r1 1"], issuer=line(b"ca", name, blob), env=given(1, b"signature"))
+        after = ledger(2, entry(REQUEST, signed(1, b"r1", issuer=blob), form, b"signature"))
+        yield answered(f"by {name.decode()}", REQUEST, after, [b"issued r1 1"], issuer=line(b"ca", name, blob), env=given(1, b"signature"))
     for name, blob, cert_type in ((RSA, OF_RSA, b"ssh-rsa-cert-v01@openssh.com"), (CURVE, OF_CURVE, CURVE + b"-cert-v01@openssh.com"),
                                   (SK_ED25519, DEVICE, b"sk-ssh-ed25519-cert-v01@openssh.com")):
         asked = request(b"s", key=line(b"host", name, blob, b""))
         after = ledger(2, entry(asked, signed(1, b"s", subject=blob, cert_type=cert_type), cert_type=cert_type))
         yield answered(f"of {name.decode()}", asked, after, [b"issued s 1"])
     for nonce in (b"\1", b"\xff"):
-        after = ledger(2, entry(R1, signed(1, b"r1", nonce=nonce * 32)))
-        yield answered(f"fresh bytes {nonce!r}", R1, after, [b"issued r1 1"], env=given(1, nonce=nonce))
+        after = ledger(2, entry(REQUEST, signed(1, b"r1", nonce=nonce * 32)))
+        yield answered(f"fresh bytes {nonce!r}", REQUEST, after, [b"issued r1 1"], env=given(1, nonce=nonce))
     # The second request takes the second 32 fresh bytes, whatever became of the first.
-    for name, text, reply, first in (("a bad line", b"x\n", b"bad", EMPTY), ("one that is kept", R1, b"again r1 1", ONE)):
+    for name, text, reply, first in (("a bad line", b"x\n", b"bad", EMPTY), ("one that is kept", REQUEST, b"again r1 1", ONE)):
         env = {**given(0), "KEYCONV_FRESH": "aa" * 32 + "bb" * 40}
         serial = 2 if first == ONE else 1
         made = entry(request(b"r2"), signed(serial, b"r2", nonce=b"\xbb" * 32))
@@ -143,28 +145,29 @@ def certificates():
         yield answered(f"a comment {what}", asked, ledger(2, entry(asked, signed(1, b"r1"), comment=kept)), [b"issued r1 1"])
     asked = request(key=line(b"k", end=b"")[:-2])
     yield answered("a key without a comment", asked, ledger(2, entry(asked, signed(1, b"r1"), comment=b"")), [b"issued r1 1"])
-    yield answered("lines that end in CR LF", R1.replace(b"\n", b"\r\n"), ONE, [b"issued r1 1"])
-    yield answered("a last line without its end", R1[:-1], ONE, [b"issued r1 1"])
-    yield answered("hex in upper case", R1, ledger(2, entry(R1, signed(1, b"r1", nonce=b"\xab" * 32), signature=b"\xcd" * 64)),
+    yield answered("lines that end in CR LF", REQUEST.replace(b"\n", b"\r\n"), ONE, [b"issued r1 1"])
+    yield answered("a last line without its end", REQUEST[:-1], ONE, [b"issued r1 1"])
+    yield answered("hex in upper case", REQUEST, ledger(2, entry(REQUEST, signed(1, b"r1", nonce=b"\xab" * 32), signature=b"\xcd" * 64)),
                    [b"issued r1 1"], env={"KEYCONV_FRESH": "AB" * 32, "KEYCONV_SIGNATURE": "CD" * 64})
-    yield answered("an empty signature", R1, ledger(2, entry(R1, signed(1, b"r1"), signature=b"")), [b"issued r1 1"], env=given(1, b""))
+    yield answered("an empty signature", REQUEST, ledger(2, entry(REQUEST, signed(1, b"r1"), signature=b"")), [b"issued r1 1"],
+                   env=given(1, b""))
     for words in (("issue",), (b"\xff",), ("--help", "me"), ("", "")):
-        yield answered(f"words {words}, which are ignored", R1, ONE, [b"issued r1 1"], words=words)
+        yield answered(f"words {words}, which are ignored", REQUEST, ONE, [b"issued r1 1"], words=words)
 
 
 def inputs():
     """What is no input, no ledger and no issuer, in this order; and then too few fresh bytes."""
     for name, text in (("nothing", b""), ("a ledger", ONE), ("one line %%", ONE + MARK + CA),
-                       ("a mark with a space", ONE + MARK + CA + b"%% \n" + R1),
+                       ("a mark with a space", ONE + MARK + CA + b"%% \n" + REQUEST),
                        ("a mark with CR alone", ONE + MARK + CA + b"%%\r"), ("no line of its own", ONE + MARK + CA[:-1] + MARK)):
         yield refused(f"bad input: {name}", text, BAD_INPUT)
     yield Case("two marks alone", (), MARK * 2, b"", BAD_LEDGER)
     yield answered("marks that end in CR LF", b"", ONE, [], ONE[:-1] + b"\n", env={})
-    text = ONE + b"%%\r\n" + CA + b"%%\r\n" + R1
+    text = ONE + b"%%\r\n" + CA + b"%%\r\n" + REQUEST
     yield Case("marks that end in CR LF, and a request", (), text, ONE + MARK + b"again r1 1\n", DONE, given(1), taken=len(text))
     text = ONE + MARK + CA + b"%%"
     yield Case("a mark at the end", (), text, ONE + MARK, DONE, {}, taken=len(text))
-    yield answered("a third mark", MARK + R1, ledger(2, entry(R1, signed(1, b"r1"))), [b"bad", b"issued r1 1"])
+    yield answered("a third mark", MARK + REQUEST, ledger(2, entry(REQUEST, signed(1, b"r1"))), [b"bad", b"issued r1 1"])
     second = entry(request(b"r2"), signed(2, b"r2"))
     ledgers = {
         "nothing": b"", "an empty line": b"\n", "next 0": b"next 0\n", "2^64": b"next %d\n" % 2**64, "a needless zero": b"next 01\n",
@@ -172,46 +175,46 @@ def inputs():
         "an empty line behind": ONE + b"\n", "CR LF behind an entry": ONE[:-1] + b"\r\n",
         "a serial that isn't below next": ledger(1, FIRST),
         "a serial twice": ledger(3, FIRST, entry(request(b"r2"), signed(1, b"r2"))), "serials that fall": ledger(3, second, FIRST),
-        "serial 0": ledger(3, entry(R1, signed(0, b"r1"))), "an id twice": ledger(3, FIRST, entry(R1, signed(2, b"r1"))),
+        "serial 0": ledger(3, entry(REQUEST, signed(0, b"r1"))), "an id twice": ledger(3, FIRST, entry(REQUEST, signed(2, b"r1"))),
         "another id": ledger(2, b"r2" + FIRST[2:]), "base64 with a pad": ledger(2, FIRST.replace(b" ssh-", b"= ssh-", 1)),
         "a request that is none": ledger(2, entry(b"r1 x\n", signed(1, b"r1"))), "a certificate that is cut": ledger(2, FIRST[:60] + b"\n"),
         "a public line for a certificate": ledger(2, b" ".join(FIRST.split(b" ")[:2]) + b" " + LINE),
         "white space behind a comment": ledger(2, FIRST[:-1] + b" \n"), "no comment": ledger(2, FIRST.replace(b" host\n", b"\n")),
-        "bytes behind a signature": ledger(2, entry(R1, signed(1, b"r1"), tail=b"\0")),
+        "bytes behind a signature": ledger(2, entry(REQUEST, signed(1, b"r1"), tail=b"\0")),
         "two spaces in an entry": ledger(2, FIRST.replace(b" ", b"  ", 1)),
         "another type in front": ledger(2, FIRST.replace(CERT_TYPE, b"ssh-rsa-cert-v01@openssh.com")),
         "no certificate": ledger(2, b"r1 eA==\n"),
         "a comment line": b"# ledger\n" + ONE, "an unread second entry": ledger(3, FIRST, second[:-9] + b"\n"),
     }
     for name, text in ledgers.items():
-        yield refused(f"bad ledger: {name}", source(R1, text), BAD_LEDGER)
+        yield refused(f"bad ledger: {name}", source(REQUEST, text), BAD_LEDGER)
         yield refused(f"bad ledger: {name}, and nothing else is right", source(b"x", text, b"x\n"), BAD_LEDGER, {})
     kept = signed(7, b"none", USER, OTHER, OF_RSA, (b"", b"a,b"), 9, 0)
-    odd = ledger(9, entry(R1, kept, b"ssh-rsa", b"", b""))
-    yield answered("a kept certificate that the request doesn't ask for", R1, odd, [b"again r1 7"], odd)
+    odd = ledger(9, entry(REQUEST, kept, b"ssh-rsa", b"", b""))
+    yield answered("a kept certificate that the request doesn't ask for", REQUEST, odd, [b"again r1 7"], odd)
     issuers = {"nothing": b"", "an empty line in front": b"\n" + CA, "a space in front": b" " + CA, "a private key": ZERO,
                "another one": KEY, "PuTTY's public key": putty_public(BLOB, b"k"),
                "a key of DSA": line(b"k", b"ssh-dss", string(b"ssh-dss")), "options": b"no-pty " + CA,
                "a certificate": FIRST.split(b" ", 2)[2], "a blob that is cut": line(b"k", blob=BLOB[:-1]),
                "no base64": b"ssh-ed25519 ? k\n"}
     for name, text in issuers.items():
-        yield refused(f"bad issuer: {name}", source(R1, ONE, text), BAD_ISSUER)
-        yield refused(f"bad issuer: {name}, and no fresh bytes", source(R1, ONE, text), BAD_ISSUER, {})
-    yield answered("lines behind the issuer's", R1, ONE, [b"issued r1 1"], issuer=CA + b"more\nlines\n")
-    for name, requests, count in (("a request", R1, 31), ("two", R1 + request(b"r2"), 63), ("a bad one", b"x\n", 31),
-                                  ("one that is kept", R1, 0), ("two and an empty line", R1 + b"\n" + R1, 63)):
+        yield refused(f"bad issuer: {name}", source(REQUEST, ONE, text), BAD_ISSUER)
+        yield refused(f"bad issuer: {name}, and no fresh bytes", source(REQUEST, ONE, text), BAD_ISSUER, {})
+    yield answered("lines behind the issuer's", REQUEST, ONE, [b"issued r1 1"], issuer=CA + b"more\nlines\n")
+    for name, requests, count in (("a request", REQUEST, 31), ("two", REQUEST + request(b"r2"), 63), ("a bad one", b"x\n", 31),
+                                  ("one that is kept", REQUEST, 0), ("two and an empty line", REQUEST + b"\n" + REQUEST, 63)):
         for env in ({"KEYCONV_FRESH": "00" * count}, {"KEYCONV_FRESH": "00" * count, "KEYCONV_SIGNATURE": "00" * 64}):
             yield refused(f"{count} fresh bytes for {name}", source(requests, ONE), SHORT, env)
-    yield refused("no fresh bytes", source(R1, ONE), SHORT, {})
+    yield refused("no fresh bytes", source(REQUEST, ONE), SHORT, {})
 
 
 def not_hex():
     for name in ("KEYCONV_FRESH", "KEYCONV_SIGNATURE"):
         for value in ("0", "0g", "00 ", " 00", "0x00", "00\n", b"\xff", "-", "\u0660\u0660"):
-            for text in (source(R1), b"x", FOLDER, CLOSED):
+            for text in (source(REQUEST), b"x", FOLDER, CLOSED):
                 taken = 0 if isinstance(text, bytes) else None
                 yield Case(f"{name} {value!r}, {text[:9]!r}", (), text, b"", NOT_HEX, {**given(1), name: value}, taken=taken)
-            yield Case(f"{name} {value!r}, a word", ("issue",), source(R1), b"", NOT_HEX, {**given(1), name: value}, taken=0)
+            yield Case(f"{name} {value!r}, a word", ("issue",), source(REQUEST), b"", NOT_HEX, {**given(1), name: value}, taken=0)
 
 
 def read_faults():
@@ -222,32 +225,32 @@ def read_faults():
 
 def write_faults():
     many = b"".join(request(b"r%d" % number) for number in range(900))
-    runs = (("no request", source(), {}), ("a request", source(R1), given(1)), ("many", source(many), given(900)))
+    runs = (("no request", source(), {}), ("a request", source(REQUEST), given(1)), ("many", source(many), given(900)))
     for to in (FULL, CLOSED, UNREAD):
         for name, text, env in runs:
             yield Case(f"{name} to {to}", (), text, None, WRITE_FAULT, env, to=to, taken=len(text))
         for word in ("--help", "--version"):
-            yield Case(f"{word} to {to}", (word,), source(R1), None, WRITE_FAULT, to=to, taken=0)
+            yield Case(f"{word} to {to}", (word,), source(REQUEST), None, WRITE_FAULT, to=to, taken=0)
         # Where nothing is to be written, the stream isn't asked.
-        for name, text, end, env in (("bad input", b"x", BAD_INPUT, {}), ("a bad ledger", source(R1, b"x\n"), BAD_LEDGER, given(1)),
-                                     ("a bad issuer", source(R1, ONE, b"x\n"), BAD_ISSUER, given(1)),
-                                     ("no fresh bytes", source(R1), SHORT, {}),
-                                     ("no signature", source(R1), OUTSIDE_FAULT, given(1, None)),
+        for name, text, end, env in (("bad input", b"x", BAD_INPUT, {}), ("a bad ledger", source(REQUEST, b"x\n"), BAD_LEDGER, given(1)),
+                                     ("a bad issuer", source(REQUEST, ONE, b"x\n"), BAD_ISSUER, given(1)),
+                                     ("no fresh bytes", source(REQUEST), SHORT, {}),
+                                     ("no signature", source(REQUEST), OUTSIDE_FAULT, given(1, None)),
                                      ("no hex", b"", NOT_HEX, {"KEYCONV_FRESH": "0"})):
             yield Case(f"{name} beside {to}", (), text, None, end, env, to=to)
     yield Case(f"many to {LEFT}", (), runs[2][1], None, WRITE_FAULT, runs[2][2], to=LEFT)
 
 
 def outside_faults():
-    for name, requests, first in (("a request", R1, EMPTY), ("one behind others", b"x\n" + R1 + request(b"r2", after=1) + request(b"r3"),
-                                                             ONE),
-                                  ("one before others", request(b"r2") + R1 + b"x\n", ONE)):
+    behind = b"x\n" + REQUEST + request(b"r2", after=1) + request(b"r3")
+    for name, requests, first in (("a request", REQUEST, EMPTY), ("one behind others", behind, ONE),
+                                  ("one before others", request(b"r2") + REQUEST + b"x\n", ONE)):
         yield refused(f"{name}, and no signature", source(requests, first), OUTSIDE_FAULT, given(5, None))
 
 
 def limits():
     # What stands behind the issuer's line fills what is left.
-    front, back = ONE + MARK + CA, b"\n" + MARK + R1
+    front, back = ONE + MARK + CA, b"\n" + MARK + REQUEST
     full = front + b"x" * (LIMIT - len(front + back)) + back
     assert len(full) == LIMIT
     yield Case("16,777,216 bytes", (), full, ONE + MARK + b"again r1 1\n", DONE, given(1), taken=LIMIT)
@@ -255,14 +258,15 @@ def limits():
     yield Case("more bytes", (), full + b"x" * 9999, b"", TOO_LONG, given(1), taken=LIMIT + 1)
     yield Case("too many bytes that aren't UTF-8", (), b"\xff" * (LIMIT + 1), b"", TOO_LONG)
     yield Case("16,777,216 bytes, in as many bytes of memory", (), full, b"", NO_MEMORY, given(1), memory=LIMIT)
-    for name, text in (("a byte that is no UTF-8", source(R1) + b"\xff\n"), ("UTF-16", source(R1).decode().encode("utf-16")),
+    for name, text in (("a byte that is no UTF-8", source(REQUEST) + b"\xff\n"), ("UTF-16", source(REQUEST).decode().encode("utf-16")),
                        ("what is no UTF-8 before what is refused", b"\xc3\n" + MARK + b"x"),
                        ("a surrogate", source(request(b"\xed\xa0\x80")))):
         yield refused(name, text, NOT_UTF8)
     entries = [entry(request(b"r%d" % at), signed(at, b"r%d" % at)) for at in range(1, 10_001)]
     many = ledger(10_001, *entries)
     yield answered("10,000 entries", request(b"r10000") + request(b"r1", before=9), many, [b"again r10000 10000", b"conflict r1 1"], many)
-    yield refused("10,000 entries, and the first again", source(R1, many.replace(b"next 10001", b"next 10002") + entries[0]), BAD_LEDGER)
+    yield refused("10,000 entries, and the first again", source(REQUEST, many.replace(b"next 10001", b"next 10002") + entries[0]),
+                  BAD_LEDGER)
 
 
 def texts():
@@ -274,15 +278,15 @@ def texts():
                 "--version": rb"keyledger [0-9]+\.[0-9]+\.[0-9]+\n"}
     for word, pattern in patterns.items():
         text = re.compile(pattern, re.DOTALL)
-        yield Case(word, (word,), source(R1), text, taken=0)
+        yield Case(word, (word,), source(REQUEST), text, taken=0)
         for name in ("KEYCONV_FRESH", "KEYCONV_SIGNATURE"):
-            yield Case(f"{word}, a variable {name} that isn't read", (word,), source(R1), text, env={name: b"\xff"}, taken=0)
+            yield Case(f"{word}, a variable {name} that isn't read", (word,), source(REQUEST), text, env={name: b"\xff"}, taken=0)
         yield Case(f"{word} on a folder", (word,), FOLDER, text)
         yield Case(f"{word} on a closed standard input", (word,), CLOSED, text)
         for err in (FULL, CLOSED):
-            yield Case(f"{word}, standard error {err}", (word,), source(R1), text, err=err)
+            yield Case(f"{word}, standard error {err}", (word,), source(REQUEST), text, err=err)
     for name in ("KEYCONV", "KEYCONV_FRESH_", "KEYPOLICY_VERIFIED", "KEYCONV_PASS_IN", "KEYCONV_PASS_OUT", "LANG"):
-        yield answered(f"a variable {name} that isn't UTF-8", R1, ONE, [b"issued r1 1"], env={**given(1), name: b"\xff"})
+        yield answered(f"a variable {name} that isn't UTF-8", REQUEST, ONE, [b"issued r1 1"], env={**given(1), name: b"\xff"})
 
 
 def all_cases():
