@@ -7,12 +7,9 @@ ghost use Rattle.picky_authorized.specs.Entries.{entries_in, keys_in, AreFit};
 use crate::content::{content_of, strip_blanks};
 use crate::entry::AuthEntry;
 use picky_text::LineReader;
-use picky_wire::{List, NoMemory};
+use picky_wire::{List, MAX_LEN, NoMemory};
 use std::alloc::Global;
 use thiserror::Error;
-
-/// How many bytes a length of the wire can't say.
-const TOO_MANY: usize = 1 << 32;
 
 /// Why a text has no entries.
 #[derive(Debug, Drop, PartialEq, Eq, Error)]
@@ -35,7 +32,7 @@ pub fn read_keys(alloc: Global, text: &str) -> Result<List<AuthEntry>, PolicyErr
     // What deciding over them asks for.
     ensures fit { IfOk result AreFit }
 {
-    if text.len() >= TOO_MANY {
+    if text.len() > MAX_LEN {
         return Err(PolicyError::TooLong);
     }
     match entries_of(alloc, text) {

@@ -12,12 +12,9 @@ use crate::error::BlockError;
 use crate::tail::{Tail, kept};
 use base64::DecodeAllocError;
 use base64::engine::general_purpose::STANDARD;
-use picky_wire::{Bytes, NoMemory};
+use picky_wire::{Bytes, MAX_LEN, NoMemory};
 use std::alloc::{AllocError, Global};
 use std::marker::Model;
-
-/// How many bytes a length of the wire can't say.
-const TOO_MANY: usize = 1 << 32;
 
 /// The lines so far: the bytes that their groups of four decode to, and up to three characters behind those. Contracts
 /// see it as the text of the lines.
@@ -186,7 +183,7 @@ fn judge_rest(bytes_len: usize, rest: &[u8]) -> Result<Tail, BlockError>
     if bytes_len % 3 != 0 && !rest.is_empty() {
         return Err(BlockError::BadBase64);
     }
-    if bytes_len >= TOO_MANY {
+    if bytes_len > MAX_LEN {
         return Err(BlockError::TooLong);
     }
     Ok(kept(rest))

@@ -15,12 +15,12 @@ ghost use Rattle.picky_cert.specs.Keeps.{IsCertificate, IsWellFormed};
 ghost use Rattle.picky_cert.specs.declared.certificate.SshCertificate.{SshCertificate as Certificate};
 
 use crate::certificate::SshCertificate;
-use crate::lists::{TOO_MANY, block_of};
+use crate::lists::block_of;
 use crate::ranges::certificate_keeps_its_ranges;
 use picky_cert_blob::fits_subject;
 use picky_cert_parts::SshCertificateError;
 use picky_sshpub::{SshBasePublicKey, bytes_of, pieces_behind};
-use picky_wire::{Bytes, NoMemory, Piece, SizeError, push_pieces};
+use picky_wire::{Bytes, MAX_LEN, NoMemory, Piece, SizeError, push_pieces};
 use std::alloc::{AllocError, Global};
 
 impl SshCertificate {
@@ -82,7 +82,7 @@ pub fn signed_vec(alloc: Global, certificate: &SshCertificate) -> Result<Vec<u8>
         Ok(()) => {}
         Err(e) => return Err(e),
     }
-    if bytes.len() >= TOO_MANY {
+    if bytes.len() > MAX_LEN {
         return Err(SizeError::TooLong);
     }
     Ok(bytes)
@@ -201,7 +201,7 @@ fn issuer_vec(alloc: Global, key: &SshBasePublicKey) -> Result<Vec<u8>, SizeErro
 {
     match bytes_of(alloc, key) {
         Ok(blob) => {
-            if blob.len() >= TOO_MANY {
+            if blob.len() > MAX_LEN {
                 return Err(SizeError::TooLong);
             }
             Ok(blob)

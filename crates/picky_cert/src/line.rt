@@ -21,12 +21,9 @@ use crate::view::certificate_at;
 use picky_cert_parts::{SshCertKeyType, SshCertificateError};
 use picky_sshpub::{SshBasePublicKey, SshPublicKey};
 use picky_text::{Base64Error, decode, rest_of_line, rest_of_text, split_word};
-use picky_wire::{NoMemory, Text};
+use picky_wire::{MAX_LEN, NoMemory, Text};
 use std::alloc::Global;
 use std::str;
-
-/// How many bytes a length of the wire can't say.
-const TOO_MANY: usize = 1 << 32;
 
 impl SshCertificate {
     /// The certificate and the comment of one line. The signature isn't verified.
@@ -75,7 +72,7 @@ fn subject_of_words(
         Ok(_) => {}
         Err(e) => return Err(e),
     }
-    if body.len() >= TOO_MANY || comment.len() >= TOO_MANY {
+    if body.len() > MAX_LEN || comment.len() > MAX_LEN {
         return Err(SshCertificateError::TooLong);
     }
     match subject_of_body(alloc, body) {
@@ -159,7 +156,7 @@ fn certificate_of_words(
         Ok(_) => {}
         Err(e) => return Err(e),
     }
-    if body.len() >= TOO_MANY || is_too_long(comment) {
+    if body.len() > MAX_LEN || is_too_long(comment) {
         return Err(SshCertificateError::TooLong);
     }
     // `drop` is one call, where a certificate at the end of its scope is dropped field by field.
@@ -206,7 +203,7 @@ fn is_too_long(text: Option<&str>) -> bool
     ensures { result ≡ not (is_short_text (option_copied text.entry)) }
 {
     match text {
-        Some(text) => text.len() >= TOO_MANY,
+        Some(text) => text.len() > MAX_LEN,
         None => false,
     }
 }

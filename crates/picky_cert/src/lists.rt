@@ -7,11 +7,8 @@ ghost use Rattle.picky_cert_parts.specs.CriticalOption.{option_of};
 ghost use Rattle.picky_cert_parts.specs.Extension.{extension_of};
 
 use picky_cert_parts::{SshCriticalOption, SshExtension, extension_pieces, option_pieces};
-use picky_wire::{Piece, SizeError, Text, push_pieces};
+use picky_wire::{MAX_LEN, Piece, SizeError, Text, push_pieces};
 use std::alloc::{AllocError, Global};
-
-/// How many bytes a length of the wire can't say.
-pub const TOO_MANY: usize = 1 << 32;
 
 /// A value of a certificate's list.
 pub trait Listed {
@@ -62,7 +59,7 @@ pub fn block_of<T: Listed>(alloc: Global, items: &[T]) -> Result<Vec<u8>, SizeEr
             Err(_) => return Err(SizeError::NoMemory),
         }
     }
-    if block.len() >= TOO_MANY {
+    if block.len() > MAX_LEN {
         return Err(SizeError::TooLong);
     }
     Ok(block)

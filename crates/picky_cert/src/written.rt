@@ -10,13 +10,12 @@ ghost use Rattle.picky_cert.specs.Spelled.{blob_of, line_of};
 
 use crate::blob_bytes::signed_vec;
 use crate::certificate::SshCertificate;
-use crate::lists::TOO_MANY;
 use base64::engine::general_purpose::STANDARD;
 use picky_cert_blob::fits_subject;
 use picky_cert_parts::{
     SshCertificateError, SshSignature, SshSignatureError, signature_pieces, written_total,
 };
-use picky_wire::{IoKind, Sink, SizeError, Text, push_pieces, write_all};
+use picky_wire::{IoKind, MAX_LEN, Sink, SizeError, Text, push_pieces, write_all};
 use std::alloc::{AllocError, Global};
 
 impl SshCertificate {
@@ -37,7 +36,7 @@ impl SshCertificate {
         }
         match line_string(alloc, self) {
             Ok(line) => {
-                if line.len() >= TOO_MANY {
+                if line.len() > MAX_LEN {
                     return Err(SshCertificateError::TooLong);
                 }
                 Ok(Text::from_string(line))

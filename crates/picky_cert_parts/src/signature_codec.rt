@@ -13,8 +13,8 @@ use crate::fields::{byte_field, bytes_field, text_field, uint32_field};
 use crate::signature::{SshSignature, SshSignatureBlob};
 use picky_cert_names::{SshSignatureError, SshSignatureFormat};
 use picky_wire::{
-    Piece, Sink, Source, SshComplexTypeDecode, SshComplexTypeEncode, SshElement, SshLayout, Text,
-    WireError, pieces_len, write_pieces,
+    MAX_LEN, Piece, Sink, Source, SshComplexTypeDecode, SshComplexTypeEncode, SshElement,
+    SshLayout, Text, WireError, pieces_len, write_pieces,
 };
 use std::alloc::Global;
 
@@ -63,7 +63,7 @@ pub fn written_total(signature: &SshSignature) -> Result<u32, SshSignatureError>
         return Err(SshSignatureError::BlobMismatch);
     }
     let total = total_len(signature);
-    if total >= 1 << 32 {
+    if total > MAX_LEN as u64 {
         return Err(SshSignatureError::TooLong);
     }
     Ok(total as u32)

@@ -16,14 +16,11 @@ use picky_cert_builder::{
 };
 use picky_key_text::Meaning;
 use picky_target::{ConvertError, KeyTarget, carries_comment};
-use picky_wire::{Bytes, NoMemory};
+use picky_wire::{Bytes, MAX_LEN, NoMemory};
 use std::alloc::Global;
 
 /// How many fresh bytes a nonce takes.
 const NONCE_LEN: usize = 32;
-
-/// How many bytes a length of the wire can't say.
-const TOO_MANY: usize = 1 << 32;
 
 /// The bytes that a device signs of the certificate that is asked for a key and a comment, with the first 32 fresh bytes as
 /// its nonce (OpenSSH's PROTOCOL.certkeys).
@@ -70,7 +67,7 @@ pub fn draft_line(
 {
     match draft(alloc, request, meaning, fresh) {
         Ok(draft) => {
-            if unsigned_line_len(&draft) >= TOO_MANY {
+            if unsigned_line_len(&draft) > MAX_LEN {
                 drop(draft);
                 return Err(ConvertError::TooLong);
             }

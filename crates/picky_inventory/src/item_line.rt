@@ -6,11 +6,8 @@ ghost use Rattle.std.specs.Str.{is_utf8 as is_utf8_bytes};
 
 use picky_sshpub::{SshBasePublicKey, SshPublicKeyError, bytes_of};
 use picky_text::{Base64Error, decode};
-use picky_wire::NoMemory;
+use picky_wire::{MAX_LEN, NoMemory};
 use std::alloc::Global;
-
-/// How many bytes a length of the wire can't say.
-const TOO_MANY: usize = 1 << 32;
 
 /// Whether a line is an item's: `private` or `public`, the base64 of a canonical public blob and that of a text, parted by
 /// single spaces, and LF. A blob is canonical where the key that is read of it has just this blob. Refuses: `NoMemory`.
@@ -108,7 +105,7 @@ fn says_text(alloc: Global, word: &str) -> Result<bool, NoMemory>
 fn is_text(bytes: &[u8]) -> bool
     ensures { result ≡ is_text_of bytes.now }
 {
-    bytes.len() < TOO_MANY && is_utf8(bytes)
+    bytes.len() <= MAX_LEN && is_utf8(bytes)
 }
 
 /// The bytes are UTF-8.

@@ -3,13 +3,13 @@
 ghost use Rattle.std.specs.Prelude.{string_bytes};
 ghost use Rattle.picky_kv_words.specs.Field.{IsSpelling};
 
-use picky_wire::{SizeError, Text};
+use picky_wire::{MAX_LEN, SizeError, Text};
 
 /// The string as a text. Refuses, in order: `TooLong`, where it has 2^32 bytes or more.
 pub fn text_within(string: String) -> Result<Text, SizeError>
     ensures { IsSpelling result (string_bytes string) }
 {
-    if string.len() < 1 << 32 {
+    if string.len() <= MAX_LEN {
         Ok(Text::from_string(string))
     } else {
         Err(SizeError::TooLong)

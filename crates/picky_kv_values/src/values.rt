@@ -14,7 +14,7 @@ use crate::spelling::text_within;
 use hex::FromHexError;
 use picky_kv_words::{PpkField, PpkValueError, refused};
 use picky_text::Base64Error;
-use picky_wire::{Bytes, NoMemory, SizeError, Text, TryClone};
+use picky_wire::{Bytes, MAX_LEN, NoMemory, SizeError, Text, TryClone};
 use std::alloc::Global;
 use std::marker::Model;
 
@@ -94,7 +94,7 @@ impl PpkField for Base64PpkValue {
     fn read(alloc: Global, text: &str) -> Result<Base64PpkValue, PpkValueError> {
         match picky_text::decode(alloc, text.as_bytes()) {
             Ok(bytes) => {
-                if bytes.len() < 1 << 32 {
+                if bytes.len() <= MAX_LEN {
                     Ok(Base64PpkValue {
                         bytes: Bytes::from_vec(bytes),
                     })
@@ -167,7 +167,7 @@ impl PpkField for HexPpkValue {
     fn read(alloc: Global, text: &str) -> Result<HexPpkValue, PpkValueError> {
         match hex::decode(alloc, text) {
             Ok(bytes) => {
-                if bytes.len() < 1 << 32 {
+                if bytes.len() <= MAX_LEN {
                     Ok(HexPpkValue {
                         bytes: Bytes::from_vec(bytes),
                     })

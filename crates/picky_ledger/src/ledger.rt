@@ -8,13 +8,10 @@ ghost use Rattle.picky_ledger.specs.State.{IsLedger, State};
 use crate::entry::Entry;
 use crate::entry_line::push_entry;
 use crate::reading::ledger_of;
-use picky_wire::{List, NoMemory, SizeError, Text};
+use picky_wire::{List, MAX_LEN, NoMemory, SizeError, Text};
 use std::alloc::Global;
 use std::marker::Model;
 use thiserror::Error;
-
-/// How many bytes a length of the wire can't say.
-const TOO_MANY: usize = 1 << 32;
 
 /// Why a text is no ledger's.
 #[derive(Debug, Drop, PartialEq, Eq, Error)]
@@ -54,7 +51,7 @@ impl Ledger {
     pub fn from_str(alloc: Global, text: &str) -> Result<Ledger, LedgerTextError>
         ensures { Gives LedgerTextError.NoMemory (λ ledger. ledger) result (read text.now) }
     {
-        if text.len() >= TOO_MANY {
+        if text.len() > MAX_LEN {
             return Err(LedgerTextError::TooLong);
         }
         ledger_of(alloc, text)
@@ -66,7 +63,7 @@ impl Ledger {
     {
         match self.text(alloc) {
             Ok(text) => {
-                if text.len() >= TOO_MANY {
+                if text.len() > MAX_LEN {
                     return Err(SizeError::TooLong);
                 }
                 Ok(Text::from_string(text))

@@ -4,7 +4,7 @@ ghost use Rattle.std.specs.Prelude.{◌≡◌, ◌^◌, ◌≤◌, [], List, ℕ
 ghost use Rattle.hex.specs.Hex.{decode_of};
 
 use hex::FromHexError;
-use picky_wire::{Bytes, SizeError, Text};
+use picky_wire::{Bytes, MAX_LEN, SizeError, Text};
 use std::alloc::Global;
 use std::env;
 use std::env::VarError;
@@ -44,7 +44,7 @@ pub fn words(rt: &(impl Env + AllocGlobal)) -> Result<Vec<Text>, GivenError> {
 /// The value of a variable of the environment, where it has one. Refuses: `Unfit`.
 pub fn variable(rt: &(impl Env + AllocGlobal), name: &str) -> Result<Option<Text>, GivenError> {
     match env::var(rt, name) {
-        Ok(value) if value.len() >= 1 << 32 => Err(GivenError::Unfit),
+        Ok(value) if value.len() > MAX_LEN => Err(GivenError::Unfit),
         Ok(value) => Ok(Some(Text::from_string(value))),
         Err(VarError::NotPresent) => Ok(None),
         Err(VarError::NotUnicode) => Err(GivenError::Unfit),
@@ -73,7 +73,7 @@ pub fn bytes_of_hex(alloc: Global, digits: &str) -> Result<Bytes, GivenError>
     ensures unfit { IsErrOf result GivenError.Unfit → (bytes : List ℕ) → decode_of digits.now ≡ Ok bytes → 2 ^ 32 ≤ length bytes }
 {
     match hex::decode(alloc, digits) {
-        Ok(bytes) if bytes.len() >= 1 << 32 => Err(GivenError::Unfit),
+        Ok(bytes) if bytes.len() > MAX_LEN => Err(GivenError::Unfit),
         Ok(bytes) => Ok(Bytes::from_vec(bytes)),
         Err(FromHexError::OutOfMemory) => Err(GivenError::NoMemory),
         Err(FromHexError::OddLength)

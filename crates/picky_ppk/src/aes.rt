@@ -5,11 +5,8 @@ ghost use Rattle.picky_wire.specs.Gives.{Gives};
 ghost use Rattle.picky_ppk.specs.Fresh.{padded_fresh};
 
 pub use picky_ppk_parts::aes::{BLOCK_SIZE, KEY_SIZE, decrypt, encrypt};
-use picky_wire::{Bytes, SizeError};
+use picky_wire::{Bytes, MAX_LEN, SizeError};
 use rand_core::Rng;
-
-/// How many bytes a length of the wire can't say.
-const TOO_MANY: usize = 1 << 32;
 
 /// The message with what a generator gives behind it, up to whole blocks; the generator isn't asked where they are whole.
 ///
@@ -22,7 +19,7 @@ pub fn make_padding<R: Rng>(message: Bytes, rng: &mut R) -> Result<Bytes, SizeEr
 {
     let mut bytes = message.into_vec();
     let len = lacking_len(bytes.len());
-    if bytes.len() + len >= TOO_MANY {
+    if bytes.len() + len > MAX_LEN {
         return Err(SizeError::TooLong);
     }
     if len == 0 {

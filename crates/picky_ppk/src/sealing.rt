@@ -21,12 +21,9 @@ use picky_ppk_file::PpkFile;
 use picky_ppk_parts::aes::encrypt;
 use picky_ppk_parts::{PpkEncryptionConfig, PpkVersion, PuttyError};
 use picky_suite::{Suite, argon2_ok};
-use picky_wire::{Bytes, NoMemory};
+use picky_wire::{Bytes, MAX_LEN, NoMemory};
 use rand_core::Rng;
 use std::alloc::Global;
-
-/// How many bytes a length of the wire can't say.
-const TOO_MANY: usize = 1 << 32;
 
 impl Ppk {
     /// The file sealed under a passphrase, by AES-256-CBC: in version 3 under keys of Argon2 with the configuration and the
@@ -136,7 +133,7 @@ fn sealable(
 {
     match drawable(file, passphrase, config) {
         Ok(()) => {
-            if file.private_bytes.as_slice().len() + padding.len() >= TOO_MANY {
+            if file.private_bytes.as_slice().len() + padding.len() > MAX_LEN {
                 return Err(PuttyError::TooLong);
             }
             Ok(())

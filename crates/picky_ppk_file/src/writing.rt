@@ -23,11 +23,8 @@ use picky_kv::literals::{
 };
 use picky_ppk_parts::{Argon2Params, PpkVersion, PuttyError};
 use picky_text::{LineEnd, encode, push_rows};
-use picky_wire::Text;
+use picky_wire::{MAX_LEN, Text};
 use std::alloc::{AllocError, Global};
-
-/// How many bytes a length of the wire can't say.
-const TOO_MANY: usize = 1 << 32;
 
 /// How many bytes 65,535 lines of 64 characters hold.
 const MAX_BLOCK_LEN: usize = 3145680;
@@ -53,7 +50,7 @@ impl PpkFile {
     {
         match text_string(alloc, self) {
             Ok(text) => {
-                if text.len() >= TOO_MANY {
+                if text.len() > MAX_LEN {
                     return Err(PuttyError::TooLong);
                 }
                 if !blocks_fit(self) {

@@ -14,11 +14,8 @@ use crate::names::PpkKeyAlgorithm;
 use crate::unsupported::no_hardware_keys;
 use picky_sshkey_blob::SshBasePrivateKey;
 use picky_sshpub::{SshBasePublicKey, SshPublicKeyError};
-use picky_wire::{Bytes, Mpint, NoMemory, Piece, TryClone};
+use picky_wire::{Bytes, MAX_LEN, Mpint, NoMemory, Piece, TryClone};
 use std::alloc::Global;
-
-/// How many bytes a length of the wire can't say.
-const TOO_MANY: usize = 1 << 32;
 
 /// An algorithm, a public blob, and private bytes that aren't sealed and have no padding.
 #[derive(Debug, Drop, PartialEq, Eq)]
@@ -84,7 +81,7 @@ fn parts_under(
     };
     match secret_bytes(alloc, key) {
         Ok(private) => {
-            if private.len() >= TOO_MANY {
+            if private.len() > MAX_LEN {
                 return Err(PuttyError::TooLong);
             }
             Ok(KeyParts {

@@ -9,15 +9,12 @@ use crate::error::PuttyError;
 use crate::joined::joined;
 use crate::names::PpkVersion;
 use picky_suite::Suite;
-use picky_wire::{NoMemory, Piece};
+use picky_wire::{MAX_LEN, NoMemory, Piece};
 use sha1::Sha1;
 use std::alloc::Global;
 
 /// What stands before the passphrase in the MAC key of version 2.
 const MAC_KEY_LABEL: &str = "putty-private-key-file-mac-key";
-
-/// How many bytes a length of the wire can't say.
-const TOO_MANY: usize = 1 << 32;
 
 /// How many bytes the MAC of a version 3 file has.
 pub const MAC_SIZE_V3: usize = 32;
@@ -79,11 +76,11 @@ pub fn mac_input(
     ensures { Gives PuttyError.NoMemory (λ input. input.items) result
         (input_bytes algorithm.now encryption.now comment.now public.now private.now) }
 {
-    if algorithm.len() >= TOO_MANY
-        || encryption.len() >= TOO_MANY
-        || comment.len() >= TOO_MANY
-        || public.len() >= TOO_MANY
-        || private.len() >= TOO_MANY
+    if algorithm.len() > MAX_LEN
+        || encryption.len() > MAX_LEN
+        || comment.len() > MAX_LEN
+        || public.len() > MAX_LEN
+        || private.len() > MAX_LEN
     {
         return Err(PuttyError::TooLong);
     }

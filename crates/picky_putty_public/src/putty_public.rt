@@ -15,7 +15,7 @@ use picky_sshpub::{SshBasePublicKey, SshPublicKey};
 use picky_text::{
     Base64Error, LineEnd, LineReader, decode, encode, push_quoted, push_rows, unquoted,
 };
-use picky_wire::{Bytes, NoMemory, SizeError, Text, TryClone};
+use picky_wire::{Bytes, MAX_LEN, NoMemory, SizeError, Text, TryClone};
 use std::alloc::{AllocError, Global};
 
 const HEADER: &str = "---- BEGIN SSH2 PUBLIC KEY ----";
@@ -23,9 +23,6 @@ const HEADER: &str = "---- BEGIN SSH2 PUBLIC KEY ----";
 const FOOTER: &str = "---- END SSH2 PUBLIC KEY ----";
 
 const COMMENT_KEY: &str = "Comment: ";
-
-/// How many bytes a length of the wire can't say.
-const TOO_MANY: usize = 1 << 32;
 
 /// A public key's blob and its comment.
 #[derive(Debug, Drop, PartialEq, Eq)]
@@ -79,7 +76,7 @@ impl PuttyPublicKey {
     {
         match text_string(alloc, self) {
             Ok(text) => {
-                if text.len() >= TOO_MANY {
+                if text.len() > MAX_LEN {
                     return Err(PuttyError::TooLong);
                 }
                 Ok(Text::from_string(text))
@@ -254,7 +251,7 @@ fn of_blob(alloc: Global, between: &str, blob: Vec<u8>) -> Result<PuttyPublicKey
 {
     match unquoted(alloc, between) {
         Ok(comment) => {
-            if blob.len() >= TOO_MANY || comment.len() >= TOO_MANY {
+            if blob.len() > MAX_LEN || comment.len() > MAX_LEN {
                 return Err(PuttyError::TooLong);
             }
             Ok(PuttyPublicKey {

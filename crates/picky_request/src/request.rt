@@ -11,11 +11,8 @@ use crate::words::{LineWords, words_of};
 use picky_cert_parts::SshCertType;
 use picky_issuing::{cert_type_of, number_of};
 use picky_sshpub::{SshPublicKey, SshPublicKeyError};
-use picky_wire::{List, NoMemory, Text, Timestamp};
+use picky_wire::{List, MAX_LEN, NoMemory, Text, Timestamp};
 use std::alloc::Global;
-
-/// How many bytes a length of the wire can't say.
-const TOO_MANY: usize = 1 << 32;
 
 /// What a line asks of a certificate authority.
 #[derive(Debug, Drop, PartialEq, Eq)]
@@ -42,7 +39,7 @@ impl CertRequestLine {
     pub fn from_str(alloc: Global, line: &str) -> Result<Option<CertRequestLine>, NoMemory>
         ensures { IfOk result (λ request. request ≡ request_in line.now) }
     {
-        if line.len() >= TOO_MANY {
+        if line.len() > MAX_LEN {
             return Ok(None);
         }
         match words_of(line) {

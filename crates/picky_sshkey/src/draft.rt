@@ -12,11 +12,8 @@ use crate::private_key::SshPrivateKey;
 use picky_sshkey_blob::{SshBasePrivateKey, SshPrivateKeyError, secret_pieces};
 use picky_sshpub::SshPublicKeyError;
 use picky_suite::bcrypt_ok;
-use picky_wire::{Bytes, NoMemory, Piece, push_pieces};
+use picky_wire::{Bytes, MAX_LEN, NoMemory, Piece, push_pieces};
 use std::alloc::{AllocError, Global};
-
-/// How many bytes a length of the wire can't say.
-pub const TOO_MANY: usize = 1 << 32;
 
 /// The padding of an aligned block, where it is sealed.
 const PADDING: [u8; 16] = [1, 2, 3, 4, 5, 6, 7, 8, 9, 10, 11, 12, 13, 14, 15, 16];
@@ -69,7 +66,7 @@ pub fn draft_of(alloc: Global, key: &SshPrivateKey) -> Result<Draft, SshPrivateK
         Err(_) => return Err(SshPrivateKeyError::NoMemory),
     };
     let len = envelope_len(key, outer.as_slice().len(), block.len());
-    if len >= TOO_MANY {
+    if len > MAX_LEN {
         return Err(SshPrivateKeyError::TooLong);
     }
     Ok(Draft { outer, block, len })

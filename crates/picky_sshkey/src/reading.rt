@@ -27,7 +27,7 @@ use crate::sealing::open;
 use picky_pem::{Pem, PemError, parse_pem};
 use picky_sshkey_blob::SshPrivateKeyError;
 use picky_suite::{Suite, bcrypt_ok};
-use picky_wire::{Failed, NoMemory};
+use picky_wire::{Failed, MAX_LEN, NoMemory};
 use std::alloc::Global;
 
 /// A cipher, and the passphrase that its key is derived from.
@@ -118,7 +118,7 @@ fn is_too_long(pass: Option<&str>) -> bool
     ensures { result ≡ not (is_short_text (option_copied pass.entry)) }
 {
     match pass {
-        Some(pass) => pass.len() >= 1 << 32,
+        Some(pass) => pass.len() > MAX_LEN,
         None => false,
     }
 }

@@ -21,14 +21,14 @@ ghost use Rattle.picky_sshkey.specs.Written.{may_derive as may_derive_of};
 ghost use Rattle.picky_sshkey.specs.inner.Draft.{IsDraft};
 
 use crate::cipher::Cipher;
-use crate::draft::{Draft, TOO_MANY, draft_of};
+use crate::draft::{Draft, draft_of};
 use crate::kdf::{BCRYPT, KdfOption, NONE, kdf_pieces};
 use crate::private_key::SshPrivateKey;
 use crate::sealing::open;
 use picky_pem::{Pem, pem_text, pem_text_len};
 use picky_sshkey_blob::SshPrivateKeyError;
 use picky_suite::Suite;
-use picky_wire::{Bytes, Failed, Piece, Sink, Text, push_pieces, write_all};
+use picky_wire::{Bytes, Failed, MAX_LEN, Piece, Sink, Text, push_pieces, write_all};
 use std::alloc::{AllocError, Global};
 
 /// What an envelope's bytes begin with.
@@ -137,7 +137,7 @@ fn text_of_key<S: Suite>(
 {
     match draft_of(alloc, key) {
         Ok(draft) => {
-            if pem_text_len(draft.len) >= TOO_MANY {
+            if pem_text_len(draft.len) > MAX_LEN {
                 drop(draft);
                 return Err(SshPrivateKeyError::TooLong);
             }

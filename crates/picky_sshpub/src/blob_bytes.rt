@@ -10,11 +10,8 @@ use crate::blob::pieces;
 use crate::error::SshPublicKeyError;
 use crate::key::SshBasePublicKey;
 use crate::view::PublicView;
-use picky_wire::{Bytes, NoMemory, SliceSource, SshComplexTypeDecode, push_pieces};
+use picky_wire::{Bytes, MAX_LEN, NoMemory, SliceSource, SshComplexTypeDecode, push_pieces};
 use std::alloc::Global;
-
-/// How many bytes a length of the wire can't say.
-const TOO_MANY: usize = 1 << 32;
 
 impl SshBasePublicKey {
     /// The key of a blob (RFC 4253, section 6.6). What follows the blob's last field says nothing.
@@ -25,7 +22,7 @@ impl SshBasePublicKey {
         ensures gives { Gives SshPublicKeyError.NoMemory (λ key. key) result (blob_key blob.now) }
         ensures no_fault { IfErr result (λ e. e ≢ SshPublicKeyError.IoError io_kinds.ReadFault) }
     {
-        if blob.len() >= TOO_MANY {
+        if blob.len() > MAX_LEN {
             return key_of_long(alloc, blob);
         }
         let view = match PublicView::read(blob) {
@@ -45,7 +42,7 @@ impl SshBasePublicKey {
     {
         match bytes_of(alloc, self) {
             Ok(bytes) => {
-                if bytes.len() >= TOO_MANY {
+                if bytes.len() > MAX_LEN {
                     return Err(SshPublicKeyError::TooLong);
                 }
                 Ok(Bytes::from_vec(bytes))

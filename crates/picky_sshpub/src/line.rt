@@ -16,12 +16,9 @@ use crate::key::{SshBasePublicKey, SshPublicKey};
 use base64::engine::general_purpose::STANDARD;
 use picky_keys::KeyKind;
 use picky_text::{Base64Error, decode, rest_of_line, rest_of_text, split_word};
-use picky_wire::{NoMemory, Sink, Text, write_all};
+use picky_wire::{MAX_LEN, NoMemory, Sink, Text, write_all};
 use std::alloc::{AllocError, Global};
 use std::str;
-
-/// How many bytes a length of the wire can't say.
-const TOO_MANY: usize = 1 << 32;
 
 impl SshPublicKey {
     /// The key and the comment of one line.
@@ -45,7 +42,7 @@ impl SshPublicKey {
     {
         match line_string(alloc, self) {
             Ok(line) => {
-                if line.len() >= TOO_MANY {
+                if line.len() > MAX_LEN {
                     return Err(SshPublicKeyError::TooLong);
                 }
                 Ok(Text::from_string(line))
@@ -102,7 +99,7 @@ fn key_of_words(
     if !names_key_type(name) {
         return Err(SshPublicKeyError::UnknownKeyType);
     }
-    if body.len() >= TOO_MANY || is_too_long(comment) {
+    if body.len() > MAX_LEN || is_too_long(comment) {
         return Err(SshPublicKeyError::TooLong);
     }
     match key_of_body(alloc, body) {
@@ -140,7 +137,7 @@ fn is_too_long(text: Option<&str>) -> bool
     ensures { result ≡ not (is_short_text (option_copied text.entry)) }
 {
     match text {
-        Some(text) => text.len() >= TOO_MANY,
+        Some(text) => text.len() > MAX_LEN,
         None => false,
     }
 }

@@ -14,11 +14,8 @@ ghost use Rattle.picky_sshpub.specs.SourceLine.{after_line, line_used, read_line
 use crate::error::SshPublicKeyError;
 use crate::key::SshPublicKey;
 use crate::line::key_of_line;
-use picky_wire::{CodecError, Failed, Source, SshComplexTypeDecode, WireError};
+use picky_wire::{CodecError, Failed, MAX_LEN, Source, SshComplexTypeDecode, WireError};
 use std::alloc::Global;
-
-/// How many bytes are taken at most.
-const LINE_LIMIT: usize = 1 << 32;
 
 impl SshComplexTypeDecode for SshPublicKey {
     ghost use Rattle.picky_sshpub.specs.carried.SourceLine.{source_own};
@@ -68,7 +65,7 @@ pub fn take_line<E: CodecError, S: Source>(alloc: Global, stream: &mut S) -> Res
     ensures line { IfOk result (λ line. Stays line.items × (length line.items < 2 ^ 32)) }
 {
     let mut line = Vec::new(alloc);
-    'bytes: while line.len() < LINE_LIMIT {
+    'bytes: while line.len() <= MAX_LEN {
         match next_byte(stream) {
             Ok(None) => return Ok(line),
             Ok(Some(byte)) => {

@@ -26,11 +26,8 @@ use picky_ppk::{
 };
 use picky_sshkey::SshBasePrivateKey;
 use picky_suite::Suite;
-use picky_wire::{Bytes, Mpint, NoMemory, Text};
+use picky_wire::{Bytes, MAX_LEN, Mpint, NoMemory, Text};
 use std::alloc::Global;
-
-/// How many bytes a length of the wire can't say.
-const TOO_MANY: usize = 1 << 32;
 
 /// How many bytes a block of the cipher has.
 const BLOCK_LEN: usize = 16;
@@ -316,7 +313,7 @@ fn measure(
         (measured config fresh.now.salt.now fresh.now.padding.now ppk.now) }
 {
     let file = ppk.file();
-    if file.private_bytes.as_slice().len() + fresh.padding.len() >= TOO_MANY {
+    if file.private_bytes.as_slice().len() + fresh.padding.len() > MAX_LEN {
         return Err(ConvertError::TooLong);
     }
     match file_draft(alloc, file, config, fresh.salt, fresh.padding) {

@@ -11,6 +11,9 @@ use std::alloc::Global;
 use std::cmp::Ordering;
 use std::marker::Model;
 
+/// How many bytes a length of the wire can say at most (RFC 4251, section 5).
+pub const MAX_LEN: usize = (1 << 32) - 1;
+
 /// Fewer than 2^32 bytes.
 #[derive(Debug, Drop)]
 pub struct Bytes {
@@ -31,7 +34,7 @@ impl Bytes {
         ensures ok { IfOk result (λ bytes. bytes ≡ from.now) }
         ensures too_long { IsErrOf result SizeError.TooLong ↔ (2 ^ 32 ≤ length from.now) }
     {
-        if from.len() >= 1 << 32 {
+        if from.len() > MAX_LEN {
             return Err(SizeError::TooLong);
         }
         match Vec::from_slice(alloc, from) {
@@ -133,7 +136,7 @@ impl Text {
         ensures ok { IfOk result (λ text. text ≡ from.now) }
         ensures too_long { IsErrOf result SizeError.TooLong ↔ (2 ^ 32 ≤ length from.now) }
     {
-        if from.len() >= 1 << 32 {
+        if from.len() > MAX_LEN {
             return Err(SizeError::TooLong);
         }
         match String::from_str(alloc, from) {

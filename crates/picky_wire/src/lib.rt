@@ -22,7 +22,7 @@ mod timestamp;
 mod view;
 mod write;
 
-pub use bytes::{Bytes, Text};
+pub use bytes::{Bytes, MAX_LEN, Text};
 pub use calls::FailingCalls;
 pub use copy::{TryClone, both};
 pub use element::{CodecError, SshComplexTypeDecode, SshComplexTypeEncode, SshElement, SshLayout};

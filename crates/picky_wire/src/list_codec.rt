@@ -13,6 +13,7 @@ ghost use Rattle.picky_wire.specs.Puts.{Puts};
 ghost use Rattle.picky_wire.specs.Unread.{Unread};
 ghost use Rattle.picky_wire.specs.Takes.{Takes, TakesString, HasCause, causes_of};
 
+use crate::bytes::MAX_LEN;
 use crate::element::{SshComplexTypeDecode, SshComplexTypeEncode, SshLayout};
 use crate::error::WireError;
 use crate::list::List;
@@ -109,7 +110,7 @@ fn block_len<T: SshComplexTypeEncode>(items: &[T]) -> Option<u32>
     let mut len = 0;
     'items: for item in items {
         len += item.spelling_len();
-        if len >= 1 << 32 {
+        if len > MAX_LEN as u64 {
             return None;
         }
     }

@@ -5,6 +5,7 @@ ghost use Rattle.picky_layout.specs.Wire.{string_of};
 ghost use Rattle.picky_layout.specs.Mpint.{mpint_of};
 ghost use Rattle.picky_wire.specs.Puts.{Puts};
 
+use crate::bytes::MAX_LEN;
 use crate::error::WireError;
 use crate::mpint::Mpint;
 use crate::piece::{Piece, write_piece};
@@ -57,7 +58,7 @@ fn write_string<S: Sink>(sink: &mut S, bytes: &[u8]) -> Result<(), WireError>
         → Puts S.tells S.written S.faults WireError.WriteFault (string_of bytes.now) result sink.old sink.new }
     ensures too_long { 2 ^ 32 ≤ length bytes.now → (result ≡ Err WireError.TooLong) × (sink.new ≡ sink.old) }
 {
-    if bytes.len() >= 1 << 32 {
+    if bytes.len() > MAX_LEN {
         return Err(WireError::TooLong);
     }
     write_piece(sink, &Piece::string(bytes))

@@ -21,9 +21,9 @@ returns-clause-ok c =
       };
       outer = c.in-Ok.ensures.ok;
       block = block;
-      block_short = omega (arith, block_within c.args.key.now (plain_block c.args.key.now), len, c.if-len-ge-TOO_MANY.false);
+      block_short = omega (arith, block_within c.args.key.now (plain_block c.args.key.now), len, c.if-len-gt-MAX_LEN.false);
       len = len;
-      short = omega (arith, c.if-len-ge-TOO_MANY.false);
+      short = omega (arith, c.if-len-gt-MAX_LEN.false);
       room = envelope_room c.args.key.now (plain_block c.args.key.now) c.args.key.now.passphrase refl range
-          (omega (arith, len, c.if-len-ge-TOO_MANY.false));
+          (omega (arith, len, c.if-len-gt-MAX_LEN.false));
     }

@@ -9,8 +9,8 @@ overflow_sub-lines_len c =
     let content = c.content-content.result.now in
     omega (arith, c.pem_text_len-lines_len.ensures content refl, length_text content)
 
-pub returns-then-lines_len-ge-TOO_MANY : goal.returns-then-lines_len-ge-TOO_MANY
-returns-then-lines_len-ge-TOO_MANY c =
+pub returns-then-lines_len-gt-MAX_LEN : goal.returns-then-lines_len-gt-MAX_LEN
+returns-then-lines_len-gt-MAX_LEN c =
     let content = c.args.self.now.content in
     let len = c.pem_text_len-lines_len.ensures content (ap length (sym c.content-content.ensures.value)) in
     inr (string_refused content (omega (arith, len, length_text content)))
