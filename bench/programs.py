@@ -15,7 +15,7 @@ def build(folder, source, uses, key):
     """The program of this source, built over a copy of the crates that it uses, with what ./install or another check left of
     their proofs, and tried on a key."""
     lines = dict(line.split(":") for line in (ROOT / "crates.txt").read_text().splitlines()
-                 if not line.startswith("#"))
+                 if ":" in line and not line.startswith("#"))
     crates, copied, to_copy = folder / "crates", "", list(uses)
     while to_copy:
         name = to_copy.pop()

@@ -45,29 +45,6 @@ pub use Rattle.picky_wire.specs.Unread
 pub use Rattle.picky_wire.specs.View as WireView
 pub use Rattle.picky_input.specs.Input
 pub use Rattle.picky_input.specs.SourceText
-pub use Rattle.picky_pem.specs.Pem
-pub use Rattle.picky_pem.specs.PemRefusal
-pub use Rattle.picky_block.specs.Block
-pub use Rattle.picky_block.specs.BlockRefusal
-pub use Rattle.picky_block.specs.Joined as BlockJoined
-pub use Rattle.picky_kv_words.specs.Argon2Keys
-pub use Rattle.picky_kv_words.specs.ChoiceFields
-pub use Rattle.picky_kv_words.specs.Choices
-pub use Rattle.picky_kv_words.specs.Field as KvField
-pub use Rattle.picky_kv_words.specs.Keys as KvKeys
-pub use Rattle.picky_kv_words.specs.Literal
-pub use Rattle.picky_kv_values.specs.Blocks
-pub use Rattle.picky_kv_values.specs.ValueFields
-pub use Rattle.picky_kv_values.specs.Values
-pub use Rattle.picky_kv.specs.Algorithm as KvAlgorithm
-pub use Rattle.picky_kv.specs.AlgorithmField
-pub use Rattle.picky_kv.specs.Context
-pub use Rattle.picky_kv.specs.Lines as KvLines
-pub use Rattle.picky_kv.specs.NumberFields
-pub use Rattle.picky_kv.specs.Numbers as KvNumbers
-pub use Rattle.picky_kv.specs.Output as KvOutput
-pub use Rattle.picky_kv.specs.Parts as KvParts
-pub use Rattle.picky_kv.specs.ReadBack as KvReadBack
 pub use Rattle.picky_keys.specs.NameTables as KeyNameTables
 pub use Rattle.picky_keys.specs.Names as KeyNames
 pub use Rattle.picky_keys.specs.PrivateKey
@@ -99,6 +76,30 @@ pub use Rattle.picky_authorized.specs.Lines as AuthorizedLines
 pub use Rattle.picky_authorized.specs.OptionText
 pub use Rattle.picky_authorized.specs.Options as AuthorizedOptions
 pub use Rattle.picky_authorized.specs.Quotes
+pub use Rattle.picky_pem.specs.Pem
+pub use Rattle.picky_pem.specs.PemRefusal
+pub use Rattle.picky_sshkey_blob.specs.Before
+pub use Rattle.picky_sshkey_blob.specs.Blob as SshPrivateBlob
+pub use Rattle.picky_sshkey_blob.specs.BlobLayout as SshPrivateBlobLayout
+pub use Rattle.picky_sshkey_blob.specs.BlobRefusal as SshPrivateBlobRefusal
+pub use Rattle.picky_sshkey_blob.specs.Copy
+pub use Rattle.picky_sshkey_blob.specs.FromWire as SshPrivateFromWire
+pub use Rattle.picky_sshkey_blob.specs.Key as SshPrivateKey
+pub use Rattle.picky_sshkey_blob.specs.SecretSpelled
+pub use Rattle.picky_sshkey_blob.specs.View as SshPrivateView
+pub use Rattle.picky_sshkey.specs.Cipher
+pub use Rattle.picky_sshkey.specs.CipherNames
+pub use Rattle.picky_sshkey.specs.Encodes
+pub use Rattle.picky_sshkey.specs.Envelope
+pub use Rattle.picky_sshkey.specs.Kdf
+pub use Rattle.picky_sshkey.specs.KdfLayout
+pub use Rattle.picky_sshkey.specs.Kept as SshPrivateKept
+pub use Rattle.picky_sshkey.specs.Made as SshPrivateMade
+pub use Rattle.picky_sshkey.specs.Opened as SshPrivateOpened
+pub use Rattle.picky_sshkey.specs.PrivateBlock
+pub use Rattle.picky_sshkey.specs.PrivateRefusal
+pub use Rattle.picky_sshkey.specs.PrivateText
+pub use Rattle.picky_sshkey.specs.Written as SshPrivateWritten
 pub use Rattle.picky_cert_names.specs.ExtensionType
 pub use Rattle.picky_cert_names.specs.FromWire as CertFromWire
 pub use Rattle.picky_cert_names.specs.NameTables as CertNameTables
@@ -133,28 +134,6 @@ pub use Rattle.picky_cert.specs.SourceLine as CertSourceLine
 pub use Rattle.picky_cert.specs.Spelled as CertSpelled
 pub use Rattle.picky_cert.specs.View as CertView
 pub use Rattle.picky_cert.specs.Want as CertWant
-pub use Rattle.picky_sshkey_blob.specs.Before
-pub use Rattle.picky_sshkey_blob.specs.Blob as SshPrivateBlob
-pub use Rattle.picky_sshkey_blob.specs.BlobLayout as SshPrivateBlobLayout
-pub use Rattle.picky_sshkey_blob.specs.BlobRefusal as SshPrivateBlobRefusal
-pub use Rattle.picky_sshkey_blob.specs.Copy
-pub use Rattle.picky_sshkey_blob.specs.FromWire as SshPrivateFromWire
-pub use Rattle.picky_sshkey_blob.specs.Key as SshPrivateKey
-pub use Rattle.picky_sshkey_blob.specs.SecretSpelled
-pub use Rattle.picky_sshkey_blob.specs.View as SshPrivateView
-pub use Rattle.picky_sshkey.specs.Cipher
-pub use Rattle.picky_sshkey.specs.CipherNames
-pub use Rattle.picky_sshkey.specs.Encodes
-pub use Rattle.picky_sshkey.specs.Envelope
-pub use Rattle.picky_sshkey.specs.Kdf
-pub use Rattle.picky_sshkey.specs.KdfLayout
-pub use Rattle.picky_sshkey.specs.Kept as SshPrivateKept
-pub use Rattle.picky_sshkey.specs.Made as SshPrivateMade
-pub use Rattle.picky_sshkey.specs.Opened as SshPrivateOpened
-pub use Rattle.picky_sshkey.specs.PrivateBlock
-pub use Rattle.picky_sshkey.specs.PrivateRefusal
-pub use Rattle.picky_sshkey.specs.PrivateText
-pub use Rattle.picky_sshkey.specs.Written as SshPrivateWritten
 pub use Rattle.picky_cert_builder.specs.Algorithm as BuilderAlgorithm
 pub use Rattle.picky_cert_builder.specs.Built
 pub use Rattle.picky_cert_builder.specs.ByName
@@ -167,6 +146,27 @@ pub use Rattle.picky_cert_builder.specs.Permits
 pub use Rattle.picky_cert_builder.specs.RefusalName
 pub use Rattle.picky_cert_builder.specs.Request as BuilderRequest
 pub use Rattle.picky_cert_builder.specs.Terms
+pub use Rattle.picky_block.specs.Block
+pub use Rattle.picky_block.specs.BlockRefusal
+pub use Rattle.picky_block.specs.Joined as BlockJoined
+pub use Rattle.picky_kv_words.specs.Argon2Keys
+pub use Rattle.picky_kv_words.specs.ChoiceFields
+pub use Rattle.picky_kv_words.specs.Choices
+pub use Rattle.picky_kv_words.specs.Field as KvField
+pub use Rattle.picky_kv_words.specs.Keys as KvKeys
+pub use Rattle.picky_kv_words.specs.Literal
+pub use Rattle.picky_kv_values.specs.Blocks
+pub use Rattle.picky_kv_values.specs.ValueFields
+pub use Rattle.picky_kv_values.specs.Values
+pub use Rattle.picky_kv.specs.Algorithm as KvAlgorithm
+pub use Rattle.picky_kv.specs.AlgorithmField
+pub use Rattle.picky_kv.specs.Context
+pub use Rattle.picky_kv.specs.Lines as KvLines
+pub use Rattle.picky_kv.specs.NumberFields
+pub use Rattle.picky_kv.specs.Numbers as KvNumbers
+pub use Rattle.picky_kv.specs.Output as KvOutput
+pub use Rattle.picky_kv.specs.Parts as KvParts
+pub use Rattle.picky_kv.specs.ReadBack as KvReadBack
 pub use Rattle.picky_ppk_parts.specs.Aes
 pub use Rattle.picky_ppk_parts.specs.Algorithm as PpkPartAlgorithm
 pub use Rattle.picky_ppk_parts.specs.Asked as PpkPartAsked
@@ -220,48 +220,6 @@ pub use Rattle.picky_issuing.specs.Options as IssuingOptions
 pub use Rattle.picky_issuing.specs.Parts as IssuingParts
 pub use Rattle.picky_issuing.specs.Steps
 pub use Rattle.picky_issuing.specs.Value
-pub use Rattle.picky_request.specs.Builder
-pub use Rattle.picky_request.specs.Names as LineNames
-pub use Rattle.picky_request.specs.Request as LineRequest
-pub use Rattle.picky_ledger.specs.Apply
-pub use Rattle.picky_ledger.specs.Entry as LedgerEntry
-pub use Rattle.picky_ledger.specs.LedgerText
-pub use Rattle.picky_ledger.specs.Replies
-pub use Rattle.picky_ledger.specs.Run as LedgerRun
-pub use Rattle.picky_ledger.specs.Runs
-pub use Rattle.picky_ledger.specs.State
-pub use Rattle.picky_inventory.specs.BadLine
-pub use Rattle.picky_inventory.specs.Command as InventoryCommand
-pub use Rattle.picky_inventory.specs.InOrder
-pub use Rattle.picky_inventory.specs.ItemLine
-pub use Rattle.picky_inventory.specs.Items as InventoryItems
-pub use Rattle.picky_inventory.specs.Listing
-pub use Rattle.picky_inventory.specs.Merging
-pub use Rattle.picky_inventory.specs.OrderedText
-pub use Rattle.picky_inventory.specs.Parted
-pub use Rattle.picky_inventory.specs.Run as InventoryRun
-pub use Rattle.picky_agent_state.specs.Failure
-pub use Rattle.picky_agent_state.specs.Held
-pub use Rattle.picky_agent_state.specs.Kept as AgentKept
-pub use Rattle.picky_agent_state.specs.Message
-pub use Rattle.picky_agent_state.specs.Reply
-pub use Rattle.picky_agent_state.specs.Request as AgentRequest
-pub use Rattle.picky_agent_state.specs.Rows as AgentRows
-pub use Rattle.picky_agent_state.specs.Signing
-pub use Rattle.picky_agent_state.specs.Step
-pub use Rattle.picky_agent.specs.Ending
-pub use Rattle.picky_agent.specs.ExitCode
-pub use Rattle.picky_agent.specs.Frame
-pub use Rattle.picky_agent.specs.Run as AgentRun
-pub use Rattle.picky_agent.specs.Served
-pub use Rattle.picky_policy.specs.Command as PolicyCommand
-pub use Rattle.picky_policy.specs.Decided
-pub use Rattle.picky_policy.specs.Demands
-pub use Rattle.picky_policy.specs.Offer
-pub use Rattle.picky_policy.specs.Printed
-pub use Rattle.picky_policy.specs.Rules
-pub use Rattle.picky_policy.specs.Run as PolicyRun
-pub use Rattle.picky_policy.specs.Verifies
 pub use Rattle.picky_cert_target.specs.Certified
 pub use Rattle.picky_cert_target.specs.Drafted as CertTargetDrafted
 pub use Rattle.picky_cert_target.specs.Request as CertTargetRequest
@@ -285,6 +243,48 @@ pub use Rattle.picky_convert.specs.Command
 pub use Rattle.picky_convert.specs.Fingerprint
 pub use Rattle.picky_convert.specs.Report
 pub use Rattle.picky_convert.specs.Run
+pub use Rattle.picky_inventory.specs.BadLine
+pub use Rattle.picky_inventory.specs.Command as InventoryCommand
+pub use Rattle.picky_inventory.specs.InOrder
+pub use Rattle.picky_inventory.specs.ItemLine
+pub use Rattle.picky_inventory.specs.Items as InventoryItems
+pub use Rattle.picky_inventory.specs.Listing
+pub use Rattle.picky_inventory.specs.Merging
+pub use Rattle.picky_inventory.specs.OrderedText
+pub use Rattle.picky_inventory.specs.Parted
+pub use Rattle.picky_inventory.specs.Run as InventoryRun
+pub use Rattle.picky_policy.specs.Command as PolicyCommand
+pub use Rattle.picky_policy.specs.Decided
+pub use Rattle.picky_policy.specs.Demands
+pub use Rattle.picky_policy.specs.Offer
+pub use Rattle.picky_policy.specs.Printed
+pub use Rattle.picky_policy.specs.Rules
+pub use Rattle.picky_policy.specs.Run as PolicyRun
+pub use Rattle.picky_policy.specs.Verifies
+pub use Rattle.picky_agent_state.specs.Failure
+pub use Rattle.picky_agent_state.specs.Held
+pub use Rattle.picky_agent_state.specs.Kept as AgentKept
+pub use Rattle.picky_agent_state.specs.Message
+pub use Rattle.picky_agent_state.specs.Reply
+pub use Rattle.picky_agent_state.specs.Request as AgentRequest
+pub use Rattle.picky_agent_state.specs.Rows as AgentRows
+pub use Rattle.picky_agent_state.specs.Signing
+pub use Rattle.picky_agent_state.specs.Step
+pub use Rattle.picky_agent.specs.Ending
+pub use Rattle.picky_agent.specs.ExitCode
+pub use Rattle.picky_agent.specs.Frame
+pub use Rattle.picky_agent.specs.Run as AgentRun
+pub use Rattle.picky_agent.specs.Served
+pub use Rattle.picky_request.specs.Builder
+pub use Rattle.picky_request.specs.Names as LineNames
+pub use Rattle.picky_request.specs.Request as LineRequest
+pub use Rattle.picky_ledger.specs.Apply
+pub use Rattle.picky_ledger.specs.Entry as LedgerEntry
+pub use Rattle.picky_ledger.specs.LedgerText
+pub use Rattle.picky_ledger.specs.Replies
+pub use Rattle.picky_ledger.specs.Run as LedgerRun
+pub use Rattle.picky_ledger.specs.Runs
+pub use Rattle.picky_ledger.specs.State
 pub use Rattle.picky_cert_names.specs.declared.known_extension.KnownExtension as KnownExtensionType
 pub use Rattle.picky_convert.specs.declared.command.Command as CommandType
 pub use Rattle.picky_issuing.specs.declared.option_word.OptionWord as OptionWordType
