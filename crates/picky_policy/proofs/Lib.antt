@@ -7,3 +7,4 @@ pub mod OfferLemmas
 pub mod RuleLaws
 pub mod RuleLemmas
 pub mod RunLemmas
+pub mod SourceLaws

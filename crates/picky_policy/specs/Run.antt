@@ -3,7 +3,7 @@ use Rattle.std.specs.Prelude.{◌≡◌, ◌<◌, ◌++◌, ℕ, Bool, true, fal
 use Rattle.std.specs.Prelude.{Option, Some, None, Result, Ok, Err}
 use Rattle.picky_layout.specs.Outcome.{and_then, map_err}
 use Rattle.picky_wire.specs.declared.timestamp.Timestamp.{Timestamp}
-pub use Rattle.picky_input.specs.Input.{input_limit, TakesInput}
+use Rattle.picky_input.specs.Extent.{Extent, Anywhere, PastLimit, ToEnd, ToFault, Untouched}
 use Rattle.picky_input.specs.SourceText.{text_of}
 use Rattle.picky_input.specs.declared.source_text.SourceError.{SourceError}
 use Rattle.picky_input.specs.declared.source_text.SourceError.TheVariants as source
@@ -117,16 +117,7 @@ pub record WritesAnswer (verifies : Relation) (asked : Asked) (input : List ℕ)
   pub gives : Gives verifies asked input status text
   pub written : after ≡ before ++ text
 
--- a front of it was, and not the whole
-pub record WritesPrefix (verifies : Relation) (asked : Asked) (input : List ℕ) (before after : List ℕ) : Type 0 where
-  pub status : PolicyStatus
-  pub text : List ℕ
-  pub gives : Gives verifies asked input status text
-  pub len : ℕ
-  pub less : len < length text
-  pub written : after ≡ before ++ take len text
-
--- ---- statuses
+-- ---- how a run ends
 
 -- the whole answer was written
 abbrev pub IsDone : PolicyStatus → Type 0
@@ -135,16 +126,42 @@ IsDone statuses.Denied = Unit {0}
 IsDone statuses.Message = Unit {0}
 IsDone status = ⊥
 
--- the source was read to its end
-abbrev pub ReadsToEnd : PolicyStatus → Type 0
-ReadsToEnd statuses.Granted = Unit {0}
-ReadsToEnd statuses.Denied = Unit {0}
-ReadsToEnd statuses.Message = Unit {0}
-ReadsToEnd statuses.BadOffer = Unit {0}
-ReadsToEnd statuses.WriteFault = Unit {0}
-ReadsToEnd statuses.OutsideFault = Unit {0}
-ReadsToEnd statuses.InputNotUtf8 = Unit {0}
-ReadsToEnd status = ⊥
+-- how a run ends for the bytes of its source, by its status: they have no offer, and this is why; or a fault was counted, of the
+-- source (read), of the verifier that was asked or of the sink (write); or there is an answer. Where the sink tells its bytes, the
+-- answer was written whole or, with WriteFault, a prefix of it
+abbrev pub Ends : Relation → Asked → (input : List ℕ) (read verify write tells : Type 0) (before after : List ℕ) → PolicyStatus
+    → Type 0
+Ends verifies asked input read verify write tells before after statuses.Usage = ⊥
+Ends verifies asked input read verify write tells before after statuses.ReadFault = read
+Ends verifies asked input read verify write tells before after statuses.InputTooLong = offered input ≡ Err statuses.InputTooLong
+Ends verifies asked input read verify write tells before after statuses.InputNotUtf8 = offered input ≡ Err statuses.InputNotUtf8
+Ends verifies asked input read verify write tells before after statuses.BadOffer = offered input ≡ Err statuses.BadOffer
+Ends verifies asked input read verify write tells before after statuses.OutsideFault = IsOutsideFault asked input verify
+Ends verifies asked input read verify write tells before after statuses.WriteFault =
+    write × (status : PolicyStatus) × (text : List ℕ) × Gives verifies asked input status text
+    × (tells → (n : ℕ) × (after ≡ before ++ take n text) × (n < length text))
+Ends verifies asked input read verify write tells before after statuses.NoMemory = Unit {0}
+Ends verifies asked input read verify write tells before after status =
+    (text : List ℕ) × Gives verifies asked input status text × (tells → after ≡ before ++ text)
+
+-- ---- what is left
+
+-- how far the source was read
+abbrev pub extent_of : PolicyStatus → Extent
+extent_of statuses.Usage = Untouched
+extent_of statuses.ReadFault = ToFault
+extent_of statuses.InputTooLong = PastLimit
+extent_of statuses.NoMemory = Anywhere
+extent_of status = ToEnd
+
+-- the verifier isn't asked: the words ask for nothing, or for what is signed; or for a decision, and the source tells bytes for
+-- which none is needed
+abbrev pub IsSpared : Option Asked → (tells : Type 0) → (input : List ℕ) → Type 0
+IsSpared None tells input = Unit {0}
+IsSpared (Some Printing) tells input = Unit {0}
+IsSpared (Some (Deciding user moment)) tells input = tells × (asks_of (Deciding user moment) input ≡ false)
+
+-- ---- the program
 
 -- how the program ends: 0 where the offer gets in, or where what is signed was written
 abbrev pub exit_code : PolicyStatus → ℕ

@@ -1,18 +1,19 @@
 //! What is answered for the bytes of a source.
 
-ghost use Rattle.std.specs.Prelude.{◌≡◌, ◌≢◌, ◌⊎◌, ℕ, List, Err, IfErr, IfOk, false};
+ghost use Rattle.std.specs.Prelude.{◌≡◌, ◌≢◌, ◌⊎◌, ℕ, List, Some, Err, IfErr, IfOk, false};
 ghost use Rattle.std.specs.Option.{option_copied};
 ghost use Rattle.picky_layout.specs.Outcome.{map_err, map_ok};
 ghost use Rattle.picky_wire.specs.Count.{Rose};
 ghost use Rattle.picky_wire.specs.Gives.{Gives};
+ghost use Rattle.picky_input.specs.Extent.{LeavesDevice, ReadsInput};
 ghost use Rattle.picky_authorized.specs.Entries.{entries_in};
-ghost use Rattle.picky_policy.specs.Command.{asked_by, Deciding, Printing};
+ghost use Rattle.picky_policy.specs.Command.{asked_by, Deciding};
 ghost use Rattle.picky_policy.specs.Decided.{asks};
 ghost use Rattle.picky_policy.specs.Offer.{message_of, offer_in};
 ghost use Rattle.picky_policy.specs.Printed.{decision_text as decision_text_of, message_text as message_text_of};
-ghost use Rattle.picky_policy.specs.Run.{asks_of, asks_with, bad_offer, file_or_none, is_asked, offered_in, TakesInput};
+ghost use Rattle.picky_policy.specs.Run.{asks_with, bad_offer, file_or_none, is_asked, offered_in, IsSpared};
 ghost use Rattle.picky_policy.specs.Verifies.{Keeps};
-ghost use Rattle.picky_policy.specs.inner.Comes.{answer_shown, decision_status, AnswersOffer, AnswersText, Comes, LeavesFor};
+ghost use Rattle.picky_policy.specs.inner.Comes.{answer_shown, decision_status, extent_for, AnswersOffer, AnswersText, Comes};
 
 use crate::command::Command;
 use crate::deciding::{DecideError, decide};
@@ -44,22 +45,17 @@ pub(crate) fn take_answer<V: Verifier, I: Source>(
     verifier: &mut V,
     source: &mut I,
 ) -> Result<Answer, PolicyStatus>
-    ensures told { I.tells source.old → Comes (V.verifies verifier.old) (asked_by command.entry) (I.left source.old)
+    ensures comes { I.tells source.old → Comes (V.verifies verifier.old) (asked_by command.entry) (I.left source.old)
         (Rose (I.faults source.old) (I.faults source.new)) (Rose (V.faults verifier.old) (V.faults verifier.new))
         (map_ok answer_shown result) }
-    ensures some { result ≢ Err PolicyStatus.InputTooLong → result ≢ Err PolicyStatus.InputNotUtf8
+    ensures comes_for_some { result ≢ Err PolicyStatus.InputTooLong → result ≢ Err PolicyStatus.InputNotUtf8
         → (input : List ℕ) × Comes (V.verifies verifier.old) (asked_by command.entry) input
         (Rose (I.faults source.old) (I.faults source.new)) (Rose (V.faults verifier.old) (V.faults verifier.new))
         (map_ok answer_shown result) }
-    ensures leaves { I.tells source.old → LeavesFor result (I.left source.old) (I.left source.new) }
-    ensures taken { I.tells source.old → TakesInput (I.left source.old) (I.left source.new) }
-    ensures source_tells { I.tells source.old → I.tells source.new }
-    ensures source_calm { result ≢ Err PolicyStatus.ReadFault → I.faults source.new ≡ I.faults source.old }
-    ensures verifier_kept { Keeps (V.verifies verifier.old) (V.verifies verifier.new) }
-    ensures verifier_calm { result ≢ Err PolicyStatus.OutsideFault → V.faults verifier.new ≡ V.faults verifier.old }
-    ensures verifier_unasked { I.tells source.old → asks_of (asked_by command.entry) (I.left source.old) ≡ false
-        → verifier.new ≡ verifier.old }
-    ensures printing_asks_none { asked_by command.entry ≡ Printing → verifier.new ≡ verifier.old }
+    ensures source { ReadsInput I.tells I.left I.faults (extent_for result) source.old source.new }
+    ensures verifier { LeavesDevice (Keeps (V.verifies verifier.old) (V.verifies verifier.new)) V.faults
+        (result ≡ Err PolicyStatus.OutsideFault)
+        (IsSpared (Some (asked_by command.entry)) (I.tells source.old) (I.left source.old)) verifier.old verifier.new }
 {
     match take_text(alloc, source) {
         Ok(text) => {

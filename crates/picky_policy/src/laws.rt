@@ -1,19 +1,25 @@
 //! The laws of this crate, each as the contract of a function that does nothing.
 
-ghost use Rattle.std.specs.Prelude.{◌≡◌, ◌↔◌, ◌++◌, ℕ, Bool, List, Some, Ok};
+ghost use Rattle.std.specs.Prelude.{◌≡◌, ◌↔◌, ◌⊎◌, ◌<◌, ◌≤◌, ◌++◌, ℕ, Bool, List, length, Some, Ok, Err};
+ghost use Rattle.std.specs.Str.{IsUtf8};
 ghost use Rattle.picky_layout.specs.Numbers.{IsBytes};
 ghost use Rattle.picky_wire.specs.Equality.{IsEquality};
 ghost use Rattle.picky_wire.specs.declared.timestamp.Timestamp.{Timestamp as Moment};
+ghost use Rattle.picky_input.specs.Input.{input_limit};
+ghost use Rattle.picky_input.specs.SourceText.{IsSourceText};
 ghost use Rattle.picky_sshpub.specs.declared.key.SshBasePublicKey.{SshBasePublicKey as BaseKey};
 ghost use Rattle.picky_authorized.specs.declared.auth_option.AuthOption.{AuthOption as AnOption};
 ghost use Rattle.picky_authorized.specs.declared.entry.AuthEntry.{AuthEntry as Entry};
 ghost use Rattle.picky_cert.specs.Certificate.{said};
 ghost use Rattle.picky_cert.specs.declared.certificate.SshCertificate.{SshCertificate as Certificate};
 ghost use Rattle.picky_cert_parts.specs.declared.critical_option.SshCriticalOption.{SshCriticalOption as Critical};
+ghost use Rattle.picky_key_text.specs.declared.error.ReadError.{ReadError};
+ghost use Rattle.picky_policy.specs.Command.{Asked, Names};
 ghost use Rattle.picky_policy.specs.Decided.{line_for, IsLineFor, Line};
 ghost use Rattle.picky_policy.specs.Demands.{demands_in, AreDemands, Demands};
 ghost use Rattle.picky_policy.specs.Offer.{offer_in, IsOffer};
 ghost use Rattle.picky_policy.specs.Rules.{judged, Lets};
+ghost use Rattle.picky_policy.specs.Run.{offer_part, offered};
 ghost use Rattle.picky_policy.specs.declared.offer.Offer.{Offer as AnOffer};
 ghost use Rattle.picky_policy.specs.declared.offer.Offer.TheVariants as offers;
 
@@ -48,6 +54,21 @@ pub fn rules_are_kept_exactly()
 pub fn line_is_the_first()
     ensures { (authority : Bool) (key : BaseKey) (entries : List Entry) (line : Line)
         → (line_for authority key entries ≡ Some line) ↔ IsLineFor authority key entries line }
+{}
+
+/// Words name one thing that is asked for, or none.
+pub fn words_name_one_or_none()
+    ensures one_or_none { (words : List (List ℕ)) → ((a : Asked) × Names words a) ⊎ ((a : Asked) → Names words a → ⊥) }
+    ensures once { (words : List (List ℕ)) (a b : Asked) → Names words a → Names words b → a ≡ b }
+{}
+
+/// The bytes of a source are refused exactly where they are too many; or few enough and not UTF-8; or a text whose offer isn't read.
+pub fn sources_are_refused_exactly()
+    ensures too_long { (input : List ℕ) → (offered input ≡ Err PolicyStatus.InputTooLong) ↔ (input_limit < length input) }
+    ensures not_utf8 { (input : List ℕ) → (offered input ≡ Err PolicyStatus.InputNotUtf8)
+        ↔ ((length input ≤ input_limit) × (IsUtf8 input → ⊥)) }
+    ensures bad_offer { (input : List ℕ) → (offered input ≡ Err PolicyStatus.BadOffer)
+        ↔ (IsSourceText input × (e : ReadError) × (offer_in (offer_part input) ≡ Err e)) }
 {}
 
 /// Two values are equal exactly where their contents are.

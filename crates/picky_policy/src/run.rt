@@ -1,18 +1,13 @@
 //! The run of the program over a source and a sink.
 
-ghost use Rattle.std.specs.Prelude.{◌≡◌, ◌≢◌, ◌↔◌, ◌⊎◌, ◌<◌, ◌+◌, ℕ, List, [], length, drop, Ok, Err, false};
-ghost use Rattle.std.specs.Str.{IsUtf8};
+ghost use Rattle.std.specs.Prelude.{◌≡◌, ◌≢◌, ◌↔◌, ◌⊎◌, ℕ, List, Some, Ok, Err};
 ghost use Rattle.picky_wire.specs.Count.{Rose};
 ghost use Rattle.picky_wire.specs.Puts.{Puts};
-ghost use Rattle.picky_key_text.specs.declared.error.ReadError.{ReadError as Why};
-ghost use Rattle.picky_input.specs.SourceText.{IsSourceText};
-ghost use Rattle.picky_policy.specs.Command.{asked_by, Asked, Names, Printing};
-ghost use Rattle.picky_policy.specs.Offer.{offer_in};
-ghost use Rattle.picky_policy.specs.Run.{asks_of, input_limit, offer_part, offered, Gives, IsDone, IsOutsideFault, ReadsToEnd};
-ghost use Rattle.picky_policy.specs.Run.{TakesInput, WritesAnswer, WritesPrefix};
+ghost use Rattle.picky_input.specs.Extent.{LeavesDevice, ReadsInput, WritesLast};
+ghost use Rattle.picky_policy.specs.Command.{asked_by, asked_for, Asked, Names};
+ghost use Rattle.picky_policy.specs.Run.{extent_of, offered, Ends, IsDone, IsOutsideFault, IsSpared, WritesAnswer};
 ghost use Rattle.picky_policy.specs.Verifies.{Keeps};
 ghost use Rattle.picky_policy.specs.declared.offer.Offer.{Offer as AnOffer};
-ghost use Rattle.picky_policy.specs.inner.Comes.{Ends, LeavesAt};
 
 use crate::answer::take_answer;
 use crate::command::{Command, command_of};
@@ -34,47 +29,19 @@ pub fn run_policy<V: Verifier, I: Source, O: Sink>(
     source: &mut I,
     out: &mut O,
 ) -> PolicyStatus
-    // What is written, and WriteFault.
+    // What is written.
     ensures done { (a : Asked) → Names words.now a → IsDone result → I.tells source.old → O.tells out.old
         → WritesAnswer (V.verifies verifier.old) a (I.left source.old) result (O.written out.old) (O.written out.new) }
-    ensures prefix { (a : Asked) → Names words.now a → result ≡ PolicyStatus.WriteFault → I.tells source.old → O.tells out.old
-        → WritesPrefix (V.verifies verifier.old) a (I.left source.old) (O.written out.old) (O.written out.new) }
 
-    // Whether or not the sink tells, there is an answer of this status.
-    ensures has_answer { (a : Asked) → Names words.now a → IsDone result → I.tells source.old
-        → (text : List ℕ) × Gives (V.verifies verifier.old) a (I.left source.old) result text }
-    ensures has_answer_in_front { (a : Asked) → Names words.now a → result ≡ PolicyStatus.WriteFault → I.tells source.old
-        → (status : PolicyStatus) × (text : List ℕ) × Gives (V.verifies verifier.old) a (I.left source.old) status text }
-    ensures has_answer_of_some { (a : Asked) → Names words.now a → IsDone result
-        → (input : List ℕ) × (text : List ℕ) × Gives (V.verifies verifier.old) a input result text }
-
-    // Whether or not the source tells its bytes, what is written is the answer to some.
-    ensures answers { (a : Asked) → Names words.now a → IsDone result → O.tells out.old
-        → (input : List ℕ) × WritesAnswer (V.verifies verifier.old) a input result (O.written out.old) (O.written out.new) }
-    ensures answers_in_front { (a : Asked) → Names words.now a → result ≡ PolicyStatus.WriteFault → O.tells out.old
-        → (input : List ℕ) × WritesPrefix (V.verifies verifier.old) a input (O.written out.old) (O.written out.new) }
-
-    // When each other status comes.
+    // What each status says of the source's bytes, or of some, where it doesn't tell them.
+    ensures ends { (a : Asked) → Names words.now a → I.tells source.old → Ends (V.verifies verifier.old) a (I.left source.old)
+        (Rose (I.faults source.old) (I.faults source.new)) (Rose (V.faults verifier.old) (V.faults verifier.new))
+        (Rose (O.faults out.old) (O.faults out.new)) (O.tells out.old) (O.written out.old) (O.written out.new) result }
+    ensures ends_for_some { (a : Asked) → Names words.now a → result ≢ PolicyStatus.InputTooLong → result ≢ PolicyStatus.InputNotUtf8
+        → (input : List ℕ) × Ends (V.verifies verifier.old) a input
+        (Rose (I.faults source.old) (I.faults source.new)) (Rose (V.faults verifier.old) (V.faults verifier.new))
+        (Rose (O.faults out.old) (O.faults out.new)) (O.tells out.old) (O.written out.old) (O.written out.new) result }
     ensures usage { (result ≡ PolicyStatus.Usage) ↔ ((a : Asked) → Names words.now a → ⊥) }
-    ensures command { result ≢ PolicyStatus.Usage → (a : Asked) × Names words.now a }
-    ensures read_fault_only_if_counted { result ≡ PolicyStatus.ReadFault → Rose (I.faults source.old) (I.faults source.new) }
-    ensures input_too_long { result ≡ PolicyStatus.InputTooLong → I.tells source.old
-        → input_limit < length (I.left source.old) }
-    ensures input_not_utf8 { result ≡ PolicyStatus.InputNotUtf8 → I.tells source.old → IsUtf8 (I.left source.old) → ⊥ }
-    ensures bad_offer { result ≡ PolicyStatus.BadOffer → I.tells source.old
-        → (why : Why) × (offer_in (offer_part (I.left source.old)) ≡ Err why) }
-    ensures bad_offer_of_some { result ≡ PolicyStatus.BadOffer
-        → (input : List ℕ) × (why : Why) × IsSourceText input × (offer_in (offer_part input) ≡ Err why) }
-    ensures outside_fault { (a : Asked) → Names words.now a → result ≡ PolicyStatus.OutsideFault → I.tells source.old
-        → IsOutsideFault a (I.left source.old) (Rose (V.faults verifier.old) (V.faults verifier.new)) }
-    ensures outside_fault_of_some { (a : Asked) → Names words.now a → result ≡ PolicyStatus.OutsideFault
-        → (input : List ℕ) × IsOutsideFault a input (Rose (V.faults verifier.old) (V.faults verifier.new)) }
-    ensures write_fault_only_if_counted { result ≡ PolicyStatus.WriteFault → Rose (O.faults out.old) (O.faults out.new) }
-
-    // A count is as it was but for the one fault that is answered.
-    ensures source_calm { result ≢ PolicyStatus.ReadFault → I.faults source.new ≡ I.faults source.old }
-    ensures out_calm { result ≢ PolicyStatus.WriteFault → O.faults out.new ≡ O.faults out.old }
-    ensures verifier_calm { result ≢ PolicyStatus.OutsideFault → V.faults verifier.new ≡ V.faults verifier.old }
 
     // Where nothing was counted, the status is the one that the bytes have, or memory ran out.
     ensures exact { (a : Asked) → Names words.now a → I.tells source.old
@@ -88,21 +55,13 @@ pub fn run_policy<V: Verifier, I: Source, O: Sink>(
         → (offer : AnOffer) → offered (I.left source.old) ≡ Ok offer
         → IsDone result ⊎ (result ≡ PolicyStatus.NoMemory) }
 
-    // What is left and what is written; a source and a sink that tell go on telling.
-    ensures verifier_kept { Keeps (V.verifies verifier.old) (V.verifies verifier.new) }
-    ensures verifier_unasked { (a : Asked) → Names words.now a → I.tells source.old → asks_of a (I.left source.old) ≡ false
-        → verifier.new ≡ verifier.old }
-    ensures printing_asks_none { Names words.now Printing → verifier.new ≡ verifier.old }
-    ensures source_tells { I.tells source.old → I.tells source.new }
-    ensures out_tells { O.tells out.old → O.tells out.new }
-    ensures end { ReadsToEnd result → I.tells source.old → I.left source.new ≡ [] }
-    ensures taken { I.tells source.old → TakesInput (I.left source.old) (I.left source.new) }
-    ensures past_limit { result ≡ PolicyStatus.InputTooLong → I.tells source.old
-        → I.left source.new ≡ drop (input_limit + 1) (I.left source.old) }
-    ensures cut { result ≡ PolicyStatus.ReadFault → I.tells source.old
-        → length (I.left source.old) < input_limit + 1 + length (I.left source.new) }
-    ensures unread { result ≡ PolicyStatus.Usage → (source.new ≡ source.old) × (verifier.new ≡ verifier.old) }
-    ensures unwritten { (IsDone result → ⊥) → result ≢ PolicyStatus.WriteFault → out.new ≡ out.old }
+    // What is left of the source, of `out` and of the verifier.
+    ensures source { ReadsInput I.tells I.left I.faults (extent_of result) source.old source.new }
+    ensures out { WritesLast O.tells O.faults (result ≡ PolicyStatus.WriteFault)
+        ((IsDone result → ⊥) × (result ≢ PolicyStatus.WriteFault)) out.old out.new }
+    ensures verifier { LeavesDevice (Keeps (V.verifies verifier.old) (V.verifies verifier.new)) V.faults
+        (result ≡ PolicyStatus.OutsideFault) (IsSpared (asked_for words.now) (I.tells source.old) (I.left source.old))
+        verifier.old verifier.new }
 {
     match command_of(words) {
         Some(command) => perform(alloc, command, verifier, source, out),
@@ -118,25 +77,19 @@ fn perform<V: Verifier, I: Source, O: Sink>(
     source: &mut I,
     out: &mut O,
 ) -> PolicyStatus
-    ensures told { I.tells source.old → Ends (V.verifies verifier.old) (asked_by command.entry) (I.left source.old)
+    ensures ends { I.tells source.old → Ends (V.verifies verifier.old) (asked_by command.entry) (I.left source.old)
         (Rose (I.faults source.old) (I.faults source.new)) (Rose (V.faults verifier.old) (V.faults verifier.new))
         (Rose (O.faults out.old) (O.faults out.new)) (O.tells out.old) (O.written out.old) (O.written out.new) result }
-    ensures some { result ≢ PolicyStatus.InputTooLong → result ≢ PolicyStatus.InputNotUtf8
+    ensures ends_for_some { result ≢ PolicyStatus.InputTooLong → result ≢ PolicyStatus.InputNotUtf8
         → (input : List ℕ) × Ends (V.verifies verifier.old) (asked_by command.entry) input
         (Rose (I.faults source.old) (I.faults source.new)) (Rose (V.faults verifier.old) (V.faults verifier.new))
         (Rose (O.faults out.old) (O.faults out.new)) (O.tells out.old) (O.written out.old) (O.written out.new) result }
-    ensures leaves { I.tells source.old → LeavesAt result (I.left source.old) (I.left source.new) }
-    ensures taken { I.tells source.old → TakesInput (I.left source.old) (I.left source.new) }
-    ensures source_tells { I.tells source.old → I.tells source.new }
-    ensures out_tells { O.tells out.old → O.tells out.new }
-    ensures source_calm { result ≢ PolicyStatus.ReadFault → I.faults source.new ≡ I.faults source.old }
-    ensures out_calm { result ≢ PolicyStatus.WriteFault → O.faults out.new ≡ O.faults out.old }
-    ensures verifier_kept { Keeps (V.verifies verifier.old) (V.verifies verifier.new) }
-    ensures verifier_calm { result ≢ PolicyStatus.OutsideFault → V.faults verifier.new ≡ V.faults verifier.old }
-    ensures verifier_unasked { I.tells source.old → asks_of (asked_by command.entry) (I.left source.old) ≡ false
-        → verifier.new ≡ verifier.old }
-    ensures printing_asks_none { asked_by command.entry ≡ Printing → verifier.new ≡ verifier.old }
-    ensures unwritten { (IsDone result → ⊥) → result ≢ PolicyStatus.WriteFault → out.new ≡ out.old }
+    ensures source { ReadsInput I.tells I.left I.faults (extent_of result) source.old source.new }
+    ensures out { WritesLast O.tells O.faults (result ≡ PolicyStatus.WriteFault)
+        ((IsDone result → ⊥) × (result ≢ PolicyStatus.WriteFault)) out.old out.new }
+    ensures verifier { LeavesDevice (Keeps (V.verifies verifier.old) (V.verifies verifier.new)) V.faults
+        (result ≡ PolicyStatus.OutsideFault) (IsSpared (Some (asked_by command.entry)) (I.tells source.old) (I.left source.old))
+        verifier.old verifier.new }
 {
     match take_answer(alloc, command, verifier, source) {
         Ok(answer) => match put(out, answer.text.as_bytes()) {

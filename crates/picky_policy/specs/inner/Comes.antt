@@ -1,8 +1,8 @@
--- Words of this crate's private contracts: what a run comes to, status by status.
-use Rattle.std.specs.Prelude.{◌≡◌, ◌⊎◌, ◌<◌, ◌+◌, ◌++◌, ℕ, List, [], length, take, drop, string_bytes}
-use Rattle.std.specs.Prelude.{Result, Ok, Err}
+-- Words of this crate's private contracts: what is answered.
+use Rattle.std.specs.Prelude.{◌≡◌, ◌⊎◌, ℕ, List, string_bytes, Result, Ok, Err}
+use Rattle.picky_input.specs.Extent.{Extent, ToEnd}
 use Rattle.picky_policy.specs.Command.{Asked}
-use Rattle.picky_policy.specs.Run.{Gives, IsAnswer, IsFaultOf, IsOutsideFault, file_part, input_limit, offered, offered_in}
+use Rattle.picky_policy.specs.Run.{Gives, IsAnswer, IsFaultOf, IsOutsideFault, extent_of, file_part, offered, offered_in}
 use Rattle.picky_policy.specs.Verifies.{Relation}
 use Rattle.picky_policy.specs.declared.answer.Answer.{Answer}
 use Rattle.picky_policy.specs.declared.decision.Decision.{Decision}
@@ -39,43 +39,15 @@ AnswersText verifies asked text rose (Err status) =
     ⊎ (offered_in text ≡ Err status)
 
 -- the same for the bytes of a source, which may fail
-abbrev pub Comes : Relation → Asked → (input : List ℕ) (read_rose verify_rose : Type 0)
+abbrev pub Comes : Relation → Asked → (input : List ℕ) (read verify : Type 0)
     → Result (PolicyStatus × List ℕ) PolicyStatus → Type 0
-Comes verifies asked input read_rose verify_rose (Ok said) = Gives verifies asked input said.0 said.1
-Comes verifies asked input read_rose verify_rose (Err status) =
-    (status ≡ statuses.NoMemory) ⊎ ((status ≡ statuses.ReadFault) × read_rose)
-    ⊎ ((status ≡ statuses.OutsideFault) × IsOutsideFault asked input verify_rose)
+Comes verifies asked input read verify (Ok said) = Gives verifies asked input said.0 said.1
+Comes verifies asked input read verify (Err status) =
+    (status ≡ statuses.NoMemory) ⊎ ((status ≡ statuses.ReadFault) × read)
+    ⊎ ((status ≡ statuses.OutsideFault) × IsOutsideFault asked input verify)
     ⊎ (offered input ≡ Err status)
 
--- how a run ends for the bytes of its source
-abbrev pub Ends : Relation → Asked → (input : List ℕ) (read_rose verify_rose write_rose tells : Type 0)
-    (before after : List ℕ) → PolicyStatus → Type 0
-Ends verifies asked input read_rose verify_rose write_rose tells before after statuses.WriteFault =
-    write_rose × (status : PolicyStatus) × (text : List ℕ) × Gives verifies asked input status text
-    × (tells → (n : ℕ) × (after ≡ before ++ take n text) × (n < length text))
-Ends verifies asked input read_rose verify_rose write_rose tells before after statuses.Usage = ⊥
-Ends verifies asked input read_rose verify_rose write_rose tells before after statuses.NoMemory = Unit {0}
-Ends verifies asked input read_rose verify_rose write_rose tells before after statuses.ReadFault = read_rose
-Ends verifies asked input read_rose verify_rose write_rose tells before after statuses.OutsideFault =
-    IsOutsideFault asked input verify_rose
-Ends verifies asked input read_rose verify_rose write_rose tells before after statuses.BadOffer =
-    offered input ≡ Err statuses.BadOffer
-Ends verifies asked input read_rose verify_rose write_rose tells before after statuses.InputTooLong =
-    offered input ≡ Err statuses.InputTooLong
-Ends verifies asked input read_rose verify_rose write_rose tells before after statuses.InputNotUtf8 =
-    offered input ≡ Err statuses.InputNotUtf8
-Ends verifies asked input read_rose verify_rose write_rose tells before after status =
-    (text : List ℕ) × Gives verifies asked input status text × (tells → after ≡ before ++ text)
-
--- what is left of the source, by how the run ends
-abbrev pub LeavesAt : PolicyStatus → (before after : List ℕ) → Type 0
-LeavesAt statuses.Usage before after = after ≡ before
-LeavesAt statuses.NoMemory before after = Unit {0}
-LeavesAt statuses.ReadFault before after = length before < input_limit + 1 + length after
-LeavesAt statuses.InputTooLong before after = after ≡ drop (input_limit + 1) before
-LeavesAt status before after = after ≡ []
-
--- and by what is answered
-abbrev pub LeavesFor : {A : Type 0} → Result A PolicyStatus → (before after : List ℕ) → Type 0
-LeavesFor (Ok said) before after = after ≡ []
-LeavesFor (Err status) before after = LeavesAt status before after
+-- how far the source was read, by what is answered
+abbrev pub extent_for : {A : Type 0} → Result A PolicyStatus → Extent
+extent_for (Ok said) = ToEnd
+extent_for (Err status) = extent_of status
