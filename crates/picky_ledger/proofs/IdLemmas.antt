@@ -77,12 +77,6 @@ id_is_new ids before e id has is = has id.now ∙ ap (λ t. list_any (λ x. byte
 abbrev pub is_between : (next : ℕ) → (before : List Entry) → (serial : ℕ) → Bool
 is_between next before serial = nat_lt (last_serial 0 before) serial && nat_lt serial next
 
-pub outside_is_none : (next : ℕ) (before : List Entry) (line : List ℕ) (e : Entry) → entry_in line ≡ Some e
-    → is_between next before e.serial ≡ false → entry_said next before line ≡ None
-outside_is_none next before line e says is =
-    ap (λ o. some_then o (if_follows next before)) says
-    ∙ ap (λ (b : Bool). if b && not (list_any (λ x. bytes_eq x.id e.id) before) then Some e else None) is
-
 -- it comes after those before it where its id is added
 pub said_where_added : (next : ℕ) (before : List Entry) (line : List ℕ) (e : Entry) (ids : BTreeSet (Bor (List ℕ)))
     (id : Bor (List ℕ)) (added : Bool) → entry_in line ≡ Some e → is_between next before e.serial ≡ true → HasIds ids before

@@ -1,6 +1,6 @@
 -- A ledger's text, line by line.
 use Rattle.std.proofs.Common.{◌≡◌, ◌∙◌, ◌+◌, ◌++◌, ◌∷◌, ℕ, List, []}
-use Rattle.std.proofs.Common.{Option, Some, None, Result, Ok, Err, ◌≢◌, ap, arith, length, refl, sym}
+use Rattle.std.proofs.Common.{Option, Some, None, Result, Ok, Err, ◌≢◌, ap, length, refl, sym}
 use Rattle.std.specs.Option.{ok_or, option_map}
 use Rattle.std.proofs.lemmas.Bool.{ne_eqb}
 use Rattle.picky_layout.specs.Outcome.{and_then, map_err}
@@ -130,8 +130,3 @@ pub bad_end : (next number : ℕ) (before : List Entry) (rest : List ℕ) → Ha
     → entries_from next number before (lines_with_ends rest) ≡ Err number
 bad_end next number before [] none some = absurd (some refl)
 bad_end next number before (b ∷ rest) none some = last_is_bad next number before b rest none
-
-pub good_end : (next number : ℕ) (before : List Entry) (rest : List ℕ) → length rest ≡ 0
-    → entries_from next number before (lines_with_ends rest) ≡ Ok before
-good_end next number before [] empty = refl
-good_end next number before (b ∷ rest) empty = absurd (omega (arith, empty))

@@ -1,12 +1,10 @@
 -- Requests at a ledger, one after another.
-use Rattle.std.proofs.Common.{◌≡◌, ◌≢◌, ◌≤◌, ◌*◌, ◌+◌, ◌-◌, ◌++◌, ◌==◌, ℕ, List, [], ◌∷◌, Bool, true, false, length, take, drop, Option, Some, None, Result, Ok, Err, IfErr}
-use Rattle.std.proofs.Common.{refl, sym, ◌∙◌, ap, arith, subst, append_assoc, if◌then◌else◌}
-use Rattle.std.specs.Prelude.{◌↔◌, filter, not}
+use Rattle.std.proofs.Common.{◌≡◌, ◌≢◌, ◌*◌, ◌++◌, ◌==◌, ℕ, List, [], ◌∷◌, false, length, take, drop, Option, Some, None, Result, Ok, Err, IfErr}
+use Rattle.std.proofs.Common.{refl, sym, ◌∙◌, ap, arith, subst, append_assoc}
 use Rattle.std.specs.List.{before_first}
 use Rattle.std.specs.Str.{IsUtf8}
 use Rattle.std.proofs.lemmas.Bool.{ne_eqb}
 use Rattle.std.proofs.lemmas.List.{append-nil, drop-drop, length-append}
-use Rattle.picky_text.specs.Lines.{HasNo}
 use Rattle.picky_text.proofs.ListLaws.{all_weaker, cut_at_first}
 use Rattle.picky_cert.proofs.ByteLemmas.{utf8_is_bytes}
 use Rattle.picky_sshpub.specs.declared.key.SshBasePublicKey.{SshBasePublicKey}
@@ -18,8 +16,8 @@ use Rattle.picky_request.specs.declared.request.CertRequestLine.{CertRequestLine
 use Rattle.picky_request.proofs.LineLaws.{line_is_one}
 use Rattle.picky_ledger.specs.Apply.{Applies, Asked, Terms, judged}
 use Rattle.picky_ledger.specs.Replies.{id_in, replies_text, reply_line}
-use Rattle.picky_ledger.specs.Run.{filled_lines, requests_in}
-use Rattle.picky_ledger.specs.Runs.{FailsAt, NoneAsks, Runs, Step, nonce_len, terms}
+use Rattle.picky_ledger.specs.Run.{filled_lines}
+use Rattle.picky_ledger.specs.Runs.{NoneAsks, Runs, Step, nonce_len}
 use Rattle.picky_ledger.specs.State.{State}
 use Rattle.picky_ledger.specs.declared.apply.LedgerError.{LedgerError}
 use Rattle.picky_ledger.specs.declared.apply.LedgerError.TheVariants as errors

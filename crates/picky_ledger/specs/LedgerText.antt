@@ -1,5 +1,5 @@
 -- The text of a ledger: the next serial, and a line for each entry.
-use Rattle.std.specs.Prelude.{◌≡◌, ◌<◌, ◌==◌, ◌+◌, ◌^◌, ◌++◌, ◌∷◌, ◌&&◌, ℕ, Bool, List, [], codes, flat_map, length, nat_lt, not}
+use Rattle.std.specs.Prelude.{◌==◌, ◌+◌, ◌++◌, ◌∷◌, ◌&&◌, ℕ, Bool, List, [], codes, flat_map, nat_lt, not}
 use Rattle.std.specs.Prelude.{Option, Some, None, Result, Ok, Err, if◌then◌else◌, bytes_eq, drop, take}
 use Rattle.std.specs.Fmt.{decimal}
 use Rattle.std.specs.List.{list_any}

@@ -1,13 +1,15 @@
 -- A run: what it writes for the bytes of its source, and how it ends.
-use Rattle.std.specs.Prelude.{◌≡◌, ◌<◌, ◌≤◌, ◌^◌, ◌*◌, ◌++◌, ◌==◌, ℕ, Bool, List, length, take, filter, nat_lt, not}
-use Rattle.std.specs.Prelude.{Option, Some, None, Result, Ok, Err, if◌then◌else◌}
+use Rattle.std.specs.Prelude.{◌≡◌, ◌<◌, ◌≤◌, ◌^◌, ◌*◌, ◌++◌, ◌==◌, ℕ, List, length, take, filter}
+use Rattle.std.specs.Prelude.{nat_lt, not, Option, Some, Result, Ok, Err, if◌then◌else◌}
 use Rattle.std.specs.Option.{ok_or}
 use Rattle.picky_layout.specs.Outcome.{and_then, map_err}
 use Rattle.picky_text.specs.Lines.{lines}
+use Rattle.picky_wire.specs.Count.{Rose}
 use Rattle.picky_suite.specs.Signs.{Relation}
 use Rattle.picky_sshpub.specs.declared.key.SshPublicKey.{SshPublicKey}
 use Rattle.picky_sshpub.specs.LineRefusal.{line_meaning}
-pub use Rattle.picky_input.specs.Input.{input_limit, TakesInput}
+pub use Rattle.picky_input.specs.Extent.{LeavesDevice, ReadsInput, WritesLast}
+use Rattle.picky_input.specs.Extent.{Anywhere, Extent, PastLimit, ToEnd, ToFault}
 use Rattle.picky_input.specs.SourceText.{text_of}
 use Rattle.picky_input.specs.declared.source_text.SourceError.{SourceError}
 use Rattle.picky_input.specs.declared.source_text.SourceError.TheVariants as source
@@ -123,32 +125,56 @@ pub record WritesAnswer (signs : Relation) (fresh input before after : List ℕ)
   pub gives : Gives signs fresh input text
   pub written : after ≡ before ++ text
 
--- a front of it was, and not the whole
-pub record WritesPrefix (signs : Relation) (fresh input before after : List ℕ) : Type 0 where
-  pub text : List ℕ
-  pub gives : Gives signs fresh input text
+-- a prefix of the text was, and not the whole
+pub record WritesPrefix (text before after : List ℕ) : Type 0 where
   pub len : ℕ
   pub less : len < length text
   pub written : after ≡ before ++ take len text
 
--- ---- statuses
+-- ---- how a run ends
 
--- a status that speaks of the bytes is what they ask for
-abbrev pub Explains : LedgerStatus → Result Asked LedgerStatus → Type 0
-Explains statuses.BadInput says = says ≡ Err statuses.BadInput
-Explains (statuses.BadLedger line) says = says ≡ Err (statuses.BadLedger line)
-Explains (statuses.BadIssuer e) says = says ≡ Err (statuses.BadIssuer e)
-Explains statuses.FreshTooShort says = says ≡ Err statuses.FreshTooShort
-Explains statuses.InputTooLong says = says ≡ Err statuses.InputTooLong
-Explains statuses.InputNotUtf8 says = says ≡ Err statuses.InputNotUtf8
-Explains status says = Unit {0}
+-- how far the source was read
+abbrev pub extent_of : LedgerStatus → Extent
+extent_of statuses.ReadFault = ToFault
+extent_of statuses.InputTooLong = PastLimit
+extent_of statuses.NoMemory = Anywhere
+extent_of status = ToEnd
 
--- the source was read to its end
-abbrev pub ReadsToEnd : LedgerStatus → Type 0
-ReadsToEnd statuses.ReadFault = ⊥
-ReadsToEnd statuses.NoMemory = ⊥
-ReadsToEnd statuses.InputTooLong = ⊥
-ReadsToEnd status = Unit {0}
+-- why there is no text to write: memory ran out, a device failed, the new ledger's text is too long, or the bytes ask for nothing
+abbrev pub Stops : Relation → (fresh input : List ℕ) → (read_rose signer_rose : Type 0) → LedgerStatus → Type 0
+Stops signs fresh input read_rose signer_rose statuses.Done = ⊥
+Stops signs fresh input read_rose signer_rose statuses.WriteFault = ⊥
+Stops signs fresh input read_rose signer_rose statuses.NoMemory = Unit {0}
+Stops signs fresh input read_rose signer_rose statuses.ReadFault = read_rose
+Stops signs fresh input read_rose signer_rose statuses.OutsideFault = IsOutsideFault signs fresh input signer_rose
+Stops signs fresh input read_rose signer_rose statuses.TooLong = IsTooLong signs fresh input
+Stops signs fresh input read_rose signer_rose status = asked fresh input ≡ Err status
+
+-- what was written, and the counts of faults, at one moment
+pub record Moment : Type 0 where
+  pub written : List ℕ
+  pub source_faults : ℕ
+  pub sink_faults : ℕ
+  pub signer_faults : ℕ
+
+abbrev pub moment : (written : List ℕ) → (source_faults sink_faults signer_faults : ℕ) → Moment
+moment written source_faults sink_faults signer_faults = record {
+  written = written;
+  source_faults = source_faults;
+  sink_faults = sink_faults;
+  signer_faults = signer_faults;
+}
+
+-- what a status says of a run over these bytes: that the whole text was written, to a sink that tells; that a prefix of it was before
+-- a fault; or why there is no text
+abbrev pub Ends : Relation → (fresh input : List ℕ) → (tells : Type 0) → (old new : Moment) → LedgerStatus → Type 0
+Ends signs fresh input tells old new statuses.Done =
+    (text : List ℕ) × Gives signs fresh input text × (tells → new.written ≡ old.written ++ text)
+Ends signs fresh input tells old new statuses.WriteFault =
+    (text : List ℕ) × Gives signs fresh input text × (tells → WritesPrefix text old.written new.written)
+    × Rose old.sink_faults new.sink_faults
+Ends signs fresh input tells old new status =
+    Stops signs fresh input (Rose old.source_faults new.source_faults) (Rose old.signer_faults new.signer_faults) status
 
 -- how the program ends: 0 for Done
 abbrev pub exit_code : LedgerStatus → ℕ

@@ -1,5 +1,6 @@
 -- Requests one after another at a ledger.
-use Rattle.std.specs.Prelude.{◌≡◌, ◌<◌, ◌*◌, ◌^◌, ◌++◌, ◌∷◌, ℕ, List, [], Some, Result, Ok, Err, Contains, length, take, drop}
+use Rattle.std.specs.Prelude.{◌≡◌, ◌<◌, ◌*◌, ◌^◌, ◌++◌, ◌∷◌, ℕ, List, [], Contains, length, take, drop}
+use Rattle.std.specs.Prelude.{Some, Ok, Err}
 use Rattle.std.specs.List.{AllByRecursion}
 use Rattle.picky_sshpub.specs.declared.key.SshBasePublicKey.{SshBasePublicKey}
 use Rattle.picky_suite.specs.Signs.{Relation}
@@ -27,7 +28,8 @@ Step signs issuer old fresh line new reply =
     Applies signs old line (judged (terms issuer fresh) old line) ⊥ (Ok reply) new
 
 -- the requests of these lines in order, each with its reply
-abbrev pub Runs : Relation → SshBasePublicKey → State → (fresh : List ℕ) → (lines : List (List ℕ)) → State → List Reply → Type 0
+abbrev pub Runs : Relation → SshBasePublicKey → State → (fresh : List ℕ) → (lines : List (List ℕ)) → State → List Reply
+    → Type 0
 Runs signs issuer old fresh [] new replies = (new ≡ old) × (replies ≡ [])
 Runs signs issuer old fresh (line ∷ more) new replies =
     (mid : State) × (reply : Reply) × (later : List Reply) × Step signs issuer old fresh line mid reply

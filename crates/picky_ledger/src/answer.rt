@@ -1,14 +1,16 @@
 //! What is answered for the bytes of a source.
 
-ghost use Rattle.std.specs.Prelude.{◌≡◌, ◌≢◌, ◌↔◌, ◌≤◌, ◌*◌, ◌++◌, ℕ, List, length, string_bytes, Ok, Err, IfErr, IfOk, OnOk};
+ghost use Rattle.std.specs.Prelude.{◌≡◌, ◌↔◌, ◌≤◌, ◌*◌, ◌++◌, ℕ, List, length, string_bytes, Ok, Err};
+ghost use Rattle.std.specs.Prelude.{IfErr, IfOk, OnOk};
 ghost use Rattle.picky_keys.specs.declared.public_key.PublicKey.{PublicKey};
 ghost use Rattle.picky_keys.specs.declared.algorithm.SignatureAlgorithm.{SignatureAlgorithm as Algorithm};
 ghost use Rattle.picky_layout.specs.Outcome.{map_ok};
 ghost use Rattle.picky_wire.specs.Count.{Rose};
+ghost use Rattle.picky_input.specs.SourceText.{text_of};
 ghost use Rattle.picky_issuing.specs.Parts.{mark_lf};
-ghost use Rattle.picky_ledger.specs.Run.{of_text, Asked, AsksNothing, TakesInput};
+ghost use Rattle.picky_ledger.specs.Run.{asked, AsksNothing, LeavesDevice, ReadsInput};
 ghost use Rattle.picky_ledger.specs.Runs.{nonce_len, NoneAsks};
-ghost use Rattle.picky_ledger.specs.inner.Comes.{AnswersAsked, AnswersText, Comes, LeavesFor};
+ghost use Rattle.picky_ledger.specs.inner.Comes.{extent_at, Comes};
 ghost use Rattle.picky_ledger.specs.inner.Shown.{given_shown};
 
 use crate::apply::LedgerError;
@@ -24,26 +26,24 @@ use std::alloc::{AllocError, Global};
 ///
 /// Refuses, in order: `ReadFault`, `InputTooLong`, `InputNotUtf8`; `BadInput`, `BadLedger`, `BadIssuer`, `FreshTooShort`,
 /// `OutsideFault`, `TooLong`.
+#[tactic(auto, using(crate::proofs::RunLemmas::reads_whole, crate::proofs::RunLemmas::source_stops, crate::proofs::RunLemmas::text_comes))]
 pub(crate) fn take_answer<G: Signer, I: Source>(
     alloc: Global,
     fresh: &[u8],
     signer: &mut G,
     source: &mut I,
 ) -> Result<String, LedgerStatus>
-    ensures told { I.tells source.old → Comes (G.signs signer.old) fresh.now (I.left source.old)
+    ensures comes { I.tells source.old → Comes (G.signs signer.old) fresh.now (I.left source.old)
         (Rose (I.faults source.old) (I.faults source.new)) (Rose (G.faults signer.old) (G.faults signer.new))
         (map_ok (λ text. string_bytes text) result) }
-    ensures some { result ≢ Err LedgerStatus.InputTooLong → result ≢ Err LedgerStatus.InputNotUtf8
-        → (input : List ℕ) × Comes (G.signs signer.old) fresh.now input
+    ensures comes_for_some { (input : List ℕ) × Comes (G.signs signer.old) fresh.now input
         (Rose (I.faults source.old) (I.faults source.new)) (Rose (G.faults signer.old) (G.faults signer.new))
         (map_ok (λ text. string_bytes text) result) }
-    ensures leaves { I.tells source.old → LeavesFor result (I.left source.old) (I.left source.new) }
-    ensures taken { I.tells source.old → TakesInput (I.left source.old) (I.left source.new) }
-    ensures source_tells { I.tells source.old → I.tells source.new }
-    ensures source_calm { result ≢ Err LedgerStatus.ReadFault → I.faults source.new ≡ I.faults source.old }
-    ensures signs { (k : PublicKey) (a : Algorithm) (m s : List ℕ) → G.signs signer.new k a m s ↔ G.signs signer.old k a m s }
-    ensures signer_calm { result ≢ Err LedgerStatus.OutsideFault → G.faults signer.new ≡ G.faults signer.old }
-    ensures unasked { I.tells source.old → AsksNothing fresh.now (I.left source.old) → signer.new ≡ signer.old }
+    ensures source { ReadsInput I.tells I.left I.faults (extent_at result) source.old source.new }
+    ensures signer { LeavesDevice
+        ((k : PublicKey) (a : Algorithm) (m s : List ℕ) → G.signs signer.new k a m s ↔ G.signs signer.old k a m s)
+        G.faults (result ≡ Err LedgerStatus.OutsideFault)
+        (I.tells source.old × AsksNothing fresh.now (I.left source.old)) signer.old signer.new }
 {
     match take_text(alloc, source) {
         Ok(text) => {
@@ -56,18 +56,19 @@ pub(crate) fn take_answer<G: Signer, I: Source>(
 }
 
 /// The same for a text.
+#[tactic(auto, using(crate::proofs::RunLemmas::text_stops))]
 fn answer_to<G: Signer>(
     alloc: Global,
     fresh: &[u8],
     signer: &mut G,
     text: &str,
 ) -> Result<String, LedgerStatus>
-    ensures answers { AnswersText (G.signs signer.old) fresh.now text.now (Rose (G.faults signer.old) (G.faults signer.new))
-        (map_ok (λ text. string_bytes text) result) }
-    ensures signs { (k : PublicKey) (a : Algorithm) (m s : List ℕ) → G.signs signer.new k a m s ↔ G.signs signer.old k a m s }
-    ensures calm { result ≢ Err LedgerStatus.OutsideFault → G.faults signer.new ≡ G.faults signer.old }
-    ensures unasked { ((given : Asked) → of_text fresh.now text.now ≡ Ok given
-        → NoneAsks given.issuer.inner_key given.ledger fresh.now given.requests) → signer.new ≡ signer.old }
+    ensures comes { (input : List ℕ) → text_of input ≡ Ok text.now → Comes (G.signs signer.old) fresh.now input
+        ⊥ (Rose (G.faults signer.old) (G.faults signer.new)) (map_ok (λ text. string_bytes text) result) }
+    ensures signer { LeavesDevice
+        ((k : PublicKey) (a : Algorithm) (m s : List ℕ) → G.signs signer.new k a m s ↔ G.signs signer.old k a m s)
+        G.faults (result ≡ Err LedgerStatus.OutsideFault)
+        ((input : List ℕ) × (text_of input ≡ Ok text.now) × AsksNothing fresh.now input) signer.old signer.new }
 {
     match given_in(alloc, fresh, text) {
         Ok(given) => answer_given(alloc, given, fresh, signer),
@@ -83,12 +84,12 @@ fn answer_given<G: Signer>(
     signer: &mut G,
 ) -> Result<String, LedgerStatus>
     requires { nonce_len * length (given_shown given).requests ≤ length fresh.now }
-    ensures answers { AnswersAsked (G.signs signer.old) fresh.now (given_shown given.entry) (Rose (G.faults signer.old) (G.faults signer.new))
-        (map_ok (λ text. string_bytes text) result) }
-    ensures signs { (k : PublicKey) (a : Algorithm) (m s : List ℕ) → G.signs signer.new k a m s ↔ G.signs signer.old k a m s }
-    ensures calm { result ≢ Err LedgerStatus.OutsideFault → G.faults signer.new ≡ G.faults signer.old }
-    ensures unasked { NoneAsks given.entry.issuer.inner_key given.entry.ledger fresh.now (given_shown given.entry).requests
-        → signer.new ≡ signer.old }
+    ensures comes { (input : List ℕ) → asked fresh.now input ≡ Ok (given_shown given.entry) → Comes (G.signs signer.old) fresh.now input
+        ⊥ (Rose (G.faults signer.old) (G.faults signer.new)) (map_ok (λ text. string_bytes text) result) }
+    ensures signer { LeavesDevice
+        ((k : PublicKey) (a : Algorithm) (m s : List ℕ) → G.signs signer.new k a m s ↔ G.signs signer.old k a m s)
+        G.faults (result ≡ Err LedgerStatus.OutsideFault)
+        (NoneAsks given.entry.issuer.inner_key given.entry.ledger fresh.now (given_shown given.entry).requests) signer.old signer.new }
 {
     let Given {
         mut ledger,

@@ -17,7 +17,7 @@ use picky_text::LineReader;
 use std::alloc::Global;
 
 /// How many fresh bytes each request has.
-const NONCE_LEN: usize = 32;
+pub(crate) const NONCE_LEN: usize = 32;
 
 /// The parts before the first two lines that are exactly `%%`, and what follows these.
 #[derive(Clone, Copy)]

@@ -1,11 +1,13 @@
 //! The laws of this crate, each as the contract of a function that does nothing.
 
-ghost use Rattle.std.specs.Prelude.{◌≡◌, ◌<◌, ◌^◌, ◌++◌, ◌∷◌, ℕ, List, length, Ok, Err};
+ghost use Rattle.std.specs.Prelude.{◌≡◌, ◌<◌, ◌≤◌, ◌^◌, ◌++◌, ◌∷◌, ◌↔◌, ℕ, List, length, Ok, Err};
 ghost use Rattle.std.specs.Str.{IsUtf8};
 ghost use Rattle.picky_sshpub.specs.declared.key.SshBasePublicKey.{SshBasePublicKey as IssuerKey};
 ghost use Rattle.picky_wire.specs.Equality.{IsEquality};
+ghost use Rattle.picky_input.specs.Input.{input_limit};
 ghost use Rattle.picky_ledger.specs.Apply.{judged, Terms};
 ghost use Rattle.picky_ledger.specs.LedgerText.{ledger_in, ledger_text};
+ghost use Rattle.picky_ledger.specs.Run.{asked};
 ghost use Rattle.picky_ledger.specs.Runs.{IsAfter, Runs};
 ghost use Rattle.picky_ledger.specs.State.{IsLedger, State};
 ghost use Rattle.picky_ledger.specs.declared.entry.Entry.{Entry as AnEntry};
@@ -37,6 +39,13 @@ pub fn requests_leave_a_ledger<G: Signer>(_signer: &G)
 pub fn kept_line_is_answered_again()
     ensures { (t : Terms) (l : State) (front more : List AnEntry) (e : AnEntry) → IsLedger l → l.entries ≡ front ++ e ∷ more
         → judged t l e.request ≡ Err (replies.Again e.serial) }
+{}
+
+/// Bytes are refused as too many, or as no text, exactly where they are that.
+pub fn bytes_are_refused_for_what_they_are()
+    ensures too_long { (fresh input : List ℕ) → (asked fresh input ≡ Err LedgerStatus.InputTooLong) ↔ (input_limit < length input) }
+    ensures not_utf8 { (fresh input : List ℕ) → (asked fresh input ≡ Err LedgerStatus.InputNotUtf8)
+        ↔ ((length input ≤ input_limit) × (IsUtf8 input → ⊥)) }
 {}
 
 /// Two values are equal exactly where their contents are.

@@ -1,16 +1,17 @@
 //! Requests at a ledger, one after another.
 
-ghost use Rattle.std.specs.Prelude.{◌≡◌, ◌≢◌, ◌≤◌, ◌*◌, ◌↔◌, Err, List, ℕ, length, string_bytes};
+ghost use Rattle.std.specs.Prelude.{◌≡◌, ◌≤◌, ◌*◌, ◌↔◌, Err, List, ℕ, length, string_bytes};
 ghost use Rattle.picky_keys.specs.declared.public_key.PublicKey.{PublicKey};
 ghost use Rattle.picky_keys.specs.declared.algorithm.SignatureAlgorithm.{SignatureAlgorithm as Algorithm};
 ghost use Rattle.picky_layout.specs.Outcome.{map_ok};
 ghost use Rattle.picky_wire.specs.Count.{Rose};
 ghost use Rattle.picky_ledger.specs.Apply.{judged, LeavesSigner};
-ghost use Rattle.picky_ledger.specs.Run.{requests_in};
+ghost use Rattle.picky_ledger.specs.Run.{requests_in, LeavesDevice};
 ghost use Rattle.picky_ledger.specs.Runs.{nonce_len, NoneAsks};
 ghost use Rattle.picky_ledger.specs.inner.Comes.{AnswersLine, AnswersRequests};
 
 use crate::apply::LedgerError;
+use crate::asked::NONCE_LEN;
 use crate::ledger::Ledger;
 use crate::reading::id_of;
 use crate::reply_line::push_reply;
@@ -20,9 +21,6 @@ use picky_suite::Signer;
 use picky_text::LineReader;
 use picky_wire::{NoMemory, Text};
 use std::alloc::Global;
-
-/// How many fresh bytes each request has.
-const NONCE_LEN: usize = 32;
 
 /// The lines of the replies to the requests, which are the lines of a text that aren't empty. Each has 32 of the fresh bytes,
 /// in order. Refuses: `SignerFault`.
@@ -37,9 +35,10 @@ pub fn answer_requests<G: Signer>(
     requires { nonce_len * length (requests_in requests.now) ≤ length fresh.now }
     ensures answers { AnswersRequests (G.signs signer.old) issuer.now.inner_key ledger.old fresh.now (requests_in requests.now)
         (Rose (G.faults signer.old) (G.faults signer.new)) (map_ok (λ text. string_bytes text) result) ledger.new }
-    ensures signs { (k : PublicKey) (a : Algorithm) (m s : List ℕ) → G.signs signer.new k a m s ↔ G.signs signer.old k a m s }
-    ensures calm { result ≢ Err LedgerError.SignerFault → G.faults signer.new ≡ G.faults signer.old }
-    ensures unasked { NoneAsks issuer.now.inner_key ledger.old fresh.now (requests_in requests.now) → signer.new ≡ signer.old }
+    ensures signer { LeavesDevice
+        ((k : PublicKey) (a : Algorithm) (m s : List ℕ) → G.signs signer.new k a m s ↔ G.signs signer.old k a m s)
+        G.faults (result ≡ Err LedgerError.SignerFault)
+        (NoneAsks issuer.now.inner_key ledger.old fresh.now (requests_in requests.now)) signer.old signer.new }
 {
     let mut replies = String::new(alloc);
     let mut lines = LineReader::new(requests);
