@@ -1,14 +1,18 @@
 -- What the bytes of a source come to, status by status.
-use Rattle.std.proofs.Common.{◌≡◌, ◌⊎◌, ◌+◌, ℕ, List, [], ◌∷◌, Option, Some, None, Result, Ok, Err}
-use Rattle.std.proofs.Common.{refl, sym, ◌∙◌, ap, inl, inr, subst}
+use Rattle.std.proofs.Common.{◌≡◌, ◌⊎◌, ◌<◌, ◌+◌, ℕ, List, [], ◌∷◌, Option, Some, None, Result, Ok, Err}
+use Rattle.std.proofs.Common.{replicate, refl, sym, ◌∙◌, ap, inl, inr, subst, arith}
+use Rattle.std.proofs.lemmas.List.{length-replicate}
 use Rattle.std.proofs.lemmas.Bool.{cases_Bool}
+use Rattle.std.specs.Str.{chars, is_utf8}
 use Rattle.picky_layout.specs.Outcome.{and_then, map_err, map_ok}
 use Rattle.picky_sshkey_blob.specs.declared.error.SshPrivateKeyError.TheVariants as private
 use Rattle.picky_ppk_parts.specs.declared.error.PuttyError.TheVariants as putty
+use Rattle.picky_input.specs.Extent.{ToEnd, Anywhere}
+use Rattle.picky_input.specs.Input.{input_limit}
 use Rattle.picky_input.specs.SourceText.{Reads, text_of}
 use Rattle.picky_input.specs.declared.source_text.SourceError.{SourceError}
 use Rattle.picky_input.specs.declared.source_text.SourceError.TheVariants as source
-use Rattle.picky_input.proofs.TextLaws.{is_source_text}
+use Rattle.picky_input.proofs.TextLaws.{is_source_text, too_long_exactly}
 use Rattle.picky_key_text.specs.Form.{form_of}
 use Rattle.picky_key_text.specs.Order.{fault_as, fault_of, reading}
 use Rattle.picky_key_text.specs.Reader.{Reader}
@@ -25,12 +29,13 @@ use Rattle.picky_inventory.specs.declared.status.InventoryStatus.{InventoryStatu
 use Rattle.picky_inventory.specs.declared.status.InventoryStatus.TheVariants as statuses
 use Rattle.picky_inventory.specs.BadLine.{bad_line}
 use Rattle.picky_inventory.specs.Items.{Item, is_blank, item_line, item_of, items_from, refused}
-use Rattle.picky_inventory.specs.Listing.{FaultAt, inventory}
+use Rattle.picky_inventory.specs.Listing.{FaultAt, NoneAsks, inventory}
 use Rattle.picky_inventory.specs.OrderedText.{merged, ordered_text}
 use Rattle.picky_inventory.specs.Parted.{text_parts}
 use Rattle.picky_inventory.specs.Merging.{left_part, right_part, unless_bad}
-use Rattle.picky_inventory.specs.Run.{IsFaultOf, answer, outcome, refusal, source_status, unmerged_status}
-use Rattle.picky_inventory.specs.inner.Comes.{Comes, Gives, LeavesAt, LeavesFor, unread_status}
+use Rattle.picky_inventory.specs.Run.{IsFaultOf, SparesSuite, answer, extent_of, outcome, refusal, source_status, unmerged_status}
+use Rattle.picky_inventory.specs.inner.Comes.{Comes, Gives, extent_for, unread_status}
+use Rattle.picky_inventory.proofs.ListingLaws.{none_asks}
 
 -- ---- the refusal of a part
 
@@ -138,12 +143,12 @@ answer_cause r commands.Merging text status is = bad_cause r text status (bad_li
 
 -- ---- the bytes of a source
 
-outcome_of : (r : Reader) (command : Command) (input text : List ℕ) → text_of input ≡ Ok text
+pub outcome_of : (r : Reader) (command : Command) (input text : List ℕ) → text_of input ≡ Ok text
     → outcome r command input ≡ answer r command text
 unfolding outcome
 outcome_of r command input text is = ap (λ t. and_then (map_err source_status t) (answer r command)) is
 
-outcome_without : (r : Reader) (command : Command) (input : List ℕ) (e : SourceError) → text_of input ≡ Err e
+pub outcome_without : (r : Reader) (command : Command) (input : List ℕ) (e : SourceError) → text_of input ≡ Err e
     → outcome r command input ≡ Err (source_status e)
 unfolding outcome
 outcome_without r command input e is = ap (λ t. and_then (map_err source_status t) (answer r command)) is
@@ -172,15 +177,40 @@ source_comes r command input read_rose rose source.InputTooLong status is reads 
 source_comes r command input read_rose rose source.InputNotUtf8 status is reads count =
     inr (inr (inr (outcome_without r command input source.InputNotUtf8 reads ∙ ap Err (sym is))))
 
--- for a text the source was read to its end
-pub text_leaves : (r : Reader) (command : Command) (text : List ℕ) (rose : Type 0) (result : Result (List ℕ) InventoryStatus)
-    (before after : List ℕ) → Gives r command text rose result → after ≡ [] → LeavesFor result before after
-text_leaves r command text rose (Ok written) before after gives end = end
-text_leaves r command text rose (Err status) before after (inl want) end =
-    subst (λ s. LeavesAt s before after) (sym want) tt
-text_leaves r command text rose (Err status) before after (inr (inl fault)) end =
-    subst (λ s. LeavesAt s before after) (sym fault.0) end
-text_leaves r command text rose (Err status) before after (inr (inr failed)) end = elim (answer_cause r command text status failed) [
-  | Unread n e listing says is ↦ subst (λ s. LeavesAt s before after) (sym is) end
-  | Bad k merging says is ↦ subst (λ s. LeavesAt s before after) (sym is) end
-]
+-- each error comes of some bytes
+long_input : (n : ℕ) → input_limit < n → (input : List ℕ) × (text_of input ≡ Err source.InputTooLong)
+long_input n long = (replicate n 0, (too_long_exactly (replicate n 0)).1 (rw (length-replicate {A = ℕ} n 0) long))
+
+other_input : text_of (255 ∷ []) ≡ Err source.InputNotUtf8
+unfolding text_of is_utf8 chars
+other_input = refl
+
+pub some_input : (e : SourceError) → (input : List ℕ) × Reads (Err e) input
+some_input source.ReadFault = ([], tt)
+some_input source.NoMemory = ([], tt)
+some_input source.InputTooLong = long_input (input_limit + 1) (omega arith)
+some_input source.InputNotUtf8 = (255 ∷ [], other_input)
+
+-- ---- how far the source is read
+
+-- for a text to its end, but where memory ran out
+pub text_extent : (r : Reader) (command : Command) (text : List ℕ) (rose : Type 0) (result : Result (List ℕ) InventoryStatus)
+    → Gives r command text rose result → (extent_for result ≡ ToEnd) ⊎ (extent_for result ≡ Anywhere)
+text_extent r command text rose (Ok written) gives = inl refl
+text_extent r command text rose (Err status) (inl want) = inr (ap extent_of want)
+text_extent r command text rose (Err status) (inr (inl fault)) = inl (ap extent_of fault.0)
+text_extent r command text rose (Err status) (inr (inr failed)) = inl (elim (answer_cause r command text status failed) [
+  | Unread n e listing says is ↦ ap extent_of is
+  | Bad k merging says is ↦ ap extent_of is
+])
+
+-- ---- whether the suite is asked
+
+pub spares_text : (command : Command) (pass : Option (List ℕ)) (tells : Type 0) (input text : List ℕ)
+    → (tells → text_of input ≡ Ok text) → SparesSuite (Some command) pass tells input
+    → (command ≡ commands.Merging) ⊎ NoneAsks pass (text_parts text)
+spares_text command pass tells input text reads (inl none) = absurd (none command refl)
+spares_text command pass tells input text reads (inr (inl merges)) = inl (cc merges)
+spares_text command pass tells input text reads (inr (inr (inl (told, none)))) =
+    inr (subst (λ t. NoneAsks pass (text_parts t)) (sym (is_source_text input text (reads told)).1) none)
+spares_text command pass tells input text reads (inr (inr (inr never))) = inr (none_asks pass never (text_parts text))

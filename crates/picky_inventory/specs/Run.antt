@@ -1,5 +1,5 @@
 -- A run: what it writes for the bytes of its source, and how it ends.
-use Rattle.std.specs.Prelude.{◌≡◌, ◌↔◌, ◌<◌, ◌++◌, ℕ, List, length, take, codes, Option, Result, Ok, Err}
+use Rattle.std.specs.Prelude.{◌≡◌, ◌↔◌, ◌⊎◌, ◌<◌, ◌++◌, ℕ, false, List, length, take, codes, Option, Some, Result, Ok, Err}
 use Rattle.std.specs.Option.{IfSome}
 use Rattle.std.specs.List.{AllByRecursion}
 use Rattle.std.specs.Str.{IsUtf8}
@@ -10,10 +10,11 @@ use Rattle.picky_wire.specs.Puts.{Puts}
 use Rattle.picky_wire.specs.declared.error.WireError.{WireError}
 use Rattle.picky_wire.specs.declared.error.WireError.TheVariants as wire
 use Rattle.picky_suite.specs.Meanings.{Meanings}
-pub use Rattle.picky_input.specs.Input.{input_limit, TakesInput}
+use Rattle.picky_input.specs.Extent.{Extent, Untouched, ToFault, PastLimit, ToEnd, Anywhere}
 use Rattle.picky_input.specs.SourceText.{IsSourceText, text_of}
 use Rattle.picky_input.specs.declared.source_text.SourceError.{SourceError}
 use Rattle.picky_input.specs.declared.source_text.SourceError.TheVariants as source
+use Rattle.picky_key_text.specs.Order.{asks}
 use Rattle.picky_key_text.specs.Reader.{Reader}
 use Rattle.picky_key_text.specs.declared.error.ReadError.{ReadError}
 use Rattle.picky_inventory.specs.declared.command.Command.{Command}
@@ -24,7 +25,7 @@ use Rattle.picky_inventory.specs.declared.merging.Unmerged.{Unmerged}
 use Rattle.picky_inventory.specs.declared.merging.Unmerged.TheVariants as merges
 use Rattle.picky_inventory.specs.InOrder.{SameItems}
 use Rattle.picky_inventory.specs.Items.{Item, item_line, items_from}
-use Rattle.picky_inventory.specs.Listing.{FaultAt, inventory, inventory_of}
+use Rattle.picky_inventory.specs.Listing.{FaultAt, NoneAsks, inventory, inventory_of}
 use Rattle.picky_inventory.specs.Merging.{left_part, merging, right_part}
 use Rattle.picky_inventory.specs.OrderedText.{ordered_text}
 use Rattle.picky_inventory.specs.Parted.{text_parts}
@@ -74,34 +75,13 @@ pub record IsOutsideFault (r : Reader) (command : Command) (input : List ℕ) (r
   pub text : IsSourceText input
   pub fault : IsFaultOf r command input rose
 
--- ---- what is left and what is written
-
--- the status comes only once the source was read to its end
-abbrev pub ReadsToEnd : InventoryStatus → Type 0
-ReadsToEnd statuses.Done = Unit {0}
-ReadsToEnd (statuses.Refused n e) = Unit {0}
-ReadsToEnd statuses.Usage = ⊥
-ReadsToEnd statuses.ReadFault = ⊥
-ReadsToEnd statuses.WriteFault = Unit {0}
-ReadsToEnd statuses.OutsideFault = Unit {0}
-ReadsToEnd statuses.NoMemory = ⊥
-ReadsToEnd statuses.InputTooLong = ⊥
-ReadsToEnd statuses.InputNotUtf8 = Unit {0}
-ReadsToEnd (statuses.BadLine n) = Unit {0}
+-- ---- what Done means
 
 -- what the command writes for these bytes was written after those
 pub record WritesAnswer (r : Reader) (command : Command) (input before after : List ℕ) : Type 0 where
   pub text : List ℕ
   pub is_answer : outcome r command input ≡ Ok text
   pub written : after ≡ before ++ text
-
--- a front of it was, and not the whole
-pub record WritesPrefix (r : Reader) (command : Command) (input before after : List ℕ) : Type 0 where
-  pub text : List ℕ
-  pub is_answer : outcome r command input ≡ Ok text
-  pub len : ℕ
-  pub less : len < length text
-  pub written : after ≡ before ++ take len text
 
 -- what stands before a source's first line `%%`, and what follows it, are the inventories of two lists of texts; without
 -- such a line nothing stands before it, which is the inventory of no text
@@ -124,18 +104,24 @@ pub record WritesInventory (r : Reader) (list : List (List ℕ)) (before after :
   pub is_inventory : inventory_of r list ≡ Ok text
   pub written : after ≡ before ++ text
 
--- a status that speaks of the bytes is their outcome
-abbrev pub Explains : InventoryStatus → Result (List ℕ) InventoryStatus → Type 0
-Explains statuses.Done out = ⊥
-Explains (statuses.Refused n e) out = out ≡ Err (statuses.Refused n e)
-Explains statuses.Usage out = ⊥
-Explains statuses.ReadFault out = Unit {0}
-Explains statuses.WriteFault out = ⊥
-Explains statuses.OutsideFault out = Unit {0}
-Explains statuses.NoMemory out = Unit {0}
-Explains statuses.InputTooLong out = out ≡ Err statuses.InputTooLong
-Explains statuses.InputNotUtf8 out = out ≡ Err statuses.InputNotUtf8
-Explains (statuses.BadLine n) out = out ≡ Err (statuses.BadLine n)
+-- ---- how a run ends
+
+-- what a status says of a run over these bytes: Done that the answer was written, to a sink that tells; WriteFault that a prefix
+-- of it was, up to a fault that was counted; and any other why nothing was. Memory may run out at any time, and no command ends
+-- in Usage
+abbrev pub Ends : Reader → Command → (input : List ℕ) (read_rose suite_rose write_rose tells : Type 0) (before after : List ℕ)
+    → InventoryStatus → Type 0
+Ends r command input read_rose suite_rose write_rose tells before after statuses.Done =
+    (text : List ℕ) × (outcome r command input ≡ Ok text) × (tells → after ≡ before ++ text)
+Ends r command input read_rose suite_rose write_rose tells before after statuses.WriteFault =
+    write_rose × (text : List ℕ) × (outcome r command input ≡ Ok text)
+    × (tells → (n : ℕ) × (after ≡ before ++ take n text) × (n < length text))
+Ends r command input read_rose suite_rose write_rose tells before after statuses.Usage = ⊥
+Ends r command input read_rose suite_rose write_rose tells before after statuses.NoMemory = Unit {0}
+Ends r command input read_rose suite_rose write_rose tells before after statuses.ReadFault = read_rose
+Ends r command input read_rose suite_rose write_rose tells before after statuses.OutsideFault =
+    IsOutsideFault r command input suite_rose
+Ends r command input read_rose suite_rose write_rose tells before after status = outcome r command input ≡ Err status
 
 -- how the program ends: 0 for Done
 abbrev pub exit_code : InventoryStatus → ℕ
@@ -150,7 +136,26 @@ exit_code statuses.NoMemory = 6
 exit_code statuses.InputTooLong = 7
 exit_code statuses.InputNotUtf8 = 8
 
--- the line was put: all of it and no fault was counted, or a front of it and one was
-abbrev pub Says : {S : Type 0} → (S → Type 0) → (S → List ℕ) → (S → ℕ) → List ℕ → S → S → Type 0
-Says tells written faults line old new =
-    (r : Result (Unit {0}) WireError) × Puts tells written faults wire.WriteFault line r old new
+-- ---- what a run leaves
+
+-- how far the source was read
+abbrev pub extent_of : InventoryStatus → Extent
+extent_of statuses.Usage = Untouched
+extent_of statuses.ReadFault = ToFault
+extent_of statuses.InputTooLong = PastLimit
+extent_of statuses.NoMemory = Anywhere
+extent_of status = ToEnd
+
+-- the suite isn't asked: no command is named; or merging is; or the source tells its bytes, and none of their parts asks; or no
+-- text at all does under this passphrase
+abbrev pub SparesSuite : (named : Option Command) (pass : Option (List ℕ)) (tells : Type 0) (input : List ℕ) → Type 0
+SparesSuite named pass tells input =
+    ((command : Command) → named ≡ Some command → ⊥) ⊎ (named ≡ Some commands.Merging)
+    ⊎ (tells × NoneAsks pass (text_parts input)) ⊎ ((text : List ℕ) → asks pass text ≡ false)
+
+-- for Usage the line that says which words there are was put: all of it and no fault was counted, or a prefix of it and one was;
+-- for any other status nothing was
+abbrev pub Says : {S : Type 0} → (S → Type 0) → (S → List ℕ) → (S → ℕ) → InventoryStatus → (old new : S) → Type 0
+Says tells written faults statuses.Usage old new =
+    (r : Result (Unit {0}) WireError) × Puts tells written faults wire.WriteFault usage_line r old new
+Says tells written faults status old new = new ≡ old

@@ -1,16 +1,16 @@
 //! What a command writes for the bytes of a source.
 
-ghost use Rattle.std.specs.Prelude.{◌≡◌, ◌≢◌, ℕ, List, Err, false};
+ghost use Rattle.std.specs.Prelude.{◌≡◌, ◌⊎◌, ℕ, List, Some, Err};
 ghost use Rattle.std.specs.Option.{option_copied};
 ghost use Rattle.picky_layout.specs.Outcome.{map_err, map_ok};
 ghost use Rattle.picky_wire.specs.Count.{Rose};
 ghost use Rattle.picky_wire.specs.Gives.{Gives as GivesOrWants};
-ghost use Rattle.picky_key_text.specs.Order.{asks};
+ghost use Rattle.picky_input.specs.Extent.{LeavesDevice, ReadsInput};
 ghost use Rattle.picky_inventory.specs.Listing.{NoneAsks};
 ghost use Rattle.picky_inventory.specs.Merging.{merging};
 ghost use Rattle.picky_inventory.specs.Parted.{text_parts};
-ghost use Rattle.picky_inventory.specs.Run.{reader, unmerged_status, TakesInput};
-ghost use Rattle.picky_inventory.specs.inner.Comes.{Comes, Gives, LeavesFor};
+ghost use Rattle.picky_inventory.specs.Run.{reader, unmerged_status, SparesSuite};
+ghost use Rattle.picky_inventory.specs.inner.Comes.{extent_for, Comes, Gives};
 
 use crate::command::Command;
 use crate::listing::list_text;
@@ -35,20 +35,12 @@ pub(crate) fn take_answer<S: Suite, I: Source>(
     ensures told { I.tells source.old → Comes (reader (S.meanings suite.old) pass.entry) command (I.left source.old)
         (Rose (I.faults source.old) (I.faults source.new)) (Rose (S.faults suite.old) (S.faults suite.new))
         (map_ok (λ text. text.items) result) }
-    ensures some { result ≢ Err InventoryStatus.InputTooLong → result ≢ Err InventoryStatus.InputNotUtf8
-        → (input : List ℕ) × Comes (reader (S.meanings suite.old) pass.entry) command input
+    ensures some { (input : List ℕ) × Comes (reader (S.meanings suite.old) pass.entry) command input
         (Rose (I.faults source.old) (I.faults source.new)) (Rose (S.faults suite.old) (S.faults suite.new))
         (map_ok (λ text. text.items) result) }
-    ensures leaves { I.tells source.old → LeavesFor (map_ok (λ text. text.items) result) (I.left source.old) (I.left source.new) }
-    ensures taken { I.tells source.old → TakesInput (I.left source.old) (I.left source.new) }
-    ensures source_tells { I.tells source.old → I.tells source.new }
-    ensures source_calm { result ≢ Err InventoryStatus.ReadFault → I.faults source.new ≡ I.faults source.old }
-    ensures suite_kept { S.meanings suite.new ≡ S.meanings suite.old }
-    ensures suite_calm { result ≢ Err InventoryStatus.OutsideFault → S.faults suite.new ≡ S.faults suite.old }
-    ensures merging_asks_none { command ≡ Command.Merging → suite.new ≡ suite.old }
-    ensures unasked { I.tells source.old → NoneAsks (option_copied pass.entry) (text_parts (I.left source.old))
-        → suite.new ≡ suite.old }
-    ensures never_asked { ((text : List ℕ) → asks (option_copied pass.entry) text ≡ false) → suite.new ≡ suite.old }
+    ensures source { ReadsInput I.tells I.left I.faults (extent_for (map_ok (λ text. text.items) result)) source.old source.new }
+    ensures suite { LeavesDevice (S.meanings suite.new ≡ S.meanings suite.old) S.faults (result ≡ Err InventoryStatus.OutsideFault)
+        (SparesSuite (Some command) (option_copied pass.entry) (I.tells source.old) (I.left source.old)) suite.old suite.new }
 {
     match take_text(alloc, source) {
         Ok(text) => {
@@ -70,10 +62,8 @@ fn answer_to<S: Suite>(
 ) -> Result<Vec<u8>, InventoryStatus>
     ensures gives { Gives (reader (S.meanings suite.old) pass.entry) command text.now
         (Rose (S.faults suite.old) (S.faults suite.new)) (map_ok (λ text. text.items) result) }
-    ensures kept { S.meanings suite.new ≡ S.meanings suite.old }
-    ensures calm { result ≢ Err InventoryStatus.OutsideFault → S.faults suite.new ≡ S.faults suite.old }
-    ensures merging_asks_none { command ≡ Command.Merging → suite.new ≡ suite.old }
-    ensures unasked { NoneAsks (option_copied pass.entry) (text_parts text.now) → suite.new ≡ suite.old }
+    ensures suite { LeavesDevice (S.meanings suite.new ≡ S.meanings suite.old) S.faults (result ≡ Err InventoryStatus.OutsideFault)
+        ((command ≡ Command.Merging) ⊎ NoneAsks (option_copied pass.entry) (text_parts text.now)) suite.old suite.new }
 {
     match command {
         Command::Listing => listed(alloc, pass, suite, text),
@@ -90,9 +80,8 @@ fn listed<S: Suite>(
 ) -> Result<Vec<u8>, InventoryStatus>
     ensures gives { Gives (reader (S.meanings suite.old) pass.entry) Command.Listing text.now
         (Rose (S.faults suite.old) (S.faults suite.new)) (map_ok (λ text. text.items) result) }
-    ensures kept { S.meanings suite.new ≡ S.meanings suite.old }
-    ensures calm { result ≢ Err InventoryStatus.OutsideFault → S.faults suite.new ≡ S.faults suite.old }
-    ensures unasked { NoneAsks (option_copied pass.entry) (text_parts text.now) → suite.new ≡ suite.old }
+    ensures suite { LeavesDevice (S.meanings suite.new ≡ S.meanings suite.old) S.faults (result ≡ Err InventoryStatus.OutsideFault)
+        (NoneAsks (option_copied pass.entry) (text_parts text.now)) suite.old suite.new }
 {
     match list_text(alloc, suite, text, pass) {
         Ok(written) => Ok(written),

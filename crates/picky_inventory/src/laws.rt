@@ -1,18 +1,29 @@
-//! The laws of texts of sets, and of parts, each as the contract of a function that does nothing.
+//! The laws of texts of sets, of parts and of a run's words and bytes, each as the contract of a function that does nothing.
 
-ghost use Rattle.std.specs.Prelude.{◌≡◌, ◌≢◌, ◌↔◌, ◌++◌, ◌∷◌, ℕ, Bool, true, List, [], None, Some, Ok, AllPairs, IsUtf8};
+ghost use Rattle.std.specs.Prelude.{◌≡◌, ◌≢◌, ◌↔◌, ◌⊎◌, ◌<◌, ◌≤◌, ◌++◌, ◌∷◌, ℕ, Bool, true, List, [], length, None, Some, Ok, Err};
+ghost use Rattle.std.specs.Prelude.{AllPairs, IsUtf8};
 ghost use Rattle.std.specs.Option.{IfSome};
 ghost use Rattle.std.specs.List.{AllByRecursion};
 ghost use Rattle.std.specs.List.Sorted.{IsStrictlySortedBy};
 ghost use Rattle.picky_issuing.specs.Parts.{IsCut, HasNoMark, lines_with_ends, mark_lf};
+ghost use Rattle.picky_input.specs.Input.{input_limit};
+ghost use Rattle.picky_input.specs.SourceText.{IsSourceText};
 ghost use Rattle.picky_key_text.specs.Reader.{Reader};
+ghost use Rattle.picky_key_text.specs.Want.{IsFault, WantsMemory};
 ghost use Rattle.picky_inventory.specs.BadLine.{IsInventory, bad_line};
+ghost use Rattle.picky_inventory.specs.Command.{Names};
 ghost use Rattle.picky_inventory.specs.InOrder.{SameItems, line_cmp};
 ghost use Rattle.picky_inventory.specs.ItemLine.{is_item_line};
 ghost use Rattle.picky_inventory.specs.Items.{IsItem, Item, item_line, items_from};
+ghost use Rattle.picky_inventory.specs.Listing.{inventory};
 ghost use Rattle.picky_inventory.specs.Merging.{left_part, merged_or_bad, merging, right_part};
 ghost use Rattle.picky_inventory.specs.OrderedText.{IsWholeLine, HasWholeLines, IsFirstBad, Tells, first_bad, merged, ordered_text};
 ghost use Rattle.picky_inventory.specs.Parted.{text_parts};
+ghost use Rattle.picky_inventory.specs.Run.{outcome};
+
+use crate::command::Command;
+use crate::status::InventoryStatus;
+use picky_key_text::ReadError;
 
 /// One set has one text. Where the lines tell the items apart, two texts are equal exactly where the sets are.
 pub fn text_is_of_its_set<T>()
@@ -121,4 +132,29 @@ pub fn parts_give_items()
     ensures utf8 { (text : List ℕ) → IsUtf8 text → AllByRecursion IsUtf8 (text_parts text) }
     ensures items { (r : Reader) (n : ℕ) (parts : List (List ℕ)) (items : List Item) → AllByRecursion IsUtf8 parts
         → IfSome r.pass IsUtf8 → items_from r n parts ≡ Ok items → AllByRecursion IsItem items }
+{}
+
+/// Words name one command, or none.
+pub fn words_name_a_command_or_none()
+    ensures { (words : List (List ℕ)) → ((c : Command) × Names words c) ⊎ ((c : Command) → Names words c → ⊥) }
+{}
+
+/// The bytes of a source are refused exactly where they are too many, or no text, or a text that the command refuses.
+pub fn bytes_are_refused_exactly()
+    ensures too_long { (r : Reader) (c : Command) (input : List ℕ)
+        → (outcome r c input ≡ Err InventoryStatus.InputTooLong) ↔ (input_limit < length input) }
+    ensures not_utf8 { (r : Reader) (c : Command) (input : List ℕ)
+        → (outcome r c input ≡ Err InventoryStatus.InputNotUtf8) ↔ ((length input ≤ input_limit) × (IsUtf8 input → ⊥)) }
+    ensures refused { (r : Reader) (c : Command) (input : List ℕ) (n : ℕ) (e : ReadError)
+        → (outcome r c input ≡ Err (InventoryStatus.Refused n e))
+        ↔ ((c ≡ Command.Listing) × IsSourceText input × (inventory r input ≡ Err (n, e))) }
+    ensures bad_line { (r : Reader) (c : Command) (input : List ℕ) (k : ℕ)
+        → (outcome r c input ≡ Err (InventoryStatus.BadLine k))
+        ↔ ((c ≡ Command.Merging) × IsSourceText input × (bad_line (left_part input) (right_part input) ≡ Some k)) }
+{}
+
+/// The refusal of a text says at no depth that memory ran out or that the suite failed.
+pub fn refusals_tell_of_no_device()
+    ensures { (r : Reader) (text : List ℕ) (n : ℕ) (e : ReadError) → inventory r text ≡ Err (n, e)
+        → (WantsMemory e → ⊥) × (IsFault e → ⊥) }
 {}

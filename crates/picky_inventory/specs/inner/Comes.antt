@@ -1,5 +1,6 @@
 -- Words of this crate's private contracts: what a run comes to, status by status.
-use Rattle.std.specs.Prelude.{◌≡◌, ◌⊎◌, ◌<◌, ◌+◌, ◌++◌, ℕ, List, [], length, take, drop, Result, Ok, Err}
+use Rattle.std.specs.Prelude.{◌≡◌, ◌⊎◌, ℕ, List, Result, Ok, Err}
+use Rattle.picky_input.specs.Extent.{Extent, ToEnd}
 use Rattle.picky_sshkey_blob.specs.declared.error.SshPrivateKeyError.TheVariants as private
 use Rattle.picky_ppk_parts.specs.declared.error.PuttyError.TheVariants as putty
 use Rattle.picky_key_text.specs.Reader.{Reader}
@@ -8,7 +9,7 @@ use Rattle.picky_key_text.specs.declared.error.ReadError.TheVariants as errors
 use Rattle.picky_inventory.specs.declared.command.Command.{Command}
 use Rattle.picky_inventory.specs.declared.status.InventoryStatus.{InventoryStatus}
 use Rattle.picky_inventory.specs.declared.status.InventoryStatus.TheVariants as statuses
-use Rattle.picky_inventory.specs.Run.{IsFaultOf, IsOutsideFault, answer, input_limit, outcome}
+use Rattle.picky_inventory.specs.Run.{IsFaultOf, IsOutsideFault, answer, extent_of, outcome}
 
 -- a part that isn't read, where want of memory is the run's, and the suite's fault is the one from outside
 abbrev pub unread_status : ℕ → ReadError → InventoryStatus
@@ -33,30 +34,7 @@ Comes r command input read_rose suite_rose (Err status) =
     ⊎ ((status ≡ statuses.OutsideFault) × IsOutsideFault r command input suite_rose)
     ⊎ (outcome r command input ≡ Err status)
 
--- how a run ends for the bytes of its source
-abbrev pub Ends : Reader → Command → (input : List ℕ) (read_rose suite_rose write_rose tells : Type 0) (before after : List ℕ)
-    → InventoryStatus → Type 0
-Ends r command input read_rose suite_rose write_rose tells before after statuses.Done =
-    (text : List ℕ) × (outcome r command input ≡ Ok text) × (tells → after ≡ before ++ text)
-Ends r command input read_rose suite_rose write_rose tells before after statuses.WriteFault =
-    write_rose × (text : List ℕ) × (outcome r command input ≡ Ok text)
-    × (tells → (n : ℕ) × (after ≡ before ++ take n text) × (n < length text))
-Ends r command input read_rose suite_rose write_rose tells before after statuses.Usage = ⊥
-Ends r command input read_rose suite_rose write_rose tells before after statuses.NoMemory = Unit {0}
-Ends r command input read_rose suite_rose write_rose tells before after statuses.ReadFault = read_rose
-Ends r command input read_rose suite_rose write_rose tells before after statuses.OutsideFault =
-    IsOutsideFault r command input suite_rose
-Ends r command input read_rose suite_rose write_rose tells before after status = outcome r command input ≡ Err status
-
--- what is left of the source, by how the run ends
-abbrev pub LeavesAt : InventoryStatus → (before after : List ℕ) → Type 0
-LeavesAt statuses.Usage before after = after ≡ before
-LeavesAt statuses.NoMemory before after = Unit {0}
-LeavesAt statuses.ReadFault before after = length before < input_limit + 1 + length after
-LeavesAt statuses.InputTooLong before after = after ≡ drop (input_limit + 1) before
-LeavesAt status before after = after ≡ []
-
--- and by what is answered
-abbrev pub LeavesFor : Result (List ℕ) InventoryStatus → (before after : List ℕ) → Type 0
-LeavesFor (Ok text) before after = after ≡ []
-LeavesFor (Err status) before after = LeavesAt status before after
+-- how far the source was read
+abbrev pub extent_for : Result (List ℕ) InventoryStatus → Extent
+extent_for (Ok text) = ToEnd
+extent_for (Err status) = extent_of status

@@ -11,7 +11,10 @@ returns-in-Err-clause-gives g c =
     (Rose (g.S.Suite.faults c.args.suite.now) (g.S.Suite.faults c.list_text.new.suite)) c.in-Err.unread.part c.in-Err.unread.error
     c.unread_status.result c.unread_status.ensures c.in-Err.ensures.gives
 
-pub returns-in-Err-clause-calm : goal.returns-in-Err-clause-calm
-returns-in-Err-clause-calm g c = λ other.
-    c.in-Err.ensures.calm_unless_fault
-    (λ fault. other (ap Err (c.unread_status.ensures ∙ fault_status c.in-Err.unread.part c.in-Err.unread.error fault)))
+pub returns-in-Err-clause-suite : goal.returns-in-Err-clause-suite
+returns-in-Err-clause-suite g c = record {
+  kept = c.in-Err.ensures.kept;
+  calm = λ other. c.in-Err.ensures.calm_unless_fault
+      (λ fault. other (ap Err (c.unread_status.ensures ∙ fault_status c.in-Err.unread.part c.in-Err.unread.error fault)));
+  unasked = c.in-Err.ensures.unasked;
+}

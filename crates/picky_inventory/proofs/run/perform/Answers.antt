@@ -9,9 +9,16 @@ returns-clause-told g c = λ told.
     _ _ _ _ _ _ c.in-Err.status (c.in-Err.ensures.told told)
 
 pub returns-clause-some : goal.returns-clause-some
-returns-clause-some g c = λ long text.
-    let some = c.in-Err.ensures.some (λ is. long (cc is)) (λ is. text (cc is)) in (
+returns-clause-some g c =
+    let some = c.in-Err.ensures.some in (
       some.0,
       comes_ends (reader (g.S.Suite.meanings c.args.suite.now) c.args.pass) c.args.command some.0
           _ _ _ _ _ _ c.in-Err.status some.1,
     )
+
+pub returns-clause-suite : goal.returns-clause-suite
+returns-clause-suite g c = record {
+  kept = c.in-Err.ensures.suite.kept;
+  calm = λ other. c.in-Err.ensures.suite.calm (λ is. other (cc is));
+  unasked = c.in-Err.ensures.suite.unasked;
+}
