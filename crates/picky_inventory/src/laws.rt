@@ -140,7 +140,7 @@ pub fn words_name_a_command_or_none()
 {}
 
 /// The bytes of a source are refused exactly where they are too many, or no text, or a text that the command refuses.
-pub fn bytes_are_refused_exactly()
+pub fn bytes_are_refused_for_what_they_are()
     ensures too_long { (r : Reader) (c : Command) (input : List ℕ)
         → (outcome r c input ≡ Err InventoryStatus.InputTooLong) ↔ (input_limit < length input) }
     ensures not_utf8 { (r : Reader) (c : Command) (input : List ℕ)

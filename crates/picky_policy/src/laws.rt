@@ -63,7 +63,7 @@ pub fn words_name_one_or_none()
 {}
 
 /// The bytes of a source are refused exactly where they are too many; or few enough and not UTF-8; or a text whose offer isn't read.
-pub fn sources_are_refused_exactly()
+pub fn bytes_are_refused_for_what_they_are()
     ensures too_long { (input : List ℕ) → (offered input ≡ Err PolicyStatus.InputTooLong) ↔ (input_limit < length input) }
     ensures not_utf8 { (input : List ℕ) → (offered input ≡ Err PolicyStatus.InputNotUtf8)
         ↔ ((length input ≤ input_limit) × (IsUtf8 input → ⊥)) }
