@@ -43,6 +43,7 @@ pub use Rattle.picky_wire.specs.Reading
 pub use Rattle.picky_wire.specs.Takes
 pub use Rattle.picky_wire.specs.Unread
 pub use Rattle.picky_wire.specs.View as WireView
+pub use Rattle.picky_input.specs.Extent
 pub use Rattle.picky_input.specs.Input
 pub use Rattle.picky_input.specs.SourceText
 pub use Rattle.picky_keys.specs.NameTables as KeyNameTables

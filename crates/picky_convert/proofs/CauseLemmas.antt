@@ -1,9 +1,8 @@
 -- Which statuses a run can have for the bytes of its source.
-use Rattle.std.proofs.Common.{◌≡◌, ℕ, ◌<◌, ◌≤◌, arith, List, length, Bool, true, false, Result, Ok, Err, refl, sym, ap, ◌∙◌, subst, nat_lt, if◌then◌else◌, ◌≢◌, ◌⊎◌, inl, inr}
+use Rattle.std.proofs.Common.{◌≡◌, ℕ, ◌<◌, ◌++◌, List, length, Bool, true, false, Result, Ok, Err, refl, sym, ap, subst, nat_lt, if◌then◌else◌, ◌⊎◌, inl, inr}
 use Rattle.std.proofs.lemmas.Bool.{lt-ltb, ltb-true}
 use Rattle.std.proofs.lemmas.Str.{is_utf8-from_IsUtf8}
 use Rattle.std.specs.Str.{IsUtf8, is_utf8}
-use Rattle.std.specs.Prelude.{IfOk, IfErr}
 use Rattle.picky_layout.specs.Outcome.{map_err}
 use Rattle.picky_target.specs.declared.error.ConvertError.{ConvertError}
 use Rattle.picky_target.specs.declared.error.ConvertError.TheVariants as errors
@@ -14,9 +13,10 @@ use Rattle.picky_convert.specs.declared.error.Status.TheVariants as statuses
 use Rattle.picky_convert.specs.Command.{answer}
 use Rattle.picky_conversion.specs.Made.{Made, Writes, is_signed}
 use Rattle.picky_conversion.specs.Outside.{Outside}
-use Rattle.picky_convert.specs.Run.{input_limit, outcome, outcome_asks, outcome_signs, CanRefuse, Explains, IsOutsideFault, IsTooLongFor}
-use Rattle.picky_convert.specs.inner.Causes.{CanCome, Performs}
+use Rattle.picky_wire.specs.Count.{Rose}
+use Rattle.picky_convert.specs.Run.{input_limit, outcome, outcome_asks, outcome_signs, Ends, IsOutsideFault, IsTooLongFor, Moment, Refuses}
 use Rattle.picky_conversion.proofs.CertifyLemmas.{own_length}
+use Rattle.picky_conversion.proofs.JudgedLemmas.{IsOwn}
 use Rattle.picky_convert.proofs.OutcomeLemmas.{answer_is_own}
 
 -- ---- the statuses of an outcome
@@ -45,37 +45,6 @@ outcome_err o command input status refused = go (nat_lt input_limit (length inpu
     go false true long_is utf8_is same = refusal o command input (answer o command input) status refl same
     go false false long_is utf8_is same = NoText (λ is. cc (utf8_is, is_utf8-from_IsUtf8 input is)) (cc same)
 
--- a status that is answered can come, and explains itself
-abbrev pub IsSettled : Relation → Status → Type 0 → Result Made Status → Type 0
-IsSettled signs status read for_input = CanCome status read × Explains signs status for_input
-
-settled_at : (signs : Relation) (o : Outside) (command : Command) (input : List ℕ) (status : Status) (read : Type 0)
-    → outcome o command input ≡ Err status → IsSettled signs status read (outcome o command input)
-settled_at signs o command input status read refused = go (outcome_err o command input status refused)
-  where
-    go : Cause o command input status → IsSettled signs status read (outcome o command input)
-    go (TooLong long is) =
-        let at = refused ∙ ap Err is in
-        subst (λ s. IsSettled signs s read (outcome o command input)) (sym is) (tt, at)
-    go (NoText none is) =
-        let at = refused ∙ ap Err is in
-        subst (λ s. IsSettled signs s read (outcome o command input)) (sym is) (tt, at)
-    go (Refused e why is) =
-        let at = refused ∙ ap Err is in
-        subst (λ s. IsSettled signs s read (outcome o command input)) (sym is) (answer_is_own o command input e why, inl at)
-
-settles : {X : Type 0} (signs : Relation) (view : X → List ℕ) (o : Outside) (command : Command) (input : List ℕ) (status : Status)
-    (read suite_rose signer_rose : Type 0) → Performs {X = X} signs view o command input suite_rose signer_rose (Err status)
-    → IsSettled signs status read (outcome o command input)
-settles signs view o command input status read suite_rose signer_rose (inl memory) =
-    subst (λ s. IsSettled signs s read (outcome o command input)) (sym memory) (tt, tt)
-settles signs view o command input status read suite_rose signer_rose (inr (inl fault)) =
-    subst (λ s. IsSettled signs s read (outcome o command input)) (sym fault.0) (tt, tt)
-settles signs view o command input status read suite_rose signer_rose (inr (inr (inl long))) =
-    subst (λ s. IsSettled signs s read (outcome o command input)) (sym long.0) (own_length, inr (refl, long.1))
-settles signs view o command input status read suite_rose signer_rose (inr (inr (inr refused))) =
-    settled_at signs o command input status read refused
-
 -- more bytes than the limit
 pub outcome_long : (o : Outside) (command : Command) (input : List ℕ) → input_limit < length input
     → outcome o command input ≡ Err statuses.InputTooLong
@@ -100,65 +69,15 @@ no_text_of o command input refused = elim (outcome_err o command input statuses.
   | Refused e why is ↦ cc is
 ]
 
-no_fault_of : (o : Outside) (command : Command) (input : List ℕ) → outcome o command input ≡ Err statuses.OutsideFault → ⊥
-no_fault_of o command input refused = elim (outcome_err o command input statuses.OutsideFault refused) [
+-- a refusal neither says that memory ran out nor that a device failed
+pub refused_is_own : (signs : Relation) (o : Outside) (command : Command) (input : List ℕ) (e : ConvertError)
+    → Refuses signs (outcome o command input) e → IsOwn e
+refused_is_own signs o command input e (inl refused) = elim (outcome_err o command input (statuses.Refused e) refused) [
   | TooLong long is ↦ cc is
   | NoText none is ↦ cc is
-  | Refused e why is ↦ cc is
+  | Refused f why is ↦ let same : f ≡ e = cc is in subst IsOwn same (answer_is_own o command input f why)
 ]
-
--- ---- what `perform` gives
-
-pub can_come : {X : Type 0} (signs : Relation) (view : X → List ℕ) (o : Outside) (command : Command) (input : List ℕ)
-    (read suite_rose signer_rose : Type 0) (r : Result X Status) → Performs signs view o command input suite_rose signer_rose r
-    → IfErr r (λ status. CanCome status read)
-can_come signs view o command input read suite_rose signer_rose (Ok x) gives = tt
-can_come signs view o command input read suite_rose signer_rose (Err status) gives =
-    (settles signs view o command input status read suite_rose signer_rose gives).0
-
-pub explained : {X : Type 0} (signs : Relation) (view : X → List ℕ) (o : Outside) (command : Command) (input : List ℕ)
-    (suite_rose signer_rose : Type 0) (r : Result X Status) → Performs signs view o command input suite_rose signer_rose r
-    → IfErr r (λ status. Explains signs status (outcome o command input))
-explained signs view o command input suite_rose signer_rose (Ok x) gives = tt
-explained signs view o command input suite_rose signer_rose (Err status) gives =
-    (settles signs view o command input status (Unit {0}) suite_rose signer_rose gives).1
-
--- a refusal is one that some bytes have
-pub refused_so : {X : Type 0} (signs : Relation) (view : X → List ℕ) (o : Outside) (command : Command) (input : List ℕ)
-    (suite_rose signer_rose : Type 0) (r : Result X Status) → Performs signs view o command input suite_rose signer_rose r
-    → IfErr r (λ status. (e : ConvertError) → status ≡ statuses.Refused e → CanRefuse signs o command e)
-refused_so signs view o command input suite_rose signer_rose (Ok x) gives = tt
-refused_so signs view o command input suite_rose signer_rose (Err status) gives = λ e is.
-    let why = (settles signs view o command input status (Unit {0}) suite_rose signer_rose gives).1 in
-    (input, subst (λ s. Explains signs s (outcome o command input)) is why)
-
--- and a text that is answered is the answer to some bytes
-pub answered_so : {X : Type 0} (signs : Relation) (view : X → List ℕ) (o : Outside) (command : Command) (input : List ℕ)
-    (suite_rose signer_rose : Type 0) (r : Result X Status) → Performs signs view o command input suite_rose signer_rose r
-    → IfOk r (λ x. (some : List ℕ) × Writes signs (outcome o command some) (view x))
-answered_so signs view o command input suite_rose signer_rose (Ok x) gives = (input, gives)
-answered_so signs view o command input suite_rose signer_rose (Err status) gives = tt
-
--- a fault from outside is answered only where it is one
-pub outside_so : {X : Type 0} (signs : Relation) (view : X → List ℕ) (o : Outside) (command : Command) (input : List ℕ)
-    (suite_rose signer_rose : Type 0) (r : Result X Status) → Performs signs view o command input suite_rose signer_rose r
-    → r ≡ Err statuses.OutsideFault → IsOutsideFault o command input suite_rose signer_rose
-outside_so signs view o command input suite_rose signer_rose (Ok x) gives is = cc is
-outside_so signs view o command input suite_rose signer_rose (Err status) (inl want) is = cc (want, is)
-outside_so signs view o command input suite_rose signer_rose (Err status) (inr (inl fault)) is = fault.1
-outside_so signs view o command input suite_rose signer_rose (Err status) (inr (inr (inl long))) is = cc (long.0, is)
-outside_so signs view o command input suite_rose signer_rose (Err status) (inr (inr (inr refused))) is =
-    absurd (no_fault_of o command input (refused ∙ ap Err (cc is)))
-
--- bytes that are few enough are not called too long
-pub short_enough : {X : Type 0} (signs : Relation) (view : X → List ℕ) (o : Outside) (command : Command) (input : List ℕ)
-    (suite_rose signer_rose Left : Type 0) (r : Result X Status) → length input ≤ input_limit
-    → Performs signs view o command input suite_rose signer_rose r → IfErr r (λ status. status ≡ statuses.InputTooLong → Left)
-short_enough signs view o command input suite_rose signer_rose Left (Ok x) short gives = tt
-short_enough signs view o command input suite_rose signer_rose Left (Err status) short gives = λ is.
-    let why = (settles signs view o command input status (Unit {0}) suite_rose signer_rose gives).1 in
-    let long = long_of o command input (subst (λ s. Explains signs s (outcome o command input)) is why) in
-    absurd (omega (arith, short, long))
+refused_is_own signs o command input e (inr long) = subst IsOwn (sym long.0) own_length
 
 -- ---- how a run ends where nothing was counted
 
@@ -169,63 +88,48 @@ no_outside : (o : Outside) (command : Command) (input : List ℕ) (suite_rose si
 no_outside o command input suite_rose signer_rose (inl fault) calm still = calm fault.0 fault.1
 no_outside o command input suite_rose signer_rose (inr fault) calm still = still fault.0 fault.1
 
+-- what a run that is done wrote
+pub wrote_all : (signs : Relation) (o : Outside) (command : Command) (input : List ℕ) (tells : Type 0) (old new : Moment) (status : Status)
+    → status ≡ statuses.Done → Ends signs o command input tells old new status
+    → (text : List ℕ) × Writes signs (outcome o command input) text × (tells → new.written ≡ old.written ++ text)
+wrote_all signs o command input tells old new status is ends = subst (λ s. Ends signs o command input tells old new s) is ends
+
 -- where the command comes to something and nothing was counted, the run is done, wants memory, or the signature was too long
-pub settled : (signs : Relation) (o : Outside) (command : Command) (input : List ℕ) (status : Status) (made : Made)
-    (read write suite_rose signer_rose : Type 0) → outcome o command input ≡ Ok made → (read → ⊥) → (write → ⊥)
-    → (outcome_asks o command input ≡ true → suite_rose → ⊥) → (outcome_signs o command input ≡ true → signer_rose → ⊥)
-    → (status ≢ statuses.Usage) → (status ≡ statuses.WriteFault → write)
-    → (status ≡ statuses.OutsideFault → IsOutsideFault o command input suite_rose signer_rose)
-    → (status ≢ statuses.Done → status ≢ statuses.WriteFault → status ≢ statuses.Usage → IsSettled signs status read (outcome o command input))
-    → (status ≡ statuses.Done) ⊎ (status ≡ statuses.NoMemory)
+pub settled : (signs : Relation) (o : Outside) (command : Command) (input : List ℕ) (tells : Type 0) (old new : Moment) (status : Status)
+    (made : Made) → outcome o command input ≡ Ok made → (Rose old.source_faults new.source_faults → ⊥)
+    → (Rose old.sink_faults new.sink_faults → ⊥)
+    → (outcome_asks o command input ≡ true → Rose old.suite_faults new.suite_faults → ⊥)
+    → (outcome_signs o command input ≡ true → Rose old.signer_faults new.signer_faults → ⊥)
+    → Ends signs o command input tells old new status → (status ≡ statuses.Done) ⊎ (status ≡ statuses.NoMemory)
     ⊎ ((status ≡ statuses.Refused errors.TooLong) × IsTooLongFor signs (outcome o command input))
-settled signs o command input statuses.Done made read write suite_rose signer_rose ok calm_in calm_out calm still named wrote outside taken = inl refl
-settled signs o command input statuses.Usage made read write suite_rose signer_rose ok calm_in calm_out calm still named wrote outside taken =
-    absurd (named refl)
-settled signs o command input statuses.WriteFault made read write suite_rose signer_rose ok calm_in calm_out calm still named wrote outside taken =
-    absurd (calm_out (wrote refl))
-settled signs o command input statuses.NoMemory made read write suite_rose signer_rose ok calm_in calm_out calm still named wrote outside taken =
-    inr (inl refl)
-settled signs o command input statuses.ReadFault made read write suite_rose signer_rose ok calm_in calm_out calm still named wrote outside taken =
-    absurd (calm_in (taken (λ is. cc is) (λ is. cc is) (λ is. cc is)).0)
-settled signs o command input statuses.OutsideFault made read write suite_rose signer_rose ok calm_in calm_out calm still named wrote outside taken =
-    absurd (no_outside o command input suite_rose signer_rose (outside refl) calm still)
-settled signs o command input (statuses.Refused e) made read write suite_rose signer_rose ok calm_in calm_out calm still named wrote outside taken =
-    elim (taken (λ is. cc is) (λ is. cc is) (λ is. cc is)).1 [
-      | inl refused ↦ cc (ok, refused)
-      | inr long ↦ inr (inr (ap statuses.Refused long.0, long.1))
-    ]
-settled signs o command input statuses.InputTooLong made read write suite_rose signer_rose ok calm_in calm_out calm still named wrote outside taken =
-    let why = (taken (λ is. cc is) (λ is. cc is) (λ is. cc is)).1 in cc (ok, why)
-settled signs o command input statuses.InputNotUtf8 made read write suite_rose signer_rose ok calm_in calm_out calm still named wrote outside taken =
-    let why = (taken (λ is. cc is) (λ is. cc is) (λ is. cc is)).1 in cc (ok, why)
+settled signs o command input tells old new statuses.Done made ok calm_in calm_out calm still ends = inl refl
+settled signs o command input tells old new statuses.Usage made ok calm_in calm_out calm still ends = absurd ends
+settled signs o command input tells old new statuses.WriteFault made ok calm_in calm_out calm still ends = absurd (calm_out ends.3)
+settled signs o command input tells old new statuses.NoMemory made ok calm_in calm_out calm still ends = inr (inl refl)
+settled signs o command input tells old new statuses.ReadFault made ok calm_in calm_out calm still ends = absurd (calm_in ends.1)
+settled signs o command input tells old new statuses.OutsideFault made ok calm_in calm_out calm still ends =
+    absurd (no_outside o command input _ _ ends calm still)
+settled signs o command input tells old new (statuses.Refused e) made ok calm_in calm_out calm still (inl refused) = cc (ok, refused)
+settled signs o command input tells old new (statuses.Refused e) made ok calm_in calm_out calm still (inr long) =
+    inr (inr (ap statuses.Refused long.0, long.1))
+settled signs o command input tells old new statuses.InputTooLong made ok calm_in calm_out calm still ends = cc (ok, ends)
+settled signs o command input tells old new statuses.InputNotUtf8 made ok calm_in calm_out calm still ends = cc (ok, ends)
 
 -- where it comes to nothing, the run ends so, or wants memory
-pub ends_so : (signs : Relation) (o : Outside) (command : Command) (input : List ℕ) (status said : Status)
-    (read suite_rose signer_rose : Type 0) → outcome o command input ≡ Err said → (read → ⊥)
-    → (outcome_asks o command input ≡ true → suite_rose → ⊥) → (status ≢ statuses.Usage)
-    → (status ≡ statuses.Done → (text : List ℕ) × Writes signs (outcome o command input) text)
-    → (status ≡ statuses.WriteFault → (text : List ℕ) × Writes signs (outcome o command input) text)
-    → (status ≡ statuses.OutsideFault → IsOutsideFault o command input suite_rose signer_rose)
-    → (status ≢ statuses.Done → status ≢ statuses.WriteFault → status ≢ statuses.Usage → IsSettled signs status read (outcome o command input))
-    → (status ≡ said) ⊎ (status ≡ statuses.NoMemory)
-ends_so signs o command input statuses.Done said read suite_rose signer_rose refused calm_in calm named done wrote outside taken =
-    let found = (done refl).1 in cc (refused, found.1)
-ends_so signs o command input statuses.Usage said read suite_rose signer_rose refused calm_in calm named done wrote outside taken =
-    absurd (named refl)
-ends_so signs o command input statuses.WriteFault said read suite_rose signer_rose refused calm_in calm named done wrote outside taken =
-    let found = (wrote refl).1 in cc (refused, found.1)
-ends_so signs o command input statuses.NoMemory said read suite_rose signer_rose refused calm_in calm named done wrote outside taken = inr refl
-ends_so signs o command input statuses.ReadFault said read suite_rose signer_rose refused calm_in calm named done wrote outside taken =
-    absurd (calm_in (taken (λ is. cc is) (λ is. cc is) (λ is. cc is)).0)
-ends_so signs o command input statuses.OutsideFault said read suite_rose signer_rose refused calm_in calm named done wrote outside taken =
-    absurd (no_outside o command input suite_rose signer_rose (outside refl) calm
-    (λ signed. let none = ap is_signed refused in cc (none, signed)))
-ends_so signs o command input (statuses.Refused e) said read suite_rose signer_rose refused calm_in calm named done wrote outside taken =
-    elim (taken (λ is. cc is) (λ is. cc is) (λ is. cc is)).1 [
-      | inl so ↦ inl (cc (refused, so))
-      | inr long ↦ let made = long.1 in cc (refused, made.1)
-    ]
-ends_so signs o command input statuses.InputTooLong said read suite_rose signer_rose refused calm_in calm named done wrote outside taken =
-    let why = (taken (λ is. cc is) (λ is. cc is) (λ is. cc is)).1 in inl (cc (refused, why))
-ends_so signs o command input statuses.InputNotUtf8 said read suite_rose signer_rose refused calm_in calm named done wrote outside taken =
-    let why = (taken (λ is. cc is) (λ is. cc is) (λ is. cc is)).1 in inl (cc (refused, why))
+pub ends_so : (signs : Relation) (o : Outside) (command : Command) (input : List ℕ) (tells : Type 0) (old new : Moment)
+    (status said : Status) → outcome o command input ≡ Err said → (Rose old.source_faults new.source_faults → ⊥)
+    → (outcome_asks o command input ≡ true → Rose old.suite_faults new.suite_faults → ⊥)
+    → Ends signs o command input tells old new status → (status ≡ said) ⊎ (status ≡ statuses.NoMemory)
+ends_so signs o command input tells old new statuses.Done said refused calm_in calm ends = let found = ends.1 in cc (refused, found.1)
+ends_so signs o command input tells old new statuses.Usage said refused calm_in calm ends = absurd ends
+ends_so signs o command input tells old new statuses.WriteFault said refused calm_in calm ends =
+    let found = ends.1 in cc (refused, found.1)
+ends_so signs o command input tells old new statuses.NoMemory said refused calm_in calm ends = inr refl
+ends_so signs o command input tells old new statuses.ReadFault said refused calm_in calm ends = absurd (calm_in ends.1)
+ends_so signs o command input tells old new statuses.OutsideFault said refused calm_in calm ends =
+    absurd (no_outside o command input _ _ ends calm (λ signed. let none = ap is_signed refused in cc (none, signed)))
+ends_so signs o command input tells old new (statuses.Refused e) said refused calm_in calm (inl so) = inl (cc (refused, so))
+ends_so signs o command input tells old new (statuses.Refused e) said refused calm_in calm (inr long) =
+    let made = long.1 in cc (refused, made.1)
+ends_so signs o command input tells old new statuses.InputTooLong said refused calm_in calm ends = inl (cc (refused, ends))
+ends_so signs o command input tells old new statuses.InputNotUtf8 said refused calm_in calm ends = inl (cc (refused, ends))

@@ -1,5 +1,5 @@
 -- Lemmas on what is written for the bytes of a source, and on the status of a refusal.
-use Rattle.std.proofs.Common.{◌≡◌, ◌≤◌, ℕ, List, Bool, length, Result, Ok, Err, refl, sym, ap, ◌∙◌, subst, ◌⊎◌, inl, inr}
+use Rattle.std.proofs.Common.{◌≡◌, ◌≤◌, ℕ, List, false, length, Result, Ok, Err, refl, sym, ap, ◌∙◌, subst, ◌⊎◌, inl, inr}
 use Rattle.std.proofs.lemmas.Bool.{le-ltb, le-leb, cases_Bool}
 use Rattle.std.proofs.lemmas.Str.{is_utf8-from_IsUtf8, IsUtf8-from_is_utf8}
 use Rattle.std.specs.Str.{IsUtf8, is_utf8}
@@ -19,7 +19,6 @@ use Rattle.picky_target.specs.Written.{written}
 use Rattle.picky_cert_target.specs.Certified.{Relation}
 use Rattle.picky_convert.specs.declared.command.Command.{Command}
 use Rattle.picky_convert.specs.declared.command.Command.TheVariants as commands
-use Rattle.picky_convert.specs.declared.error.Status.{Status}
 use Rattle.picky_convert.specs.declared.error.Status.TheVariants as statuses
 use Rattle.picky_conversion.specs.Certify.{hex_line}
 use Rattle.picky_convert.specs.Command.{IsFaultFor, answer, answering_asks, fingerprints}
@@ -28,10 +27,11 @@ use Rattle.picky_convert.specs.Fingerprint.{fingerprint_text}
 use Rattle.picky_conversion.specs.Issue.{issued, issued_bytes, unsigned}
 use Rattle.picky_conversion.specs.Made.{Answers, IsUnwritten, LeavesSigner, Made, ToSign, Whole, Writes, is_signed}
 use Rattle.picky_conversion.specs.Outside.{Outside, reader}
-use Rattle.picky_convert.specs.Run.{IsOutsideFault, IsTooLongFor, input_limit, outcome, outcome_asks, outcome_signs}
+use Rattle.picky_convert.specs.Run.{Devices, Stops, input_limit, outcome, outcome_asks, outcome_signs}
 use Rattle.picky_conversion.specs.Want.{IsFault, IsSignerFault, WantsMemory}
-use Rattle.picky_convert.specs.inner.Causes.{LeavesSignerAt, LeavesSuiteAt, Performs, refusal_status}
+use Rattle.picky_convert.specs.inner.Causes.{Comes, refusal_status}
 use Rattle.picky_conversion.proofs.AnswerLemmas.{input_fault_is, output_fault_is, opening_asks, sealing_asks}
+use Rattle.picky_conversion.proofs.CertifyLemmas.{one_counted}
 use Rattle.picky_conversion.proofs.IssueLemmas.{issued_is_own, issuing_fault_asks, unsigned_is_own}
 use Rattle.picky_conversion.proofs.JudgedLemmas.{IsOwn, next_is, reading_is_own, written_is_own}
 
@@ -164,96 +164,111 @@ outcome_asks_as o command input short utf8 =
 
 -- ---- what a command answers, as a run's status
 
-pub text_performs : (signs : Relation) (o : Outside) (command : Command) (input text : List ℕ) → length input ≤ input_limit
+pub text_comes : (signs : Relation) (o : Outside) (command : Command) (input text : List ℕ) → length input ≤ input_limit
     → IsUtf8 input → Writes signs (answer o command input) text → Writes signs (outcome o command input) text
-text_performs signs o command input text short utf8 (made, is, of) = (made, outcome_done o command input made short utf8 is, of)
+text_comes signs o command input text short utf8 (made, is, of) = (made, outcome_done o command input made short utf8 is, of)
 
 -- why there is no text of what it came to
-left_performs : (signs : Relation) (o : Outside) (command : Command) (input : List ℕ) (e : ConvertError)
-    (suite_rose signer_rose : Type 0) (made : Made) → outcome o command input ≡ Ok made → IsUnwritten signs made signer_rose e
-    → ((refusal_status e ≡ statuses.OutsideFault) × IsOutsideFault o command input suite_rose signer_rose)
-    ⊎ ((refusal_status e ≡ statuses.Refused errors.TooLong) × IsTooLongFor signs (outcome o command input))
-left_performs signs o command input e suite_rose signer_rose (Whole text) is left = absurd left
-left_performs signs o command input e suite_rose signer_rose (ToSign u) is (inl device) =
-    inl (ap refusal_status device.0, inr (ap is_signed is, device.1))
-left_performs signs o command input e suite_rose signer_rose (ToSign u) is (inr long) =
-    inr (ap refusal_status long.0, (ToSign u, is, long.1))
+left_comes : (signs : Relation) (o : Outside) (command : Command) (input : List ℕ) (e : ConvertError)
+    (read_rose suite_rose signer_rose : Type 0) (made : Made) → outcome o command input ≡ Ok made → IsUnwritten signs made signer_rose e
+    → Stops signs o command input read_rose suite_rose signer_rose (refusal_status e)
+left_comes signs o command input e read_rose suite_rose signer_rose (Whole text) is left = absurd left
+left_comes signs o command input e read_rose suite_rose signer_rose (ToSign u) is (inl device) =
+    subst (λ s. Stops signs o command input read_rose suite_rose signer_rose s) (sym (ap refusal_status device.0))
+    (inr (ap is_signed is, device.1))
+left_comes signs o command input e read_rose suite_rose signer_rose (ToSign u) is (inr long) =
+    subst (λ s. Stops signs o command input read_rose suite_rose signer_rose s) (sym (ap refusal_status long.0))
+    (inr (refl, (ToSign u, is, long.1)))
 
-pub refused_performs : {X Y : Type 0} (signs : Relation) (view : X → List ℕ) (seen : Y → List ℕ) (o : Outside) (command : Command)
-    (input : List ℕ) (suite_rose signer_rose : Type 0) (e : ConvertError) → length input ≤ input_limit → IsUtf8 input
+pub refused_comes : {X Y : Type 0} (signs : Relation) (view : X → List ℕ) (seen : Y → List ℕ) (o : Outside) (command : Command)
+    (input : List ℕ) (read_rose suite_rose signer_rose : Type 0) (e : ConvertError) → length input ≤ input_limit → IsUtf8 input
     → Answers {X = X} signs view (answer o command input) (λ f. IsFaultFor o command input f suite_rose) signer_rose (Err e)
-    → Performs {X = Y} signs seen o command input suite_rose signer_rose (Err (refusal_status e))
-refused_performs signs view seen o command input suite_rose signer_rose e short utf8 (inl want) = inl (ap refusal_status want)
-refused_performs signs view seen o command input suite_rose signer_rose e short utf8 (inr (inl fault)) =
+    → Comes {X = Y} signs seen o command input read_rose suite_rose signer_rose (Err (refusal_status e))
+refused_comes signs view seen o command input read_rose suite_rose signer_rose e short utf8 (inl want) =
+    subst (λ s. Stops signs o command input read_rose suite_rose signer_rose s) (sym (ap refusal_status want)) tt
+refused_comes signs view seen o command input read_rose suite_rose signer_rose e short utf8 (inr (inl fault)) =
     let asked = fault_asks o command input e suite_rose fault in
-    inr (inl (
-      status_from_fault e asked.0,
-      inl (outcome_asks_as o command input short utf8 ∙ asked.1.0, asked.1.1),
-    ))
-refused_performs signs view seen o command input suite_rose signer_rose e short utf8 (inr (inr (inl (made, is, left)))) =
-    elim (left_performs signs o command input e suite_rose signer_rose made (outcome_done o command input made short utf8 is) left) [
-      | inl device ↦ inr (inl device)
-      | inr long ↦ inr (inr (inl long))
-    ]
-refused_performs signs view seen o command input suite_rose signer_rose e short utf8 (inr (inr (inr refused))) =
-    let is = own_status e (answer_is_own o command input e refused) in
-    inr (inr (inr (outcome_refused o command input e short utf8 refused ∙ ap Err (sym is))))
+    subst (λ s. Stops signs o command input read_rose suite_rose signer_rose s) (sym (status_from_fault e asked.0))
+    (inl (outcome_asks_as o command input short utf8 ∙ asked.1.0, asked.1.1))
+refused_comes signs view seen o command input read_rose suite_rose signer_rose e short utf8 (inr (inr (inl (made, is, left)))) =
+    left_comes signs o command input e read_rose suite_rose signer_rose made (outcome_done o command input made short utf8 is) left
+refused_comes signs view seen o command input read_rose suite_rose signer_rose e short utf8 (inr (inr (inr refused))) =
+    subst (λ s. Stops signs o command input read_rose suite_rose signer_rose s)
+    (sym (own_status e (answer_is_own o command input e refused))) (inl (outcome_refused o command input e short utf8 refused))
 
 -- ---- the devices
 
-pub done_leaves : {S A B : Type 0} (meanings : S → Meanings) (faults : S → ℕ) (o : Outside) (command : Command)
-    (input : List ℕ) (x : A) (y : B) (old new : S) → length input ≤ input_limit → IsUtf8 input
-    → LeavesAskedSuite meanings faults (answering_asks o command input) (Ok x) old new
-    → LeavesSuiteAt meanings faults (outcome_asks o command input) (Ok y) old new
-done_leaves meanings faults o command input x y old new short utf8 leaves = record {
-  kept = leaves.kept;
-  calm = λ other. leaves.calm (λ f is fault. cc is);
-  unasked = λ no. leaves.unasked (sym (outcome_asks_as o command input short utf8) ∙ no);
+pub done_leaves : {S G A : Type 0} (meanings : S → Meanings) (faults : S → ℕ) (signs : G → Relation) (signer_faults : G → ℕ)
+    (o : Outside) (command : Command) (input : List ℕ) (x : A) (ended : Type 0) (old new : S) (before after : G)
+    → length input ≤ input_limit → IsUtf8 input
+    → LeavesAskedSuite {A = A} meanings faults (answering_asks o command input) (Ok x) old new
+    → LeavesSigner {A = A} signs signer_faults (is_signed (answer o command input)) (Ok x) before after
+    → Devices meanings faults signs signer_faults ended (outcome_asks o command input ≡ false) (outcome_signs o command input ≡ false)
+    old new before after
+done_leaves meanings faults signs signer_faults o command input x ended old new before after short utf8 leaves keeps = record {
+  suite = record {
+    kept = leaves.kept;
+    calm = λ other. leaves.calm (λ f is fault. cc is);
+    unasked = λ no. leaves.unasked (sym (outcome_asks_as o command input short utf8) ∙ no);
+  };
+  signer = record {
+    kept = keeps.kept;
+    calm = λ other. keeps.calm (λ is. cc is);
+    unasked = λ no. keeps.unasked (sym (outcome_signs_as o command input short utf8) ∙ no);
+  };
+  one_counts = one_counted meanings faults (answering_asks o command input) signs signer_faults (is_signed (answer o command input)) (Ok x)
+      old new before after leaves keeps;
 }
 
-pub refused_leaves_suite : {S A B : Type 0} (meanings : S → Meanings) (faults : S → ℕ) (o : Outside) (command : Command)
-    (input : List ℕ) (e : ConvertError) (old new : S) → length input ≤ input_limit → IsUtf8 input
+pub refused_leaves : {S G A : Type 0} (meanings : S → Meanings) (faults : S → ℕ) (signs : G → Relation) (signer_faults : G → ℕ)
+    (o : Outside) (command : Command) (input : List ℕ) (e : ConvertError) (ended : Type 0) (old new : S) (before after : G)
+    → (refusal_status e ≡ statuses.OutsideFault → ended) → length input ≤ input_limit → IsUtf8 input
     → LeavesAskedSuite {A = A} meanings faults (answering_asks o command input) (Err e) old new
-    → LeavesSuiteAt {A = B} meanings faults (outcome_asks o command input) (Err (refusal_status e)) old new
-refused_leaves_suite meanings faults o command input e old new short utf8 leaves = record {
-  kept = leaves.kept;
-  calm = λ other. leaves.calm (λ f is fault.
-      let same : f ≡ e = cc is in other (ap Err (status_from_fault e (subst IsFault same fault))));
-  unasked = λ no. leaves.unasked (sym (outcome_asks_as o command input short utf8) ∙ no);
+    → LeavesSigner {A = A} signs signer_faults (is_signed (answer o command input)) (Err e) before after
+    → Devices meanings faults signs signer_faults ended (outcome_asks o command input ≡ false) (outcome_signs o command input ≡ false)
+    old new before after
+refused_leaves meanings faults signs signer_faults o command input e ended old new before after ends short utf8 leaves keeps = record {
+  suite = record {
+    kept = leaves.kept;
+    calm = λ other. leaves.calm (λ f is fault.
+        let same : f ≡ e = cc is in other (ends (status_from_fault e (subst IsFault same fault))));
+    unasked = λ no. leaves.unasked (sym (outcome_asks_as o command input short utf8) ∙ no);
+  };
+  signer = record {
+    kept = keeps.kept;
+    calm = λ other. keeps.calm (λ is.
+        let same : e ≡ errors.Request requests.SignatureError = cc is in other (ends (ap refusal_status same)));
+    unasked = λ no. keeps.unasked (sym (outcome_signs_as o command input short utf8) ∙ no);
+  };
+  one_counts = one_counted meanings faults (answering_asks o command input) signs signer_faults (is_signed (answer o command input)) (Err e)
+      old new before after leaves keeps;
 }
 
-pub done_signs : {S A B : Type 0} (signs : S → Relation) (faults : S → ℕ) (o : Outside) (command : Command)
-    (input : List ℕ) (x : A) (y : B) (old new : S) → length input ≤ input_limit → IsUtf8 input
-    → LeavesSigner signs faults (is_signed (answer o command input)) (Ok x) old new
-    → LeavesSignerAt signs faults (outcome_signs o command input) (Ok y) old new
-done_signs signs faults o command input x y old new short utf8 leaves = record {
-  kept = leaves.kept;
-  calm = λ other. leaves.calm (λ is. cc is);
-  unasked = λ no. leaves.unasked (sym (outcome_signs_as o command input short utf8) ∙ no);
+-- devices that weren't asked are as they were
+pub untouched_devices : {S G : Type 0} (meanings : S → Meanings) (faults : S → ℕ) (signs : G → Relation) (signer_faults : G → ℕ)
+    (failed unasked unsigned : Type 0) (suite : S) (signer : G)
+    → Devices meanings faults signs signer_faults failed unasked unsigned suite suite signer signer
+untouched_devices meanings faults signs signer_faults failed unasked unsigned suite signer = record {
+  suite = record { kept = refl; calm = λ other. refl; unasked = λ no. refl };
+  signer = record { kept = λ k a m s. (λ x. x, λ x. x); calm = λ other. refl; unasked = λ no. refl };
+  one_counts = inl refl;
 }
 
-pub refused_signs : {S A B : Type 0} (signs : S → Relation) (faults : S → ℕ) (o : Outside) (command : Command)
-    (input : List ℕ) (e : ConvertError) (old new : S) → length input ≤ input_limit → IsUtf8 input
-    → LeavesSigner {A = A} signs faults (is_signed (answer o command input)) (Err e) old new
-    → LeavesSignerAt {A = B} signs faults (outcome_signs o command input) (Err (refusal_status e)) old new
-refused_signs signs faults o command input e old new short utf8 leaves = record {
-  kept = leaves.kept;
-  calm = λ other. leaves.calm (λ is.
-      let same : e ≡ errors.Request requests.SignatureError = cc is in other (ap (λ f. Err (refusal_status f)) same));
-  unasked = λ no. leaves.unasked (sym (outcome_signs_as o command input short utf8) ∙ no);
+-- what devices are left with, said of another cause of faults and of other reasons why none is asked
+pub devices_so : {S G : Type 0} (meanings : S → Meanings) (faults : S → ℕ) (signs : G → Relation) (signer_faults : G → ℕ)
+    (failed unasked unsigned ended spared silent : Type 0) (old new : S) (before after : G) → (failed → ended) → (spared → unasked)
+    → (silent → unsigned) → Devices meanings faults signs signer_faults failed unasked unsigned old new before after
+    → Devices meanings faults signs signer_faults ended spared silent old new before after
+devices_so meanings faults signs signer_faults failed unasked unsigned ended spared silent old new before after ends asks signed leaves = record {
+  suite = record {
+    kept = leaves.suite.kept;
+    calm = λ other. leaves.suite.calm (λ is. other (ends is));
+    unasked = λ no. leaves.suite.unasked (asks no);
+  };
+  signer = record {
+    kept = leaves.signer.kept;
+    calm = λ other. leaves.signer.calm (λ is. other (ends is));
+    unasked = λ no. leaves.signer.unasked (signed no);
+  };
+  one_counts = leaves.one_counts;
 }
-
--- bytes that are no text ask neither
-pub untouched_suite : {S A : Type 0} (meanings : S → Meanings) (faults : S → ℕ) (asked : Bool) (r : Result A Status) (s : S)
-    → LeavesSuiteAt meanings faults asked r s s
-untouched_suite meanings faults asked r s = record { kept = refl; calm = λ other. refl; unasked = λ no. refl }
-
-pub untouched_signer : {S A : Type 0} (signs : S → Relation) (faults : S → ℕ) (asked : Bool) (r : Result A Status) (s : S)
-    → LeavesSignerAt signs faults asked r s s
-untouched_signer signs faults asked r s = record {
-  kept = λ k a m b. (λ x. x, λ x. x);
-  calm = λ other. refl;
-  unasked = λ no. refl;
-}
-
-pub ruleset outcomes = (outcome_no_text, untouched_suite, untouched_signer)

@@ -1,5 +1,5 @@
 -- What a run writes for the bytes of its source.
-use Rattle.std.proofs.Common.{◌≡◌, ℕ, ◌≤◌, ◌<◌, ◌++◌, List, length, take, Bool, true, false, Result, Ok, Err, refl, nat_lt, if◌then◌else◌}
+use Rattle.std.proofs.Common.{◌≡◌, ℕ, ◌≤◌, ◌++◌, List, length, Bool, true, false, Result, Ok, Err, refl, nat_lt, if◌then◌else◌}
 use Rattle.std.proofs.lemmas.Bool.{ltb-false}
 use Rattle.std.proofs.lemmas.Str.{IsUtf8-from_is_utf8}
 use Rattle.std.specs.Str.{IsUtf8, is_utf8}
@@ -17,7 +17,7 @@ use Rattle.picky_conversion.specs.Issue.{issued_bytes}
 use Rattle.picky_conversion.specs.Made.{Made, ToSign, Whole, Writes, is_signed}
 use Rattle.picky_conversion.specs.Outside.{Outside}
 use Rattle.picky_convert.specs.Command.{IsAnswer, IsCommand, answer, fingerprints}
-use Rattle.picky_convert.specs.Run.{input_limit, outcome, outcome_signs, IsValid, WritesAnswer, WritesPrefix}
+use Rattle.picky_convert.specs.Run.{input_limit, outcome, outcome_signs, IsValid, WritesAnswer}
 use Rattle.picky_convert.proofs.CommandLemmas.{answer_is, answer_of}
 use Rattle.picky_convert.proofs.OutcomeLemmas.{outcome_done}
 
@@ -91,14 +91,3 @@ pub writes_answer : (signs : Relation) (o : Outside) (command : Command) (input 
     → WritesAnswer signs o command input before after
 writes_answer signs o command input text before after given fits done wrote =
     record { text = text; is_answer = outcome_answers signs o command input text given fits done; written = wrote }
-
-pub writes_prefix : (signs : Relation) (o : Outside) (command : Command) (input text before after : List ℕ) → IsGiven o
-    → IsCommand command → Writes signs (outcome o command input) text
-    → (n : ℕ) × (after ≡ before ++ take n text) × (n < length text) → WritesPrefix signs o command input before after
-writes_prefix signs o command input text before after given fits done front = record {
-  text = text;
-  is_answer = outcome_answers signs o command input text given fits done;
-  len = front.0;
-  less = front.2;
-  written = front.1;
-}

@@ -1,7 +1,6 @@
 -- Lemmas on commands that read the source and the one that doesn't.
-use Rattle.std.proofs.Common.{◌≡◌, ◌<◌, ◌≤◌, ◌&&◌, ℕ, List, [], length, nat_le, true, false, Bool, Result, Ok, Err, refl, sym, ap, subst, arith}
-use Rattle.std.proofs.Common.{if◌then◌else◌, inl, inr}
-use Rattle.std.specs.Prelude.{IfErr}
+use Rattle.std.proofs.Common.{◌≡◌, ◌≢◌, ◌+◌, ◌<◌, ◌≤◌, ◌&&◌, ◌⊎◌, ◌∙◌, ℕ, List, [], length, nat_le, true, false, Bool, Option, Some, None, Result, Ok, Err}
+use Rattle.std.proofs.Common.{if◌then◌else◌, inl, inr, refl, sym, ap, subst, arith}
 use Rattle.std.proofs.lemmas.Str.{IsUtf8-nil}
 use Rattle.std.specs.Str.{IsUtf8, is_utf8}
 use Rattle.picky_cert_target.specs.Certified.{Relation}
@@ -9,12 +8,17 @@ use Rattle.picky_convert.specs.declared.command.Command.{Command}
 use Rattle.picky_convert.specs.declared.command.Command.TheVariants as commands
 use Rattle.picky_convert.specs.declared.error.Status.{Status}
 use Rattle.picky_convert.specs.declared.error.Status.TheVariants as statuses
-use Rattle.picky_conversion.specs.Made.{CanBeTooLong, Whole, is_signed}
+use Rattle.picky_conversion.specs.Made.{Whole}
 use Rattle.picky_conversion.specs.Outside.{Outside}
 use Rattle.picky_sample.specs.Sample.{sample_text}
+use Rattle.picky_suite.specs.Zeros.{zeros}
+use Rattle.picky_suite.specs.carried.Zeros.{length-zeros}
 use Rattle.picky_convert.specs.Command.{answering_asks, reads_source}
-use Rattle.picky_convert.specs.Run.{input_for, input_limit, outcome, outcome_asks, outcome_signs}
-use Rattle.picky_convert.specs.inner.Causes.{Performs}
+use Rattle.picky_input.specs.Extent.{Anywhere, Extent, IsUnasked, LeavesAt, ReadsInput, ToEnd, ToFault, Untouched}
+use Rattle.picky_input.specs.Input.{TakesInput}
+use Rattle.picky_convert.specs.Run.{extent_by, extent_for, extent_of, input_for, input_limit, outcome, outcome_asks}
+use Rattle.picky_convert.specs.inner.Causes.{extent_at, Comes}
+use Rattle.picky_convert.proofs.CauseLemmas.{long_of}
 use Rattle.picky_convert.proofs.OutcomeLemmas.{outcome_done}
 
 -- what is read is all, or nothing
@@ -53,14 +57,14 @@ asks_none o (commands.PrintSigned options) input none = cc none
 asks_none o commands.Fingerprint input none = cc none
 asks_none o (commands.Sample keys) input none = refl
 
-comes_to : (o : Outside) (command : Command) → reads_source command ≡ false → (text : List ℕ) × (outcome o command [] ≡ Ok (Whole text))
+pub comes_to : (o : Outside) (command : Command) → reads_source command ≡ false → (text : List ℕ) × (outcome o command [] ≡ Ok (Whole text))
 comes_to o (commands.Convert target) none = cc none
 comes_to o (commands.Certify options) none = cc none
 comes_to o (commands.PrintSigned options) none = cc none
 comes_to o commands.Fingerprint none = cc none
 comes_to o (commands.Sample keys) none = (sample_text o.meanings keys, summary_is o keys [] (omega arith) IsUtf8-nil)
 
-asks_nothing : (o : Outside) (command : Command) → reads_source command ≡ false → outcome_asks o command [] ≡ false
+pub asks_nothing : (o : Outside) (command : Command) → reads_source command ≡ false → outcome_asks o command [] ≡ false
 unfolding outcome_asks
 asks_nothing o command none = rw (asks_none o command [] none) (never (nat_le 0 input_limit && is_utf8 []))
   where
@@ -68,20 +72,104 @@ asks_nothing o command none = rw (asks_none o command [] none) (never (nat_le 0 
     never true = refl
     never false = refl
 
--- so it ends in want of memory alone where it has no text
-pub wants_alone : {X : Type 0} (signs : Relation) (view : X → List ℕ) (o : Outside) (command : Command)
-    (suite_rose signer_rose : Type 0) (r : Result X Status) → reads_source command ≡ false
-    → Performs signs view o command [] suite_rose signer_rose r → IfErr r (λ status. status ≡ statuses.NoMemory)
-wants_alone signs view o command suite_rose signer_rose (Ok x) none gives = tt
-wants_alone signs view o command suite_rose signer_rose (Err status) none (inl memory) = memory
-wants_alone signs view o command suite_rose signer_rose (Err status) none (inr (inl (is, inl (asked, rose)))) =
-    let no = asks_nothing o command none in cc (asked, no)
-wants_alone signs view o command suite_rose signer_rose (Err status) none (inr (inl (is, inr (signed, rose)))) =
-    let whole = comes_to o command none in
-    let no : outcome_signs o command [] ≡ false = ap is_signed whole.1 in cc (signed, no)
-wants_alone signs view o command suite_rose signer_rose (Err status) none (inr (inr (inl (is, (made, comes, long))))) =
-    let whole = comes_to o command none in
-    let same : Whole whole.0 ≡ made = cc (whole.1, comes) in
-    absurd (subst (λ m. CanBeTooLong signs m) (sym same) long)
-wants_alone signs view o command suite_rose signer_rose (Err status) none (inr (inr (inr refused))) =
-    let whole = comes_to o command none in cc (whole.1, refused)
+-- ---- what a source is left with
+
+-- what is said of one extent is said of an equal one
+pub reads_as : {I : Type 0} (tells : I → Type 0) (left : I → List ℕ) (faults : I → ℕ) (at extent : Extent) (old new : I) → extent ≡ at
+    → (tells old → tells new) → (tells old → TakesInput (left old) (left new)) → (tells old → LeavesAt at (left old) (left new))
+    → (at ≡ Untouched → new ≡ old) → (at ≢ ToFault → faults new ≡ faults old) → ReadsInput tells left faults extent old new
+reads_as tells left faults at extent old new is told taken leaves unread calm =
+    subst (λ e. ReadsInput tells left faults e old new) (sym is)
+    (record { told = told; taken = taken; leaves = leaves; unread = unread; calm = calm })
+
+nothing_taken : (left : List ℕ) → TakesInput left left
+nothing_taken left = record { taken = []; are = refl; few = omega arith }
+
+pub untouched : {I : Type 0} (tells : I → Type 0) (left : I → List ℕ) (faults : I → ℕ) (extent : Extent) (source : I)
+    → extent ≡ Untouched → ReadsInput tells left faults extent source source
+untouched tells left faults extent source is =
+    reads_as tells left faults Untouched extent source source is (λ told. told) (λ told. nothing_taken (left source)) (λ told. refl)
+    (λ none. refl) (λ other. refl)
+
+-- a run for which memory runs out at once leaves it untouched
+pub untouched_at_want : {I : Type 0} (tells : I → Type 0) (left : I → List ℕ) (faults : I → ℕ) (named : Option Command) (source : I)
+    → ReadsInput tells left faults (extent_by named statuses.NoMemory) source source
+untouched_at_want tells left faults None source = untouched tells left faults Untouched source refl
+untouched_at_want tells left faults (Some command) source = go (reads_source command)
+  where
+    go : (b : Bool) → ReadsInput tells left faults (if b then Anywhere else Untouched) source source
+    go true =
+        reads_as tells left faults Anywhere Anywhere source source refl (λ told. told) (λ told. nothing_taken (left source)) (λ told. tt)
+        (λ none. cc none) (λ other. refl)
+    go false = untouched tells left faults Untouched source refl
+
+pub extent_read : (command : Command) (status : Status) → reads_source command ≡ true → extent_for command status ≡ extent_of status
+extent_read command status reads = rw reads refl
+
+pub extent_unread : {X : Type 0} (command : Command) (r : Result X Status) → reads_source command ≡ false
+    → extent_at command r ≡ Untouched
+extent_unread command (Ok text) none = rw none refl
+extent_unread command (Err status) none = rw none refl
+
+-- what a command answers that was given all bytes of its source leaves that at its end, unless memory ran out
+at_end : {X : Type 0} (signs : Relation) (view : X → List ℕ) (o : Outside) (command : Command) (input : List ℕ)
+    (suite_rose signer_rose : Type 0) (r : Result X Status) → reads_source command ≡ true → length input ≤ input_limit
+    → Comes signs view o command input ⊥ suite_rose signer_rose r → (extent_at command r ≡ ToEnd) ⊎ (extent_at command r ≡ Anywhere)
+at_end signs view o command input suite_rose signer_rose (Ok text) reads short comes = inl (extent_read command statuses.Done reads)
+at_end signs view o command input suite_rose signer_rose (Err statuses.Done) reads short comes = absurd comes
+at_end signs view o command input suite_rose signer_rose (Err statuses.Usage) reads short comes = absurd comes
+at_end signs view o command input suite_rose signer_rose (Err statuses.WriteFault) reads short comes = absurd comes
+at_end signs view o command input suite_rose signer_rose (Err statuses.ReadFault) reads short comes = absurd comes.1
+at_end signs view o command input suite_rose signer_rose (Err statuses.NoMemory) reads short comes =
+    inr (extent_read command statuses.NoMemory reads)
+at_end signs view o command input suite_rose signer_rose (Err statuses.OutsideFault) reads short comes =
+    inl (extent_read command statuses.OutsideFault reads)
+at_end signs view o command input suite_rose signer_rose (Err (statuses.Refused e)) reads short comes =
+    inl (extent_read command (statuses.Refused e) reads)
+at_end signs view o command input suite_rose signer_rose (Err statuses.InputTooLong) reads short comes =
+    absurd (omega (arith, short, long_of o command input comes))
+at_end signs view o command input suite_rose signer_rose (Err statuses.InputNotUtf8) reads short comes =
+    inl (extent_read command statuses.InputNotUtf8 reads)
+
+pub read_whole : {I X : Type 0} (tells : I → Type 0) (left : I → List ℕ) (faults : I → ℕ) (signs : Relation) (view : X → List ℕ)
+    (o : Outside) (command : Command) (input : List ℕ) (suite_rose signer_rose : Type 0) (r : Result X Status) (old new : I)
+    → reads_source command ≡ true → length input ≤ input_limit → Comes signs view o command input ⊥ suite_rose signer_rose r
+    → (tells old → tells new) → (tells old → TakesInput (left old) (left new)) → (tells old → left new ≡ [])
+    → faults new ≡ faults old → ReadsInput tells left faults (extent_at command r) old new
+read_whole tells left faults signs view o command input suite_rose signer_rose r old new reads short comes told taken end calm =
+    elim (at_end signs view o command input suite_rose signer_rose r reads short comes) [
+      | inl is ↦ reads_as tells left faults ToEnd (extent_at command r) old new is told taken end (λ none. cc none) (λ other. calm)
+      | inr is ↦
+          reads_as tells left faults Anywhere (extent_at command r) old new is told taken (λ t. tt) (λ none. cc none) (λ other. calm)
+    ]
+
+-- there are more bytes than any limit
+pub some_longer : (limit : ℕ) → (left : List ℕ) × (limit < length left)
+some_longer limit = (zeros (limit + 1), omega (arith, length-zeros (limit + 1)))
+
+-- ---- what is answered, said of other bytes and of a source that may fail
+
+pub comes_at : {X : Type 0} (signs : Relation) (view : X → List ℕ) (o : Outside) (command : Command) (input same : List ℕ)
+    (read_rose suite_rose signer_rose : Type 0) (r : Result X Status) → input ≡ same
+    → Comes signs view o command input ⊥ suite_rose signer_rose r → Comes signs view o command same read_rose suite_rose signer_rose r
+comes_at {X = X} signs view o command input same read_rose suite_rose signer_rose r is comes =
+    subst (λ bytes. Comes signs view o command bytes read_rose suite_rose signer_rose r) is (go r comes)
+  where
+    go : (q : Result X Status) → Comes signs view o command input ⊥ suite_rose signer_rose q
+        → Comes signs view o command input read_rose suite_rose signer_rose q
+    go (Ok text) answers = answers
+    go (Err statuses.Done) stops = stops
+    go (Err statuses.Usage) stops = stops
+    go (Err statuses.WriteFault) stops = stops
+    go (Err statuses.ReadFault) stops = absurd stops.1
+    go (Err statuses.NoMemory) stops = stops
+    go (Err statuses.OutsideFault) stops = stops
+    go (Err (statuses.Refused e)) stops = stops
+    go (Err statuses.InputTooLong) stops = stops
+    go (Err statuses.InputNotUtf8) stops = stops
+
+-- devices that aren't asked for the command's bytes aren't for these, which are theirs
+pub unasked_at : (tells : Type 0) (asks : List ℕ → Bool) (input same : List ℕ) → (tells → same ≡ input) → IsUnasked tells asks same
+    → asks input ≡ false
+unasked_at tells asks input same are (inl (told, none)) = sym (ap asks (are told)) ∙ none
+unasked_at tells asks input same are (inr never) = never input

@@ -1,12 +1,17 @@
 -- A run: what it writes for the bytes of its source, and how it ends.
-use Rattle.std.specs.Prelude.{◌≡◌, ◌⊎◌, ◌<◌, ◌++◌, ◌≤◌, ◌&&◌, List, [], ℕ, Bool, true, length, take, nat_lt, nat_le, Result, Err}
-use Rattle.std.specs.Prelude.{Ok, if◌then◌else◌}
+use Rattle.std.specs.Prelude.{◌≡◌, ◌⊎◌, ◌<◌, ◌++◌, ◌≤◌, ◌&&◌, ◌↔◌, List, [], ℕ, Bool, true, length, take, nat_lt, nat_le, Result, Err}
+use Rattle.std.specs.Prelude.{Ok, Option, Some, None, if◌then◌else◌}
 use Rattle.std.specs.Str.{IsUtf8, is_utf8}
 use Rattle.picky_layout.specs.Outcome.{map_err}
+use Rattle.picky_wire.specs.Count.{Rose}
 use Rattle.picky_wire.specs.Puts.{Puts}
-pub use Rattle.picky_input.specs.Input.{input_limit, TakesInput}
+pub use Rattle.picky_input.specs.Input.{input_limit}
+use Rattle.picky_input.specs.Extent.{Extent, Anywhere, PastLimit, ToEnd, ToFault, Untouched, LeavesDevice}
 use Rattle.picky_wire.specs.declared.error.WireError.{WireError}
 use Rattle.picky_wire.specs.declared.error.WireError.TheVariants as wire
+use Rattle.picky_keys.specs.declared.algorithm.SignatureAlgorithm.{SignatureAlgorithm}
+use Rattle.picky_keys.specs.declared.public_key.PublicKey.{PublicKey}
+use Rattle.picky_suite.specs.Meanings.{Meanings}
 use Rattle.picky_target.specs.declared.error.ConvertError.{ConvertError}
 use Rattle.picky_target.specs.declared.error.ConvertError.TheVariants as errors
 use Rattle.picky_cert_target.specs.Certified.{Relation}
@@ -15,23 +20,32 @@ use Rattle.picky_convert.specs.declared.error.Status.TheVariants as statuses
 use Rattle.picky_convert.specs.declared.command.Command.{Command}
 use Rattle.picky_conversion.specs.Outside.{Outside}
 use Rattle.picky_convert.specs.Command.{answer, answering_asks, CanAnswer, IsAnswer, reads_source}
-use Rattle.picky_conversion.specs.Made.{CanBeTooLong, Made, is_signed}
+use Rattle.picky_convert.specs.Report.{report}
+use Rattle.picky_conversion.specs.Made.{CanBeTooLong, Made, Writes, is_signed}
 
 -- the bytes that the command reads of what a source has left: all of them, or none
 abbrev pub input_for : Command → (left : List ℕ) → List ℕ
 input_for command left = if reads_source command then left else []
 
--- where the command reads the source, the status comes only once that was read to its end
-abbrev pub ReadsToEnd : Status → Type 0
-ReadsToEnd statuses.Usage = ⊥
-ReadsToEnd statuses.ReadFault = ⊥
-ReadsToEnd statuses.InputTooLong = ⊥
-ReadsToEnd statuses.NoMemory = ⊥
-ReadsToEnd statuses.Done = Unit {0}
-ReadsToEnd statuses.WriteFault = Unit {0}
-ReadsToEnd statuses.InputNotUtf8 = Unit {0}
-ReadsToEnd statuses.OutsideFault = Unit {0}
-ReadsToEnd (statuses.Refused e) = Unit {0}
+-- how far the source was read when a run ends so
+abbrev pub extent_of : Status → Extent
+extent_of statuses.Done = ToEnd
+extent_of (statuses.Refused e) = ToEnd
+extent_of statuses.Usage = Untouched
+extent_of statuses.ReadFault = ToFault
+extent_of statuses.WriteFault = ToEnd
+extent_of statuses.OutsideFault = ToEnd
+extent_of statuses.NoMemory = Anywhere
+extent_of statuses.InputTooLong = PastLimit
+extent_of statuses.InputNotUtf8 = ToEnd
+
+-- the same of a command, which may read nothing, and of words, which may name none
+abbrev pub extent_for : Command → Status → Extent
+extent_for command status = if reads_source command then extent_of status else Untouched
+
+abbrev pub extent_by : Option Command → Status → Extent
+extent_by (Some command) status = extent_for command status
+extent_by None status = Untouched
 
 -- what the command comes to for these bytes before a device signs, or the status that says why it comes to nothing
 unfoldable pub outcome : Outside → Command → List ℕ → Result Made Status
@@ -65,14 +79,6 @@ pub record WritesAnswer (signs : Relation) (o : Outside) (command : Command) (in
   pub is_answer : IsAnswer signs o command input text
   pub written : after ≡ before ++ text
 
--- a front of it was, and not the whole
-pub record WritesPrefix (signs : Relation) (o : Outside) (command : Command) (input before after : List ℕ) : Type 0 where
-  pub text : List ℕ
-  pub is_answer : IsAnswer signs o command input text
-  pub len : ℕ
-  pub less : len < length text
-  pub written : after ≡ before ++ take len text
-
 -- the line was put: all of it and no fault was counted, or a front of it and one was
 abbrev pub Says : {S : Type 0} → (S → Type 0) → (S → List ℕ) → (S → ℕ) → List ℕ → S → S → Type 0
 Says tells written faults line old new =
@@ -86,18 +92,69 @@ IsTooLongFor signs for_input = (made : Made) × (for_input ≡ Ok made) × CanBe
 abbrev pub Refuses : Relation → Result Made Status → ConvertError → Type 0
 Refuses signs for_input e = (for_input ≡ Err (statuses.Refused e)) ⊎ ((e ≡ errors.TooLong) × IsTooLongFor signs for_input)
 
--- a status for which no text is written: where it speaks of the bytes, it is their outcome
-abbrev pub Explains : Relation → Status → Result Made Status → Type 0
-Explains signs statuses.Done for_input = ⊥
-Explains signs statuses.Usage for_input = ⊥
-Explains signs statuses.WriteFault for_input = ⊥
-Explains signs statuses.ReadFault for_input = Unit {0}
-Explains signs statuses.NoMemory for_input = Unit {0}
-Explains signs statuses.OutsideFault for_input = Unit {0}
-Explains signs (statuses.Refused e) for_input = Refuses signs for_input e
-Explains signs statuses.InputTooLong for_input = for_input ≡ Err statuses.InputTooLong
-Explains signs statuses.InputNotUtf8 for_input = for_input ≡ Err statuses.InputNotUtf8
+-- ---- how a run ends
 
--- for some bytes the command is refused so
-abbrev pub CanRefuse : Relation → Outside → Command → ConvertError → Type 0
-CanRefuse signs o command e = (input : List ℕ) × Refuses signs (outcome o command input) e
+-- the cause of a status for which no text is written
+abbrev pub Stops : Relation → Outside → Command → (input : List ℕ) → (read_rose suite_rose signer_rose : Type 0) → Status → Type 0
+Stops signs o command input read_rose suite_rose signer_rose statuses.Done = ⊥
+Stops signs o command input read_rose suite_rose signer_rose statuses.Usage = ⊥
+Stops signs o command input read_rose suite_rose signer_rose statuses.WriteFault = ⊥
+Stops signs o command input read_rose suite_rose signer_rose statuses.NoMemory = Unit {0}
+Stops signs o command input read_rose suite_rose signer_rose statuses.ReadFault = (reads_source command ≡ true) × read_rose
+Stops signs o command input read_rose suite_rose signer_rose statuses.OutsideFault =
+    IsOutsideFault o command input suite_rose signer_rose
+Stops signs o command input read_rose suite_rose signer_rose (statuses.Refused e) = Refuses signs (outcome o command input) e
+Stops signs o command input read_rose suite_rose signer_rose statuses.InputTooLong =
+    outcome o command input ≡ Err statuses.InputTooLong
+Stops signs o command input read_rose suite_rose signer_rose statuses.InputNotUtf8 =
+    outcome o command input ≡ Err statuses.InputNotUtf8
+
+-- what was written and the counts of faults at one moment
+pub record Moment : Type 0 where
+  pub written : List ℕ
+  pub source_faults : ℕ
+  pub sink_faults : ℕ
+  pub suite_faults : ℕ
+  pub signer_faults : ℕ
+
+abbrev pub moment : (written : List ℕ) → (source_faults sink_faults suite_faults signer_faults : ℕ) → Moment
+moment written source_faults sink_faults suite_faults signer_faults = record {
+  written = written;
+  source_faults = source_faults;
+  sink_faults = sink_faults;
+  suite_faults = suite_faults;
+  signer_faults = signer_faults;
+}
+
+-- a prefix of the text was written after those bytes, and not the whole
+pub record WritesPrefix (text before after : List ℕ) : Type 0 where
+  pub len : ℕ
+  pub less : len < length text
+  pub written : after ≡ before ++ take len text
+
+-- what a status says of a run over these bytes: that the whole text was written, to a sink that tells, that a prefix was before a
+-- fault, or why there is no text
+abbrev pub Ends : Relation → Outside → Command → (input : List ℕ) → (tells : Type 0) → (old new : Moment) → Status → Type 0
+Ends signs o command input tells old new statuses.Done =
+    (text : List ℕ) × Writes signs (outcome o command input) text × (tells → new.written ≡ old.written ++ text)
+Ends signs o command input tells old new statuses.WriteFault =
+    (text : List ℕ) × Writes signs (outcome o command input) text × (tells → WritesPrefix text old.written new.written)
+    × Rose old.sink_faults new.sink_faults
+Ends signs o command input tells old new status =
+    Stops signs o command input (Rose old.source_faults new.source_faults) (Rose old.suite_faults new.suite_faults)
+    (Rose old.signer_faults new.signer_faults) status
+
+-- ---- what it leaves
+
+-- the suite and the signer; a fault of no more than one of them was counted
+pub record Devices {S G : Type 0} (meanings : S → Meanings) (suite_faults : S → ℕ) (signs : G → Relation) (signer_faults : G → ℕ)
+    (failed unasked unsigned : Type 0) (old new : S) (before after : G) : Type 0 where
+  pub suite : LeavesDevice (meanings new ≡ meanings old) suite_faults failed unasked old new
+  pub signer : LeavesDevice ((k : PublicKey) (a : SignatureAlgorithm) (m s : List ℕ) → signs after k a m s ↔ signs before k a m s)
+      signer_faults failed unsigned before after
+  pub one_counts : (suite_faults new ≡ suite_faults old) ⊎ (signer_faults after ≡ signer_faults before)
+
+-- nothing is said of a run that is done, and of another the line of its status
+abbrev pub SaysEnd : {S : Type 0} → (S → Type 0) → (S → List ℕ) → (S → ℕ) → Status → S → S → Type 0
+SaysEnd tells written faults statuses.Done old new = new ≡ old
+SaysEnd tells written faults status old new = Says tells written faults (report status) old new

@@ -1,6 +1,6 @@
 //! The commands.
 
-ghost use Rattle.std.specs.Prelude.{◌≡◌, ◌⊎◌, ◌≤◌, ◌∷◌, length, string_bytes, IfOk};
+ghost use Rattle.std.specs.Prelude.{◌≡◌, ◌≤◌, ◌∷◌, false, length, string_bytes, Err, IfOk};
 ghost use Rattle.std.specs.Option.{option_copied};
 ghost use Rattle.picky_wire.specs.Count.{Rose};
 ghost use Rattle.picky_ppk_parts.specs.Config.{default_config};
@@ -9,9 +9,9 @@ ghost use Rattle.picky_conversion.specs.Certify.{IsReadFault};
 ghost use Rattle.picky_convert.specs.Command.{IsFaultFor, answer, answering_asks, command_of as command_named, command_of_word, fingerprints, reads_source as reads_source_of, sample_size as sample_size_of, with_size};
 ghost use Rattle.picky_conversion.specs.Convert.{LeavesAskedSuite};
 ghost use Rattle.picky_conversion.specs.Made.{Answers, AnswersPlain, LeavesSigner, is_signed};
-ghost use Rattle.picky_convert.specs.Run.{input_limit, outcome_asks, outcome_signs};
+ghost use Rattle.picky_convert.specs.Run.{input_limit, outcome_asks, outcome_signs, Devices};
 ghost use Rattle.picky_conversion.specs.Outside.{outside};
-ghost use Rattle.picky_convert.specs.inner.Causes.{LeavesSignerAt, LeavesSuiteAt, Performs, refusal_status};
+ghost use Rattle.picky_convert.specs.inner.Causes.{refusal_status, Comes};
 
 use crate::error::Status;
 use crate::fingerprint::fingerprint_text;
@@ -186,13 +186,12 @@ pub fn perform<S: Suite, G: Signer>(
     input: &[u8],
 ) -> Result<String, Status>
     requires { length input.now ≤ input_limit }
-    ensures gives { Performs (G.signs signer.old) string_bytes (outside (S.meanings suite.old) given.entry) command input.now
-        (Rose (S.faults suite.old) (S.faults suite.new)) (Rose (G.faults signer.old) (G.faults signer.new)) result }
-    ensures suite { LeavesSuiteAt S.meanings S.faults
-        (outcome_asks (outside (S.meanings suite.old) given.entry) command input.now) result suite.old suite.new }
-    ensures signer { LeavesSignerAt G.signs G.faults
-        (outcome_signs (outside (S.meanings suite.old) given.entry) command input.now) result signer.old signer.new }
-    ensures one_counts { (S.faults suite.new ≡ S.faults suite.old) ⊎ (G.faults signer.new ≡ G.faults signer.old) }
+    ensures comes { Comes (G.signs signer.old) string_bytes (outside (S.meanings suite.old) given.entry) command input.now
+        ⊥ (Rose (S.faults suite.old) (S.faults suite.new)) (Rose (G.faults signer.old) (G.faults signer.new)) result }
+    ensures devices { Devices S.meanings S.faults G.signs G.faults (result ≡ Err Status.OutsideFault)
+        (outcome_asks (outside (S.meanings suite.old) given.entry) command input.now ≡ false)
+        (outcome_signs (outside (S.meanings suite.old) given.entry) command input.now ≡ false)
+        suite.old suite.new signer.old signer.new }
 {
     match as_text(input) {
         Some(text) => match answer_to(alloc, command, given, suite, signer, text) {

@@ -1,5 +1,5 @@
 -- A command's answer, by the command.
-use Rattle.std.proofs.Common.{Global, ap, refl, sym}
+use Rattle.std.proofs.Common.{Global, ap, refl}
 use Rattle.std.specs.Prelude.{string_bytes}
 use Rattle.picky_layout.specs.Outcome.{map_ok}
 use Rattle.picky_wire.specs.Count.{Rose}

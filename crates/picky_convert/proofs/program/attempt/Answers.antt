@@ -1,18 +1,29 @@
--- A status that a text is refused with is the run's.
+-- The command that the words name is the one that is carried out.
 use Rattle.std.proofs.Common.{◌≡◌, subst}
-use Rattle.picky_convert.specs.declared.command.Command.{Command}
-use Rattle.picky_convert.specs.Run.{CanRefuse}
 use Rattle.picky_conversion.specs.Outside.{outside}
+use Rattle.picky_convert.specs.Run.{input_for, moment, Ends}
 use Rattle.picky_convert.proofs.program.attempt.Goals as goal
 
-pub returns-clause-suite_calm : goal.returns-clause-suite_calm
-returns-clause-suite_calm g c = λ other. c.in-Err-take_text.ensures.suite_calm (λ is. other (cc is))
-
-pub returns-clause-signer_calm : goal.returns-clause-signer_calm
-returns-clause-signer_calm g c = λ other. c.in-Err-take_text.ensures.signer_calm (λ is. other (cc is))
-
-pub returns-clause-refusal : goal.returns-clause-refusal
-returns-clause-refusal g c = λ command named e is.
-    let o = outside (g.S.Suite.meanings c.args.suite.now) c.args.given in
+pub returns-in-Ok-Some-clause-ends : goal.returns-in-Ok-Some-clause-ends
+returns-in-Ok-Some-clause-ends g c = λ command named told.
     let same : c.in-Ok-Some.command ≡ command = cc (named, c.in-Ok-Some.ensures, c.in-Ok-Some.field-0-is) in
-    subst (λ k. CanRefuse (g.G.Signer.signs c.args.signer.now) o k e) same (c.in-Err-take_text.ensures.refusal e is)
+    subst (λ k. Ends (g.G.Signer.signs c.args.signer.now) (outside (g.S.Suite.meanings c.args.suite.now) c.args.given) k
+    (input_for k (g.I.Source.left c.args.source.now)) (g.O.Sink.tells c.args.out.now)
+    (moment (g.O.Sink.written c.args.out.now) (g.I.Source.faults c.args.source.now) (g.O.Sink.faults c.args.out.now)
+    (g.S.Suite.faults c.args.suite.now) (g.G.Signer.faults c.args.signer.now))
+    (moment (g.O.Sink.written c.carry_out.new.out) (g.I.Source.faults c.carry_out.new.source) (g.O.Sink.faults c.carry_out.new.out)
+    (g.S.Suite.faults c.carry_out.new.suite) (g.G.Signer.faults c.carry_out.new.signer)) c.carry_out.result)
+    same (c.carry_out.ensures.told told)
+
+pub returns-in-Ok-Some-clause-ends_for_some : goal.returns-in-Ok-Some-clause-ends_for_some
+returns-in-Ok-Some-clause-ends_for_some g c = λ command named.
+    let same : c.in-Ok-Some.command ≡ command = cc (named, c.in-Ok-Some.ensures, c.in-Ok-Some.field-0-is) in
+    let some = c.carry_out.ensures.some in (
+      some.0,
+      subst (λ k. Ends (g.G.Signer.signs c.args.signer.now) (outside (g.S.Suite.meanings c.args.suite.now) c.args.given) k
+          (input_for k some.0) (g.O.Sink.tells c.args.out.now)
+          (moment (g.O.Sink.written c.args.out.now) (g.I.Source.faults c.args.source.now) (g.O.Sink.faults c.args.out.now)
+          (g.S.Suite.faults c.args.suite.now) (g.G.Signer.faults c.args.signer.now))
+          (moment (g.O.Sink.written c.carry_out.new.out) (g.I.Source.faults c.carry_out.new.source) (g.O.Sink.faults c.carry_out.new.out)
+          (g.S.Suite.faults c.carry_out.new.suite) (g.G.Signer.faults c.carry_out.new.signer)) c.carry_out.result) same some.1,
+    )

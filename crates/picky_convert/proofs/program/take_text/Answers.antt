@@ -1,43 +1,44 @@
--- A command that doesn't read the source comes to the same for all bytes.
-use Rattle.std.proofs.Common.{[], arith, subst, sym, ◌∙◌}
-use Rattle.std.specs.Prelude.{IfErr, string_bytes}
-use Rattle.picky_wire.specs.Count.{Rose}
-use Rattle.picky_convert.specs.Run.{outcome, Explains, IsOutsideFault}
+-- What is answered for the bytes that the command reads: all that the source has, or none.
+use Rattle.std.proofs.Common.{Global, arith, ap, length, refl, subst, sym, true, ◌<◌, ◌≡◌, Err}
+use Rattle.std.specs.Prelude.{string_bytes}
+use Rattle.picky_input.specs.Extent.{ToFault}
 use Rattle.picky_conversion.specs.Outside.{outside}
-use Rattle.picky_convert.proofs.CauseLemmas.{can_come, explained, outside_so, short_enough}
-use Rattle.picky_convert.proofs.SourceLemmas.{read_nothing, wants_alone}
+use Rattle.picky_convert.specs.declared.error.Status.TheVariants as statuses
+use Rattle.picky_convert.specs.Command.{reads_source}
+use Rattle.picky_convert.specs.Run.{extent_for, input_for, input_limit}
+use Rattle.picky_convert.proofs.CauseLemmas.{outcome_long}
+use Rattle.picky_convert.proofs.SourceLemmas.{extent_read, read_all, read_whole, reads_as, some_longer}
 use Rattle.picky_convert.proofs.program.take_text.Goals as goal
 
-pub returns-clause-without_source : goal.returns-clause-without_source
-returns-clause-without_source g c = λ none.
-    wants_alone (g.G.Signer.signs c.args.signer.now) string_bytes (outside (g.S.Suite.meanings c.args.suite.now) c.args.given) c.args.command _ _
-    c.perform.result none c.perform.ensures.gives
+pub returns-in-Ok-clause-source : goal.returns-in-Ok-clause-source
+returns-in-Ok-clause-source g c =
+    let reads : reads_source c.args.command ≡ true = cc (c.reads_source.ensures, c.if-reads_source.true) in
+    read_whole g.I.Source.tells g.I.Source.left g.I.Source.faults (g.G.Signer.signs c.args.signer.now) (string_bytes {Z = Global})
+    (outside (g.S.Suite.meanings c.args.suite.now) c.args.given) c.args.command c.as_slice.result.now _ _ c.perform.result
+    c.args.source.now c.read_input.new.source reads (omega (arith, c.in-Ok.ensures.small, ap length c.as_slice.ensures.value))
+    c.perform.ensures.comes c.in-Ok.ensures.told c.in-Ok.ensures.taken c.in-Ok.ensures.end c.in-Ok.ensures.calm
 
-pub returns-clause-past_limit : goal.returns-clause-past_limit
-returns-clause-past_limit g c = λ told.
-    short_enough (g.G.Signer.signs c.args.signer.now) string_bytes _ c.args.command [] _ _ _ c.perform.result
-    (omega arith) c.perform.ensures.gives
+pub returns-in-Err-ReadFault-clause-source : goal.returns-in-Err-ReadFault-clause-source
+returns-in-Err-ReadFault-clause-source g c =
+    let reads : reads_source c.args.command ≡ true = cc (c.reads_source.ensures, c.if-reads_source.true) in
+    let failed = c.in-Err-ReadFault.ensures in
+    reads_as g.I.Source.tells g.I.Source.left g.I.Source.faults ToFault (extent_for c.args.command statuses.ReadFault) c.args.source.now
+    c.read_input.new.source (extent_read c.args.command statuses.ReadFault reads) failed.told failed.taken
+    (λ told. failed.cut told (ap Err c.in-Err-ReadFault.field-0-is)) (λ none. cc none) (λ other. absurd (other refl))
 
-pub returns-clause-known : goal.returns-clause-known
-returns-clause-known g c =
-    can_come (g.G.Signer.signs c.args.signer.now) string_bytes _ c.args.command [] _ _ _ c.perform.result c.perform.ensures.gives
+pub returns-in-Err-TooLong-clause-told : goal.returns-in-Err-TooLong-clause-told
+returns-in-Err-TooLong-clause-told g c = λ told.
+    let reads : reads_source c.args.command ≡ true = cc (c.reads_source.ensures, c.if-reads_source.true) in
+    let left = g.I.Source.left c.args.source.now in
+    outcome_long (outside (g.S.Suite.meanings c.args.suite.now) c.args.given) c.args.command (input_for c.args.command left)
+    (subst (λ bytes. input_limit < length bytes) (sym (read_all c.args.command left reads))
+    (c.in-Err-TooLong.ensures.too_long told (ap Err c.in-Err-TooLong.field-0-is)).0)
 
-pub returns-clause-outside_fault_of_some : goal.returns-clause-outside_fault_of_some
-returns-clause-outside_fault_of_some g c = λ is.
-    let o = outside (g.S.Suite.meanings c.args.suite.now) c.args.given in
-    ([], outside_so (g.G.Signer.signs c.args.signer.now) string_bytes o c.args.command [] _ _ c.perform.result c.perform.ensures.gives is)
-
-pub returns-clause-refused : goal.returns-clause-refused
-returns-clause-refused g c = λ told.
-    let o = outside (g.S.Suite.meanings c.args.suite.now) c.args.given in
-    let none = sym (read_nothing c.args.command (g.I.Source.left c.args.source.now) (sym c.reads_source.ensures ∙ c.if-reads_source.false)) in
-    subst (λ input. IfErr c.perform.result (λ status. Explains (g.G.Signer.signs c.args.signer.now) status (outcome o c.args.command input))) none
-    (explained (g.G.Signer.signs c.args.signer.now) string_bytes o c.args.command [] _ _ c.perform.result c.perform.ensures.gives)
-
-pub returns-clause-outside_fault : goal.returns-clause-outside_fault
-returns-clause-outside_fault g c = λ told is.
-    let o = outside (g.S.Suite.meanings c.args.suite.now) c.args.given in
-    let none = sym (read_nothing c.args.command (g.I.Source.left c.args.source.now) (sym c.reads_source.ensures ∙ c.if-reads_source.false)) in
-    subst (λ input. IsOutsideFault o c.args.command input (Rose (g.S.Suite.faults c.args.suite.now) (g.S.Suite.faults c.perform.new.suite))
-    (Rose (g.G.Signer.faults c.args.signer.now) (g.G.Signer.faults c.perform.new.signer))) none
-    (outside_so (g.G.Signer.signs c.args.signer.now) string_bytes o c.args.command [] _ _ c.perform.result c.perform.ensures.gives is)
+pub returns-in-Err-TooLong-clause-some : goal.returns-in-Err-TooLong-clause-some
+returns-in-Err-TooLong-clause-some g c =
+    let reads : reads_source c.args.command ≡ true = cc (c.reads_source.ensures, c.if-reads_source.true) in
+    let some = some_longer input_limit in (
+      some.0,
+      outcome_long (outside (g.S.Suite.meanings c.args.suite.now) c.args.given) c.args.command (input_for c.args.command some.0)
+          (subst (λ bytes. input_limit < length bytes) (sym (read_all c.args.command some.0 reads)) some.1),
+    )
