@@ -76,16 +76,31 @@ def fastest(command, source, rounds=9):
     return best, small_peak(command, source) or peak
 
 
-def instructions(command, source, env={}):
-    """How many instructions callgrind counts over a file as standard input. A run may end with any status."""
+def costs(command, source, env={}):
+    """How many instructions callgrind counts in each function, over a file as standard input. A run may end with any status."""
     # Callgrind puts a file in the place of the one that it is given, and root's in that of a device.
     with open(source, "rb") as stdin, tempfile.TemporaryDirectory() as folder:
-        ran = subprocess.run(["valgrind", "--tool=callgrind", f"--callgrind-out-file={folder}/counts", *command], stdin=stdin,
+        counts = Path(folder) / "counts"
+        ran = subprocess.run(["valgrind", "--tool=callgrind", f"--callgrind-out-file={counts}", *command], stdin=stdin,
                              stdout=subprocess.DEVNULL, stderr=subprocess.PIPE, text=True, env=env)
-    counted = re.search(r"Collected : (\d+)", ran.stderr)
-    if not counted:
-        sys.exit(ran.stderr)
-    return int(counted[1])
+        if not counts.exists():
+            sys.exit(ran.stderr)
+        names, spent, name, called = {}, {}, None, False
+        for line in counts.read_text().splitlines():
+            if match := re.match(r"fn=\((\d+)\)(?: (.*))?", line):
+                name = names.setdefault(match[1], match[2])
+            elif re.match(r"[+*-]?\d*[ ]\d+$", line):
+                # What stands behind a line of calls= is the callee's.
+                spent[name] = spent.get(name, 0) + (0 if called else int(line.split()[1]))
+            called = line.startswith("calls=")
+            if match := re.match(r"cfn=\((\d+)\) (.*)", line):
+                names.setdefault(match[1], match[2])
+        return spent
+
+
+def instructions(command, source, env={}):
+    """How many instructions callgrind counts in all."""
+    return sum(costs(command, source, env).values())
 
 
 def small_peak(command, source):
