@@ -54,6 +54,26 @@ literal_field row values named = record {
   read_back = λ v _. named v;
 }
 
+-- a type of one value: its row, what texts mean, and that value
+pub record Word (A : Type 0) : Type 1 where
+  pub row : LiteralRow A
+  pub field : Field A
+  pub one : A
+  pub only : (v : A) → v ≡ one
+
+-- these
+abbrev pub word_of : {A : Type 0} → LiteralRow A → Field A → (one : A) → ((v : A) → v ≡ one) → Word A
+word_of row field one only = record { row = row; field = field; one = one; only = only }
+
+-- this literal alone stands for the value, and is what is written and expected
+pub record IsWord {A : Type 0} (word : Word A) (literal : List ℕ) : Type 0 where
+  pub reads : (text : List ℕ)
+      → word.field.meaning text ≡ value_named (λ _. literal) (word.one ∷ []) text
+  pub gives : (v : A) → word.field.is_big v ≡ false
+  pub expects : word.field.expected ≡ literal
+  pub writes : (v : A) → word.field.spelling v ≡ literal
+  pub fits : (v : A) → word.field.fits v
+
 -- no colon, CR and LF stand in the text
 abbrev pub is_plain : List ℕ → Bool
 is_plain text = list_all (λ b. not (b == 58 || b == 13 || b == 10)) text

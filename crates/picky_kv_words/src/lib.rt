@@ -8,6 +8,7 @@ mod error;
 mod field;
 mod keys;
 pub mod literals;
+mod word;
 
 pub use argon2_keys::{
     PpkArgon2MemoryKey, PpkArgon2ParallelismKey, PpkArgon2PassesKey, PpkArgon2SaltKey,
@@ -19,3 +20,4 @@ pub use field::{PpkField, PpkLiteral, PpkSingle, refused};
 pub use keys::{
     PpkCommentKey, PpkEncryptionKey, PpkPrivateLinesKey, PpkPrivateMacKey, PpkPublicLinesKey,
 };
+pub use word::{PpkWord, WordTexts};
