@@ -15,7 +15,7 @@ ghost use Rattle.picky_kv_values.specs.Blocks.{IsBlockText};
 ghost use Rattle.picky_kv_words.specs.Keys.{comment_key_row, encryption_key_row, private_lines_key_row};
 ghost use Rattle.picky_kv_words.specs.Keys.{private_mac_key_row, public_lines_key_row};
 ghost use Rattle.picky_kv.specs.Lines.{key_and_value, first_joined, next_pair, next_block};
-ghost use Rattle.picky_kv_words.specs.Literal.{IsOfLiterals};
+ghost use Rattle.picky_kv_words.specs.Literal.{IsOfLiterals, LiteralRow};
 ghost use Rattle.picky_kv.specs.NumberFields.{count_field};
 ghost use Rattle.picky_kv.specs.Numbers.{count_row, u32_row};
 ghost use Rattle.picky_kv.specs.Parts.{HasNoSeparator, AreKeyAndValue, AreJoined, PairsAreRead};
@@ -40,98 +40,58 @@ use picky_kv_words::{
     PpkValueError, PpkValueParsingError, PpkVersionKey,
 };
 
+/// The type of a line's key.
+type KeyOf<T> = <T as PpkKeyValue>::Key;
+
+/// The type of a line's value.
+type ValueOf<T> = <T as PpkKeyValue>::Value;
+
+/// The type of a block's key.
+type BlockKeyOf<T> = <T as PpkMultilineKeyValue>::Key;
+
+/// The type of a block's value.
+type BlockValueOf<T> = <T as PpkMultilineKeyValue>::Value;
+
+/// What the laws below say of a type whose values have one literal each.
+pub trait Literals: PpkField + PpkLiteral {
+    // the type is the row's: how it is read and written, each literal, and the name
+    ghost AreOf: { LiteralRow Self → Type 0 };
+}
+
+impl<T: PpkField + PpkLiteral> Literals for T {
+    ghost AreOf = { IsOfLiterals T.field T.literal T.name };
+}
+
 /// Each line's key: its literal alone stands for it, is written and is expected. Refusals give its
 /// type's name.
 pub fn keys_have_their_literals()
-    ensures header { IsOfLiterals
-        ⟦<<PpkHeader as PpkKeyValue>::Key as PpkField>⟧.field
-        ⟦<<PpkHeader as PpkKeyValue>::Key as PpkLiteral>⟧.literal
-        ⟦<<PpkHeader as PpkKeyValue>::Key as PpkLiteral>⟧.name
-        version_row }
-    ensures encryption { IsOfLiterals
-        ⟦<<PpkEncryption as PpkKeyValue>::Key as PpkField>⟧.field
-        ⟦<<PpkEncryption as PpkKeyValue>::Key as PpkLiteral>⟧.literal
-        ⟦<<PpkEncryption as PpkKeyValue>::Key as PpkLiteral>⟧.name
-        encryption_key_row }
-    ensures comment { IsOfLiterals
-        ⟦<<PpkComment as PpkKeyValue>::Key as PpkField>⟧.field
-        ⟦<<PpkComment as PpkKeyValue>::Key as PpkLiteral>⟧.literal
-        ⟦<<PpkComment as PpkKeyValue>::Key as PpkLiteral>⟧.name
-        comment_key_row }
-    ensures key_derivation { IsOfLiterals
-        ⟦<<PpkKeyDerivation as PpkKeyValue>::Key as PpkField>⟧.field
-        ⟦<<PpkKeyDerivation as PpkKeyValue>::Key as PpkLiteral>⟧.literal
-        ⟦<<PpkKeyDerivation as PpkKeyValue>::Key as PpkLiteral>⟧.name
-        key_derivation_key_row }
-    ensures memory { IsOfLiterals
-        ⟦<<PpkArgon2Memory as PpkKeyValue>::Key as PpkField>⟧.field
-        ⟦<<PpkArgon2Memory as PpkKeyValue>::Key as PpkLiteral>⟧.literal
-        ⟦<<PpkArgon2Memory as PpkKeyValue>::Key as PpkLiteral>⟧.name
-        argon2_memory_key_row }
-    ensures passes { IsOfLiterals
-        ⟦<<PpkArgon2Passes as PpkKeyValue>::Key as PpkField>⟧.field
-        ⟦<<PpkArgon2Passes as PpkKeyValue>::Key as PpkLiteral>⟧.literal
-        ⟦<<PpkArgon2Passes as PpkKeyValue>::Key as PpkLiteral>⟧.name
-        argon2_passes_key_row }
-    ensures parallelism { IsOfLiterals
-        ⟦<<PpkArgon2Parallelism as PpkKeyValue>::Key as PpkField>⟧.field
-        ⟦<<PpkArgon2Parallelism as PpkKeyValue>::Key as PpkLiteral>⟧.literal
-        ⟦<<PpkArgon2Parallelism as PpkKeyValue>::Key as PpkLiteral>⟧.name
-        argon2_parallelism_key_row }
-    ensures salt { IsOfLiterals
-        ⟦<<PpkArgon2Salt as PpkKeyValue>::Key as PpkField>⟧.field
-        ⟦<<PpkArgon2Salt as PpkKeyValue>::Key as PpkLiteral>⟧.literal
-        ⟦<<PpkArgon2Salt as PpkKeyValue>::Key as PpkLiteral>⟧.name
-        argon2_salt_key_row }
-    ensures mac { IsOfLiterals
-        ⟦<<PpkPrivateMac as PpkKeyValue>::Key as PpkField>⟧.field
-        ⟦<<PpkPrivateMac as PpkKeyValue>::Key as PpkLiteral>⟧.literal
-        ⟦<<PpkPrivateMac as PpkKeyValue>::Key as PpkLiteral>⟧.name
-        private_mac_key_row }
-    ensures public_lines { IsOfLiterals
-        ⟦<<PpkPublicLines as PpkMultilineKeyValue>::Key as PpkField>⟧.field
-        ⟦<<PpkPublicLines as PpkMultilineKeyValue>::Key as PpkLiteral>⟧.literal
-        ⟦<<PpkPublicLines as PpkMultilineKeyValue>::Key as PpkLiteral>⟧.name
-        public_lines_key_row }
-    ensures private_lines { IsOfLiterals
-        ⟦<<PpkPrivateLines as PpkMultilineKeyValue>::Key as PpkField>⟧.field
-        ⟦<<PpkPrivateLines as PpkMultilineKeyValue>::Key as PpkLiteral>⟧.literal
-        ⟦<<PpkPrivateLines as PpkMultilineKeyValue>::Key as PpkLiteral>⟧.name
-        private_lines_key_row }
+    ensures header { ⟦<KeyOf<PpkHeader> as Literals>⟧.AreOf version_row }
+    ensures encryption { ⟦<KeyOf<PpkEncryption> as Literals>⟧.AreOf encryption_key_row }
+    ensures comment { ⟦<KeyOf<PpkComment> as Literals>⟧.AreOf comment_key_row }
+    ensures key_derivation { ⟦<KeyOf<PpkKeyDerivation> as Literals>⟧.AreOf key_derivation_key_row }
+    ensures memory { ⟦<KeyOf<PpkArgon2Memory> as Literals>⟧.AreOf argon2_memory_key_row }
+    ensures passes { ⟦<KeyOf<PpkArgon2Passes> as Literals>⟧.AreOf argon2_passes_key_row }
+    ensures parallelism { ⟦<KeyOf<PpkArgon2Parallelism> as Literals>⟧.AreOf argon2_parallelism_key_row }
+    ensures salt { ⟦<KeyOf<PpkArgon2Salt> as Literals>⟧.AreOf argon2_salt_key_row }
+    ensures mac { ⟦<KeyOf<PpkPrivateMac> as Literals>⟧.AreOf private_mac_key_row }
+    ensures public_lines { ⟦<BlockKeyOf<PpkPublicLines> as Literals>⟧.AreOf public_lines_key_row }
+    ensures private_lines { ⟦<BlockKeyOf<PpkPrivateLines> as Literals>⟧.AreOf private_lines_key_row }
 {}
 
 /// Each line's value, and a block's count: which texts stand for it, which is written, and what is
 /// expected.
 pub fn values_have_their_texts()
-    ensures header { IsOfLiterals
-        ⟦<<PpkHeader as PpkKeyValue>::Value as PpkField>⟧.field
-        ⟦<<PpkHeader as PpkKeyValue>::Value as PpkLiteral>⟧.literal
-        ⟦<<PpkHeader as PpkKeyValue>::Value as PpkLiteral>⟧.name
-        algorithm_row }
-    ensures encryption { IsOfLiterals
-        ⟦<<PpkEncryption as PpkKeyValue>::Value as PpkField>⟧.field
-        ⟦<<PpkEncryption as PpkKeyValue>::Value as PpkLiteral>⟧.literal
-        ⟦<<PpkEncryption as PpkKeyValue>::Value as PpkLiteral>⟧.name
-        encryption_row }
-    ensures comment { IsOfRow ⟦<<PpkComment as PpkKeyValue>::Value as PpkField>⟧.field comment_row }
-    ensures key_derivation { IsOfLiterals
-        ⟦<<PpkKeyDerivation as PpkKeyValue>::Value as PpkField>⟧.field
-        ⟦<<PpkKeyDerivation as PpkKeyValue>::Value as PpkLiteral>⟧.literal
-        ⟦<<PpkKeyDerivation as PpkKeyValue>::Value as PpkLiteral>⟧.name
-        flavour_row }
-    ensures memory { IsOfRow ⟦<<PpkArgon2Memory as PpkKeyValue>::Value as PpkField>⟧.field u32_row }
-    ensures passes { IsOfRow ⟦<<PpkArgon2Passes as PpkKeyValue>::Value as PpkField>⟧.field u32_row }
-    ensures parallelism { IsOfRow
-        ⟦<<PpkArgon2Parallelism as PpkKeyValue>::Value as PpkField>⟧.field
-        u32_row }
-    ensures salt { IsOfRow ⟦<<PpkArgon2Salt as PpkKeyValue>::Value as PpkField>⟧.field hex_row }
-    ensures mac { IsOfRow ⟦<<PpkPrivateMac as PpkKeyValue>::Value as PpkField>⟧.field hex_row }
-    ensures public_lines { IsOfRow
-        ⟦<<PpkPublicLines as PpkMultilineKeyValue>::Value as PpkField>⟧.field
-        base64_row }
-    ensures private_lines { IsOfRow
-        ⟦<<PpkPrivateLines as PpkMultilineKeyValue>::Value as PpkField>⟧.field
-        base64_row }
+    ensures header { ⟦<ValueOf<PpkHeader> as Literals>⟧.AreOf algorithm_row }
+    ensures encryption { ⟦<ValueOf<PpkEncryption> as Literals>⟧.AreOf encryption_row }
+    ensures comment { IsOfRow ⟦<ValueOf<PpkComment> as PpkField>⟧.field comment_row }
+    ensures key_derivation { ⟦<ValueOf<PpkKeyDerivation> as Literals>⟧.AreOf flavour_row }
+    ensures memory { IsOfRow ⟦<ValueOf<PpkArgon2Memory> as PpkField>⟧.field u32_row }
+    ensures passes { IsOfRow ⟦<ValueOf<PpkArgon2Passes> as PpkField>⟧.field u32_row }
+    ensures parallelism { IsOfRow ⟦<ValueOf<PpkArgon2Parallelism> as PpkField>⟧.field u32_row }
+    ensures salt { IsOfRow ⟦<ValueOf<PpkArgon2Salt> as PpkField>⟧.field hex_row }
+    ensures mac { IsOfRow ⟦<ValueOf<PpkPrivateMac> as PpkField>⟧.field hex_row }
+    ensures public_lines { IsOfRow ⟦<BlockValueOf<PpkPublicLines> as PpkField>⟧.field base64_row }
+    ensures private_lines { IsOfRow ⟦<BlockValueOf<PpkPrivateLines> as PpkField>⟧.field base64_row }
     ensures count { IsOfRow count_field count_row }
 
     // Bytes are written in hex by two digits each, in lower case.
@@ -140,13 +100,10 @@ pub fn values_have_their_texts()
 {}
 
 /// The key and the value of a line.
-type PairOf<T> = (<T as PpkKeyValue>::Key, <T as PpkKeyValue>::Value);
+type PairOf<T> = (KeyOf<T>, ValueOf<T>);
 
 /// The key and the value of a block.
-type BlockOf<T> = (
-    <T as PpkMultilineKeyValue>::Key,
-    <T as PpkMultilineKeyValue>::Value,
-);
+type BlockOf<T> = (BlockKeyOf<T>, BlockValueOf<T>);
 
 /// The table of the lines: which key stands before which value. Each is given back as it is.
 pub fn pairs_have_their_types(
