@@ -1,13 +1,12 @@
 -- The laws of packing: it leaves out blanks alone, so rows are packed to what they join to.
 use Rattle.std.proofs.Common.{◌≡◌, ℕ, List, [], ◌∷◌, ◌++◌, true, false, not, IsTrue, refl, sym, ap, ◌∙◌, subst, arith}
-use Rattle.std.proofs.Common.{take, drop, slice_index, Some, None, ◌<◌, ◌+◌}
+use Rattle.std.proofs.Common.{take, drop, slice_index, length, append_assoc, ◌<◌, ◌≤◌, ◌+◌}
 use Rattle.std.proofs.Common.{zero, suc, inl, inr}
 use Rattle.std.proofs.lemmas.Bool.{cases_Bool}
 use Rattle.std.proofs.lemmas.Bool.Decides.{nat_tests}
-use Rattle.std.proofs.lemmas.List.{append-nil, take-append-drop, drop_more}
+use Rattle.std.proofs.lemmas.List.{append-nil, take-append-drop, drop_more, length-drop}
 use Rattle.std.proofs.lemmas.List.Elements.{filter-append}
-use Rattle.std.proofs.lemmas.List.Quantifiers.{position-Some}
-use Rattle.std.specs.List.{AllByRecursion, concat, flat_map, position}
+use Rattle.std.specs.List.{AllByRecursion, concat, flat_map}
 use Rattle.picky_layout.specs.Numbers.{IsBytes}
 use Rattle.picky_text.specs.Base64.{base64_of, is_base64_symbol}
 use Rattle.picky_text.specs.Lines.{text_of}
@@ -15,7 +14,6 @@ use Rattle.picky_text.specs.Rows.{rows_of}
 use Rattle.picky_text.specs.declared.lines.LineEnd.TheVariants.{Lf}
 use Rattle.picky_text.proofs.Base64Laws.{base64_alphabet}
 use Rattle.picky_text.proofs.ListLaws.{all_weaker}
-use Rattle.picky_text.proofs.QuoteLemmas.{none_before, none_at_all}
 use Rattle.picky_text.proofs.RowLaws.{rows_of_are_rows, all_in_parts}
 use Rattle.picky_pem.specs.Pem.{is_blank, packed}
 
@@ -67,24 +65,68 @@ packed_base64_rows content small =
     packed_rows (rows_of (base64_of content)) (all_in_parts (λ b. is_blank b ≡ false) (rows_of (base64_of content)) each)
     ∙ joined
 
--- ---- at the first blank
+-- ---- by rows
 
--- Bytes without blanks, by the search.
-pub packed_nowhere : (bytes : List ℕ) → None ≡ position is_blank bytes → packed bytes ≡ bytes
-packed_nowhere bytes none = packed_whole bytes (none_at_all is_blank bytes none)
+-- Bytes up to their end.
+pub packed_up_to : (bytes row more : List ℕ) (at : ℕ) → row ≡ take at bytes → more ≡ drop at bytes
+    → packed bytes ≡ packed row ++ packed more
+packed_up_to bytes row more at row_is more_is =
+    ap packed (sym (take-append-drop at bytes)) ∙ packed_append (take at bytes) (drop at bytes)
+    ∙ ap (λ l. packed l ++ packed (drop at bytes)) (sym row_is)
+    ∙ ap (λ l. packed row ++ packed l) (sym more_is)
 
--- Bytes at their first blank.
-pub packed_split : (bytes run more : List ℕ) (at : ℕ) → Some at ≡ position is_blank bytes
-    → run ≡ take at bytes → more ≡ drop (at + 1) bytes → packed bytes ≡ run ++ packed more
-packed_split bytes run more at found run_is more_is =
-    let facts = position-Some is_blank bytes at 0 (sym found) in
-    let whole : bytes ≡ take at bytes ++ slice_index bytes at ∷ drop (at + 1) bytes = sym (take-append-drop at bytes)
-    ∙ ap (λ l. take at bytes ++ l) (drop_more bytes at 0 facts.0) in
-    let front = packed_whole (take at bytes) (none_before is_blank bytes at found) in
-    ap packed whole ∙ packed_append (take at bytes) _
-    ∙ ap (λ l. l ++ packed (slice_index bytes at ∷ drop (at + 1) bytes)) front
-    ∙ ap (λ l. take at bytes ++ l) (packed_blank (slice_index bytes at) (drop (at + 1) bytes) facts.1)
-    ∙ ap (λ l. take at bytes ++ packed l) (sym more_is) ∙ ap (λ l. l ++ packed more) (sym run_is)
+-- Bytes at a blank.
+pub packed_at : (bytes row more after : List ℕ) (b at : ℕ) → row ≡ take at bytes → more ≡ drop at bytes
+    → more ≡ b ∷ after → (at < length bytes → is_blank (slice_index bytes at) ≡ true)
+    → packed bytes ≡ packed row ++ packed after
+packed_at bytes row more after b at row_is more_is begins blank =
+    let inside : at < length bytes = omega (arith, ap length (sym more_is ∙ begins), length-drop at bytes) in
+    let same : slice_index bytes at ∷ drop (at + 1) bytes ≡ b ∷ after = sym (drop_more bytes at 0 inside) ∙ sym more_is ∙ begins in
+    let first : slice_index bytes at ≡ b = cc same in
+    let left_out = packed_blank b after (subst (λ x. is_blank x ≡ true) first (blank inside)) in
+    packed_up_to bytes row more at row_is more_is ∙ ap (λ l. packed row ++ packed l) begins
+    ∙ ap (λ l. packed row ++ l) left_out
+
+-- Before the first row.
+pub packed_starts : (bytes joined : List ℕ) → joined ≡ [] → packed joined ++ packed bytes ≡ packed bytes
+unfolding packed
+packed_starts bytes joined none = rw none refl
+
+-- After the last.
+pub packed_ends : (bytes joined rest : List ℕ) → rest ≡ [] → packed joined ++ packed rest ≡ packed bytes
+    → packed joined ≡ packed bytes
+unfolding packed
+packed_ends bytes joined rest empty before =
+    sym (append-nil (packed joined)) ∙ ap (λ l. packed joined ++ packed l) (sym empty) ∙ before
+
+-- A blank at the front.
+pub packed_front : (bytes rest more : List ℕ) (b : ℕ) → rest ≡ b ∷ more → is_blank b ≡ true
+    → packed rest ≡ packed bytes → packed more ≡ packed bytes
+packed_front bytes rest more b begins blank before =
+    sym (packed_blank b more blank) ∙ ap packed (sym begins) ∙ before
+
+-- One row more.
+pub packed_row_more : (bytes joined next row rest more : List ℕ) → next ≡ joined ++ row
+    → packed rest ≡ packed row ++ packed more → packed joined ++ packed rest ≡ packed bytes
+    → packed next ++ packed more ≡ packed bytes
+packed_row_more bytes joined next row rest more next_is parts before =
+    ap (λ l. packed l ++ packed more) next_is ∙ ap (λ l. l ++ packed more) (packed_append joined row)
+    ∙ append_assoc (packed joined) (packed row) (packed more) ∙ ap (λ l. packed joined ++ l) (sym parts) ∙ before
+
+above_blank : (b : ℕ) → 32 < b → is_blank b ≡ false
+above_blank b above = grind (arith, nat_tests)
+
+no_blank_above : (bytes : List ℕ) (least : ℕ) → 32 < least
+    → ((k : ℕ) → k < length bytes → least ≤ slice_index bytes k) → HasNoBlank bytes
+no_blank_above [] least above each = tt
+no_blank_above (b ∷ bytes) least above each =
+    let first : least ≤ b = each 0 (omega arith) in
+    (above_blank b (omega arith), no_blank_above bytes least above (λ k inside. each (suc k) (omega arith)))
+
+-- Bytes above the space have no blank among them.
+pub packed_above : (bytes : List ℕ) (least : ℕ) → 32 < least
+    → ((k : ℕ) → k < length bytes → least ≤ slice_index bytes k) → packed bytes ≡ bytes
+packed_above bytes least above each = packed_whole bytes (no_blank_above bytes least above each)
 
 -- ---- bytes
 

@@ -1,6 +1,6 @@
 //! An armoured text: its content read and written.
 
-ghost use Rattle.std.specs.Prelude.{◌≡◌, ◌^◌, ◌<◌, ◌++◌, ℕ, List, length, IfOk, OnOk, IfNone, IfSome, string_bytes};
+ghost use Rattle.std.specs.Prelude.{◌≡◌, ◌^◌, ◌<◌, ◌≤◌, ◌++◌, ℕ, List, true, length, slice_index, IfOk, OnOk, string_bytes};
 ghost use Rattle.std.specs.List.{position};
 ghost use Rattle.picky_layout.specs.Numbers.{IsBytes};
 ghost use Rattle.picky_text.specs.Appended.{AppendsAll};
@@ -148,26 +148,80 @@ fn of_body(alloc: Global, body: &[u8]) -> Result<Pem, PemError>
 fn packed(alloc: Global, bytes: &[u8]) -> Result<Vec<u8>, AllocError>
     ensures { IfOk result (λ packed. packed.items ≡ packed_of bytes.now) }
 {
-    let mut packed = Vec::with_capacity(alloc, bytes.len())?;
-    let mut rest = bytes;
-    'runs: while let Some((run, more)) = split_at_blank(rest) {
-        packed.extend_from_slice(run)?;
-        rest = more;
+    let mut packed = joined_rows(alloc, bytes)?;
+    if least(packed.as_slice()) <= b' ' {
+        packed.retain(|byte| !is_blank(*byte));
     }
-    packed.extend_from_slice(rest)?;
     Ok(packed)
 }
 
-/// What stands before the first blank, and what follows it.
-fn split_at_blank(bytes: &[u8]) -> Option<(&[u8], &[u8])>
-    ensures none { IfNone result (packed_of bytes.now ≡ bytes.now) }
-    ensures parts { IfSome result (λ p. packed_of bytes.now ≡ p.0.now ++ packed_of p.1.now) }
-    ensures less { IfSome result (λ p. length p.1.now < length bytes.now) }
+/// The bytes less some of the blanks among them: all, where the rows have one length.
+fn joined_rows(alloc: Global, bytes: &[u8]) -> Result<Vec<u8>, AllocError>
+    ensures { IfOk result (λ joined. packed_of joined.items ≡ packed_of bytes.now) }
 {
-    match blank_in(bytes) {
-        Some(at) => Some((&bytes[..at], &bytes[at + 1..])),
-        None => None,
+    let mut joined = Vec::with_capacity(alloc, bytes.len())?;
+    let mut rest = bytes;
+    let mut row_len = 0;
+    'rows: while !rest.is_empty() {
+        let (row, more) = split_row(rest, row_len);
+        joined.extend_from_slice(row)?;
+        row_len = row.len();
+        rest = more;
     }
+    Ok(joined)
+}
+
+/// A row, of the length that is guessed where a blank follows, and what follows it less the blanks at its front.
+fn split_row(bytes: &[u8], guess: usize) -> (&[u8], &[u8])
+    requires { 0 < length bytes.now }
+    ensures parts { packed_of bytes.now ≡ packed_of result.0.now ++ packed_of result.1.now }
+    ensures less { length result.1.now < length bytes.now }
+{
+    let (row, more) = bytes.split_at(row_end(bytes, guess));
+    match more.split_first() {
+        Some((_, after)) => (row, without_blanks(after)),
+        None => (row, more),
+    }
+}
+
+/// Where a blank stands: at the guess, else the first; or the end.
+fn row_end(bytes: &[u8], guess: usize) -> usize
+    ensures within { result ≤ length bytes.now }
+    ensures blank { result < length bytes.now → is_blank_of (slice_index bytes.now result) ≡ true }
+{
+    if guess < bytes.len() && is_blank(bytes[guess]) {
+        return guess;
+    }
+    match blank_in(bytes) {
+        Some(at) => at,
+        None => bytes.len(),
+    }
+}
+
+/// The bytes less the blanks at their front.
+fn without_blanks(bytes: &[u8]) -> &[u8]
+    ensures same { packed_of result.now ≡ packed_of bytes.now }
+    ensures within { length result.now ≤ length bytes.now }
+{
+    let mut rest = bytes;
+    'blanks: while let Some((first, more)) = rest.split_first() {
+        if !is_blank(*first) {
+            return rest;
+        }
+        rest = more;
+    }
+    rest
+}
+
+/// A number that no byte is below, which is one of them unless it is 255.
+fn least(bytes: &[u8]) -> u8
+    ensures { (k : ℕ) → k < length bytes.now → result ≤ slice_index bytes.now k }
+{
+    let mut least = u8::MAX;
+    for byte in bytes {
+        least = least.min(*byte);
+    }
+    least
 }
 
 fn blank_in(bytes: &[u8]) -> Option<usize>
