@@ -1,9 +1,8 @@
 -- The laws of quoting: it is undone, and what it adds are backslashes alone.
-use Rattle.std.proofs.Common.{◌≡◌, ◌≢◌, ℕ, ◌==◌, true, false, List, [], ◌∷◌, ◌++◌, refl, sym, ◌∙◌, ap, arith}
+use Rattle.std.proofs.Common.{◌≡◌, ◌≢◌, ℕ, ◌==◌, false, List, [], ◌∷◌, refl, sym, ◌∙◌, ap, arith}
 use Rattle.std.proofs.Common.{inl, inr}
 use Rattle.std.proofs.lemmas.Bool.{cases_Bool}
 use Rattle.std.proofs.lemmas.Bool.Decides.{nat_tests}
-use Rattle.std.specs.List.{AllByRecursion}
 use Rattle.picky_text.specs.Lines.{HasNo}
 use Rattle.picky_text.specs.Quote.{is_special, quote, unquote}
 
@@ -34,19 +33,6 @@ quote_has_no b (c ∷ cs) other none =
       | inl special ↦ rw special (λ same. other (sym same), (none.0, more))
       | inr plain ↦ rw plain (none.0, more)
     ]
-
--- a front without backslashes and quotes stays, and a backslash stands before the first of these
-pub quote_at_special : (front : List ℕ) (b : ℕ) (rest : List ℕ)
-    → AllByRecursion (λ c. is_special c ≡ false) front → is_special b ≡ true
-    → quote (front ++ b ∷ rest) ≡ front ++ 92 ∷ b ∷ quote rest
-quote_at_special [] b rest none special = rw special refl
-quote_at_special (c ∷ front) b rest none special =
-    rw none.0 (ap (λ l. c ∷ l) (quote_at_special front b rest none.1 special))
-
--- a text without backslashes and quotes is its own quoting
-pub quote_plain : (x : List ℕ) → AllByRecursion (λ c. is_special c ≡ false) x → quote x ≡ x
-quote_plain [] none = refl
-quote_plain (c ∷ cs) none = rw none.0 (ap (λ l. c ∷ l) (quote_plain cs none.1))
 
 -- what `laws` states of quoting
 pub ruleset quote_laws = (quote_is_read_back, quote_has_no)

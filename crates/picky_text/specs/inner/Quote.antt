@@ -1,11 +1,15 @@
--- Words of this crate's private contracts: one step of quoting and of unquoting.
-use Rattle.std.proofs.Common.{◌≡◌, ℕ, List, ◌∷◌, ◌++◌}
-use Rattle.picky_text.specs.Quote.{quote, unquote}
+-- Words of this crate's private contracts: what unquoting looks for, and one step of quoting.
+use Rattle.std.specs.Prelude.{◌≡◌, List, ◌++◌, ℕ, Bool, ◌==◌}
+use Rattle.std.specs.declared.string.String.{String}
+use Rattle.picky_text.specs.Appended.{AppendsAll}
+use Rattle.picky_text.specs.Quote.{quote}
 
--- the text is quoted by a backslash between the two parts, and by the quoting of what follows
-abbrev pub IsQuotedAt : List ℕ → List ℕ → List ℕ → List ℕ → Type 0
-IsQuotedAt text plain special more = quote text ≡ plain ++ 92 ∷ special ++ quote more
+-- a backslash
+abbrev pub is_backslash : ℕ → Bool
+is_backslash b = b == 92
 
--- the first backslash of the text, between plain and kept or kept itself, stands for kept
-abbrev pub IsUnquotedAt : List ℕ → List ℕ → List ℕ → List ℕ → Type 0
-IsUnquotedAt text plain kept more = unquote text ≡ plain ++ kept ++ unquote more
+-- a piece was appended, and the quoting of the text is that piece and the quoting of what is left
+pub record IsPieceQuoted {Z : Type 0} (old new : String Z) (text more : List ℕ) : Type 0 where
+  pub piece : List ℕ
+  pub begins : quote text ≡ piece ++ quote more
+  pub appended : AppendsAll old new piece
