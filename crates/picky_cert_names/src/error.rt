@@ -1,7 +1,11 @@
 //! Why the parts of a certificate, and a certificate, are not read or written.
 
+ghost use Rattle.std.specs.Prelude.{◌≡◌};
+ghost use Rattle.picky_cert_names.specs.FromWire.{cert_type_error, option_error, extension_error, signature_error, certificate_error};
+ghost use Rattle.picky_cert_names.specs.carried.FromWire.{cert_type_error_apart, option_error_apart, extension_error_apart, signature_error_apart, certificate_error_apart};
+
 use picky_sshpub::SshPublicKeyError;
-use picky_wire::{CodecError, IoKind, Text, WireError};
+use picky_wire::{CodecError, IoKind, Text, WireError, error_of_wire};
 use thiserror::Error;
 
 /// Why the type of a certificate is not read or written.
@@ -25,28 +29,14 @@ pub enum SshCertTypeError {
 }
 
 impl From<WireError> for SshCertTypeError {
-    ghost use Rattle.std.specs.Prelude.{◌≡◌};
-    ghost use Rattle.picky_cert_names.specs.FromWire.{cert_type_error};
-
     ghost from_gives = { λ e result. result ≡ cert_type_error e };
 
     fn from(e: WireError) -> SshCertTypeError {
-        match e {
-            WireError::UnexpectedEnd => SshCertTypeError::IoError(IoKind::UnexpectedEnd),
-            WireError::ReadFault => SshCertTypeError::IoError(IoKind::ReadFault),
-            WireError::WriteFault => SshCertTypeError::IoError(IoKind::WriteFault),
-            WireError::InvalidUtf8 => SshCertTypeError::InvalidUtf8,
-            WireError::TooLong => SshCertTypeError::TooLong,
-            WireError::NoMemory => SshCertTypeError::NoMemory,
-        }
+        error_of_wire!(e, SshCertTypeError, IoError, InvalidUtf8)
     }
 }
 
 impl CodecError for SshCertTypeError {
-    ghost use Rattle.std.specs.Prelude.{◌≡◌};
-    ghost use Rattle.picky_cert_names.specs.FromWire.{cert_type_error};
-    ghost use Rattle.picky_cert_names.specs.carried.FromWire.{cert_type_error_apart};
-
     ghost of_wire = { cert_type_error };
 
     ghost from_alike = { λ e x same. same };
@@ -55,10 +45,6 @@ impl CodecError for SshCertTypeError {
 
     fn is_no_memory(&self) -> bool {
         matches!(self, SshCertTypeError::NoMemory)
-    }
-
-    fn from_wire(e: WireError) -> SshCertTypeError {
-        SshCertTypeError::from(e)
     }
 }
 
@@ -83,28 +69,14 @@ pub enum SshCriticalOptionError {
 }
 
 impl From<WireError> for SshCriticalOptionError {
-    ghost use Rattle.std.specs.Prelude.{◌≡◌};
-    ghost use Rattle.picky_cert_names.specs.FromWire.{option_error};
-
     ghost from_gives = { λ e result. result ≡ option_error e };
 
     fn from(e: WireError) -> SshCriticalOptionError {
-        match e {
-            WireError::UnexpectedEnd => SshCriticalOptionError::IoError(IoKind::UnexpectedEnd),
-            WireError::ReadFault => SshCriticalOptionError::IoError(IoKind::ReadFault),
-            WireError::WriteFault => SshCriticalOptionError::IoError(IoKind::WriteFault),
-            WireError::InvalidUtf8 => SshCriticalOptionError::InvalidUtf8,
-            WireError::TooLong => SshCriticalOptionError::TooLong,
-            WireError::NoMemory => SshCriticalOptionError::NoMemory,
-        }
+        error_of_wire!(e, SshCriticalOptionError, IoError, InvalidUtf8)
     }
 }
 
 impl CodecError for SshCriticalOptionError {
-    ghost use Rattle.std.specs.Prelude.{◌≡◌};
-    ghost use Rattle.picky_cert_names.specs.FromWire.{option_error};
-    ghost use Rattle.picky_cert_names.specs.carried.FromWire.{option_error_apart};
-
     ghost of_wire = { option_error };
 
     ghost from_alike = { λ e x same. same };
@@ -113,10 +85,6 @@ impl CodecError for SshCriticalOptionError {
 
     fn is_no_memory(&self) -> bool {
         matches!(self, SshCriticalOptionError::NoMemory)
-    }
-
-    fn from_wire(e: WireError) -> SshCriticalOptionError {
-        SshCriticalOptionError::from(e)
     }
 }
 
@@ -138,28 +106,14 @@ pub enum SshExtensionError {
 }
 
 impl From<WireError> for SshExtensionError {
-    ghost use Rattle.std.specs.Prelude.{◌≡◌};
-    ghost use Rattle.picky_cert_names.specs.FromWire.{extension_error};
-
     ghost from_gives = { λ e result. result ≡ extension_error e };
 
     fn from(e: WireError) -> SshExtensionError {
-        match e {
-            WireError::UnexpectedEnd => SshExtensionError::IoError(IoKind::UnexpectedEnd),
-            WireError::ReadFault => SshExtensionError::IoError(IoKind::ReadFault),
-            WireError::WriteFault => SshExtensionError::IoError(IoKind::WriteFault),
-            WireError::InvalidUtf8 => SshExtensionError::InvalidUtf8,
-            WireError::TooLong => SshExtensionError::TooLong,
-            WireError::NoMemory => SshExtensionError::NoMemory,
-        }
+        error_of_wire!(e, SshExtensionError, IoError, InvalidUtf8)
     }
 }
 
 impl CodecError for SshExtensionError {
-    ghost use Rattle.std.specs.Prelude.{◌≡◌};
-    ghost use Rattle.picky_cert_names.specs.FromWire.{extension_error};
-    ghost use Rattle.picky_cert_names.specs.carried.FromWire.{extension_error_apart};
-
     ghost of_wire = { extension_error };
 
     ghost from_alike = { λ e x same. same };
@@ -168,10 +122,6 @@ impl CodecError for SshExtensionError {
 
     fn is_no_memory(&self) -> bool {
         matches!(self, SshExtensionError::NoMemory)
-    }
-
-    fn from_wire(e: WireError) -> SshExtensionError {
-        SshExtensionError::from(e)
     }
 }
 
@@ -199,28 +149,14 @@ pub enum SshSignatureError {
 }
 
 impl From<WireError> for SshSignatureError {
-    ghost use Rattle.std.specs.Prelude.{◌≡◌};
-    ghost use Rattle.picky_cert_names.specs.FromWire.{signature_error};
-
     ghost from_gives = { λ e result. result ≡ signature_error e };
 
     fn from(e: WireError) -> SshSignatureError {
-        match e {
-            WireError::UnexpectedEnd => SshSignatureError::IoError(IoKind::UnexpectedEnd),
-            WireError::ReadFault => SshSignatureError::IoError(IoKind::ReadFault),
-            WireError::WriteFault => SshSignatureError::IoError(IoKind::WriteFault),
-            WireError::InvalidUtf8 => SshSignatureError::InvalidUtf8,
-            WireError::TooLong => SshSignatureError::TooLong,
-            WireError::NoMemory => SshSignatureError::NoMemory,
-        }
+        error_of_wire!(e, SshSignatureError, IoError, InvalidUtf8)
     }
 }
 
 impl CodecError for SshSignatureError {
-    ghost use Rattle.std.specs.Prelude.{◌≡◌};
-    ghost use Rattle.picky_cert_names.specs.FromWire.{signature_error};
-    ghost use Rattle.picky_cert_names.specs.carried.FromWire.{signature_error_apart};
-
     ghost of_wire = { signature_error };
 
     ghost from_alike = { λ e x same. same };
@@ -229,10 +165,6 @@ impl CodecError for SshSignatureError {
 
     fn is_no_memory(&self) -> bool {
         matches!(self, SshSignatureError::NoMemory)
-    }
-
-    fn from_wire(e: WireError) -> SshSignatureError {
-        SshSignatureError::from(e)
     }
 }
 
@@ -284,34 +216,19 @@ pub enum SshCertificateError {
 }
 
 impl From<WireError> for SshCertificateError {
-    ghost use Rattle.std.specs.Prelude.{◌≡◌};
-    ghost use Rattle.picky_cert_names.specs.FromWire.{certificate_error};
-
     ghost from_gives = { λ e result. result ≡ certificate_error e };
 
     fn from(e: WireError) -> SshCertificateError {
-        match e {
-            WireError::UnexpectedEnd => SshCertificateError::CertificateProcessingError(
-                IoKind::UnexpectedEnd,
-            ),
-            WireError::ReadFault => SshCertificateError::CertificateProcessingError(
-                IoKind::ReadFault,
-            ),
-            WireError::WriteFault => SshCertificateError::CertificateProcessingError(
-                IoKind::WriteFault,
-            ),
-            WireError::InvalidUtf8 => SshCertificateError::InvalidUtf8,
-            WireError::TooLong => SshCertificateError::TooLong,
-            WireError::NoMemory => SshCertificateError::NoMemory,
-        }
+        error_of_wire!(
+            e,
+            SshCertificateError,
+            CertificateProcessingError,
+            InvalidUtf8
+        )
     }
 }
 
 impl CodecError for SshCertificateError {
-    ghost use Rattle.std.specs.Prelude.{◌≡◌};
-    ghost use Rattle.picky_cert_names.specs.FromWire.{certificate_error};
-    ghost use Rattle.picky_cert_names.specs.carried.FromWire.{certificate_error_apart};
-
     ghost of_wire = { certificate_error };
 
     ghost from_alike = { λ e x same. same };
@@ -320,9 +237,5 @@ impl CodecError for SshCertificateError {
 
     fn is_no_memory(&self) -> bool {
         matches!(self, SshCertificateError::NoMemory)
-    }
-
-    fn from_wire(e: WireError) -> SshCertificateError {
-        SshCertificateError::from(e)
     }
 }

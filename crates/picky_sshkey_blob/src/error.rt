@@ -1,7 +1,7 @@
 //! Why a private key is not read or written.
 
 use picky_pem::PemError;
-use picky_wire::{CodecError, IoKind, Stop, Text, WireError};
+use picky_wire::{CodecError, IoKind, Stop, Text, WireError, error_of_wire};
 use thiserror::Error;
 
 /// Why a private key, or its text, is not read or written.
@@ -70,14 +70,7 @@ impl From<WireError> for SshPrivateKeyError {
     ghost from_gives = { λ e result. result ≡ private_key_error e };
 
     fn from(e: WireError) -> SshPrivateKeyError {
-        match e {
-            WireError::UnexpectedEnd => SshPrivateKeyError::IoError(IoKind::UnexpectedEnd),
-            WireError::ReadFault => SshPrivateKeyError::IoError(IoKind::ReadFault),
-            WireError::WriteFault => SshPrivateKeyError::IoError(IoKind::WriteFault),
-            WireError::InvalidUtf8 => SshPrivateKeyError::FromUtf8Error,
-            WireError::TooLong => SshPrivateKeyError::TooLong,
-            WireError::NoMemory => SshPrivateKeyError::NoMemory,
-        }
+        error_of_wire!(e, SshPrivateKeyError, IoError, FromUtf8Error)
     }
 }
 
@@ -94,10 +87,6 @@ impl CodecError for SshPrivateKeyError {
 
     fn is_no_memory(&self) -> bool {
         matches!(self, SshPrivateKeyError::NoMemory)
-    }
-
-    fn from_wire(e: WireError) -> SshPrivateKeyError {
-        SshPrivateKeyError::from(e)
     }
 }
 

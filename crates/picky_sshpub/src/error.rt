@@ -1,6 +1,6 @@
 //! Why a public key is not read or written.
 
-use picky_wire::{CodecError, IoKind, Stop, Stuck, WireError};
+use picky_wire::{CodecError, IoKind, Stop, Stuck, WireError, error_of_wire};
 use thiserror::Error;
 
 /// Why a public key, or its line, is not read or written.
@@ -36,14 +36,7 @@ impl From<WireError> for SshPublicKeyError {
     ghost from_gives = { λ e result. result ≡ public_key_error e };
 
     fn from(e: WireError) -> SshPublicKeyError {
-        match e {
-            WireError::UnexpectedEnd => SshPublicKeyError::IoError(IoKind::UnexpectedEnd),
-            WireError::ReadFault => SshPublicKeyError::IoError(IoKind::ReadFault),
-            WireError::WriteFault => SshPublicKeyError::IoError(IoKind::WriteFault),
-            WireError::InvalidUtf8 => SshPublicKeyError::InvalidUtf8,
-            WireError::TooLong => SshPublicKeyError::TooLong,
-            WireError::NoMemory => SshPublicKeyError::NoMemory,
-        }
+        error_of_wire!(e, SshPublicKeyError, IoError, InvalidUtf8)
     }
 }
 
@@ -60,10 +53,6 @@ impl CodecError for SshPublicKeyError {
 
     fn is_no_memory(&self) -> bool {
         matches!(self, SshPublicKeyError::NoMemory)
-    }
-
-    fn from_wire(e: WireError) -> SshPublicKeyError {
-        SshPublicKeyError::from(e)
     }
 }
 

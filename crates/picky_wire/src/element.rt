@@ -24,8 +24,11 @@ pub trait CodecError: From<WireError> + Drop {
         ensures { IsTrue result ↔ (self.now ≡ of_wire errors.NoMemory) };
 
     /// The error that says what the wire's error says.
-    fn from_wire(e: WireError) -> Self
-        ensures { result ≡ of_wire e };
+    final fn from_wire(e: WireError) -> Self
+        ensures { result ≡ of_wire e }
+    {
+        Self::from(e)
+    }
 
     ghost from_alike: { (e : WireError) (x : Self) → Self.from_gives e x → x ≡ of_wire e };
 

@@ -73,8 +73,20 @@ impl CodecError for WireError {
     fn is_no_memory(&self) -> bool {
         matches!(self, WireError::NoMemory)
     }
+}
 
-    fn from_wire(e: WireError) -> WireError {
-        e
-    }
+/// The error of a type with the wire's causes that says what the wire's error says: of its variants, one has
+/// an `IoKind`, and one is for a string that isn't UTF-8.
+#[macro_export]
+macro_rules! error_of_wire {
+    ($e:expr, $error:ident, $io:ident, $not_utf8:ident) => {
+        match $e {
+            $crate::WireError::UnexpectedEnd => $error::$io($crate::IoKind::UnexpectedEnd),
+            $crate::WireError::ReadFault => $error::$io($crate::IoKind::ReadFault),
+            $crate::WireError::WriteFault => $error::$io($crate::IoKind::WriteFault),
+            $crate::WireError::InvalidUtf8 => $error::$not_utf8,
+            $crate::WireError::TooLong => $error::TooLong,
+            $crate::WireError::NoMemory => $error::NoMemory,
+        }
+    };
 }
