@@ -1,6 +1,6 @@
 //! The ranges that a certificate's parts keep by their types, each shown by a function that does nothing else.
 
-ghost use Rattle.std.specs.Prelude.{◌<◌, ◌^◌, All};
+ghost use Rattle.std.specs.Prelude.{◌≡◌, ◌<◌, ◌^◌, All, true};
 ghost use Rattle.picky_sshpub.specs.Key.{IsKey, IsString, IsText};
 ghost use Rattle.picky_cert_parts.specs.Signature.{IsSignature};
 ghost use Rattle.picky_cert_blob.specs.Keeps.{IsGrants, IsHead, IsTerms};
@@ -37,7 +37,7 @@ fn terms_keep(certificate: &SshCertificate)
 {
     number_keeps(certificate.serial);
     text_keeps(&certificate.key_id);
-    list_keeps(&certificate.valid_principals);
+    prove!(list_keeps(&certificate.valid_principals));
     time_keeps(certificate.valid_after);
     time_keeps(certificate.valid_before);
 }
@@ -46,8 +46,8 @@ fn terms_keep(certificate: &SshCertificate)
 fn grants_keep(certificate: &SshCertificate)
     ensures { IsGrants (said certificate.now).grants }
 {
-    list_keeps(&certificate.critical_options);
-    list_keeps(&certificate.extensions);
+    prove!(list_keeps(&certificate.critical_options));
+    prove!(list_keeps(&certificate.extensions));
     key_keeps(&certificate.signature_key.inner_key);
 }
 
@@ -91,18 +91,21 @@ fn signature_keeps(signature: &SshSignature)
     let _ = signature_pieces(signature, 0);
 }
 
-/// Does nothing: the items of a list keep what their type says.
-fn list_keeps<T: SshComplexTypeEncode>(list: &List<T>)
-    ensures { All T.keeps list.now }
+/// Whether the items of a list keep what their type says: always. Only a `prove!` asks it, which is to run nothing of it.
+fn list_keeps<T: SshComplexTypeEncode>(list: &List<T>) -> bool
+    ensures always { result ≡ true }
+    ensures keeps { All T.keeps list.now }
 {
-    items_keep(list.as_slice());
+    items_keep(list.as_slice())
 }
 
-/// Does nothing: so do the items of a slice.
-fn items_keep<T: SshComplexTypeEncode>(items: &[T])
-    ensures { All T.keeps items.now }
+/// Whether the items of a slice do: always.
+fn items_keep<T: SshComplexTypeEncode>(items: &[T]) -> bool
+    ensures always { result ≡ true }
+    ensures keeps { All T.keeps items.now }
 {
     'items: for item in items {
         let _ = item.spelling_len();
     }
+    true
 }
