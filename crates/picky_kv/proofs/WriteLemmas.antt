@@ -4,7 +4,7 @@ use Rattle.std.proofs.Common.{List, []}
 use Rattle.std.proofs.Common.{◌∷◌, ◌++◌, length, drop, refl, ap, arith}
 use Rattle.std.proofs.Common.{Err}
 use Rattle.std.proofs.lemmas.Bool.Decides.{nat_tests}
-use Rattle.std.proofs.lemmas.List.{append-nil, length-append, length-drop}
+use Rattle.std.proofs.lemmas.List.{append_assoc, append-nil, length-append, length-drop}
 use Rattle.std.specs.Prelude.{nat_lt, codes}
 use Rattle.std.specs.Fmt.{decimal}
 use Rattle.std.specs.Int.{div_ceil}
@@ -27,10 +27,11 @@ pub text_of_one : (end : LineEnd) (line : List ℕ) → text_of end (line ∷ []
 unfolding text_of
 text_of_one end line = append-nil (line ++ end_bytes end)
 
--- so a line's text and that of others make the text of all
-pub text_of_one_more : (end : LineEnd) (line : List ℕ) (more : List (List ℕ))
-    → text_of end (line ∷ []) ++ text_of end more ≡ text_of end (line ∷ more)
-text_of_one_more end line more = rw (text_of_one end line, text_of_cons end line more) refl
+-- so a line's text and that of others, behind a text, are that of all
+pub text_of_one_more : (text : List ℕ) (end : LineEnd) (line : List ℕ) (more : List (List ℕ))
+    → text ++ text_of end (line ∷ []) ++ text_of end more ≡ text ++ text_of end (line ∷ more)
+text_of_one_more text end line more =
+    rw (text_of_one end line, text_of_cons end line more) (simp append_assoc)
 
 -- the text of lines is as long as they are, or longer
 pub length-text_of-joined : (end : LineEnd) (lines : List (List ℕ))

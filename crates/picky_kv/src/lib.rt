@@ -5,6 +5,7 @@ mod algorithm;
 mod counted;
 mod error;
 pub mod laws;
+pub mod lines;
 pub mod literals;
 mod numbers;
 mod pairs;

@@ -1,28 +1,20 @@
 //! Writes the lines of a PuTTY private key file.
 
-ghost use Rattle.std.specs.Prelude.{◌≡◌, ◌^◌, ◌<◌, ◌++◌, [], ◌∷◌, length, nat_lt, IfOk, OnErr};
+ghost use Rattle.std.specs.Prelude.{◌≡◌, ◌^◌, ◌<◌, ◌++◌, [], ◌∷◌, length, nat_lt, OnErr};
 ghost use Rattle.std.specs.Prelude.{string_bytes, string_len};
 ghost use Rattle.std.specs.Str.{IsAscii};
-ghost use Rattle.picky_text.specs.Lines.{text_of};
-ghost use Rattle.picky_text.specs.Rows.{rows_of};
 ghost use Rattle.picky_wire.specs.Gives.{Gives};
-ghost use Rattle.picky_kv.specs.Output.{line_end, pair_line as line_of, block_lines, extended};
+ghost use Rattle.picky_kv.specs.Output.{line_end, pair_line as line_of, extended};
 ghost use Rattle.picky_kv.specs.Output.{with_lines, with_block};
 
 use crate::error::KvError;
-use crate::literals::SEPARATOR;
+use crate::lines::{MAX_LINE_COUNT, line_count, push_block, push_line};
 use crate::pairs::{PpkKeyValue, PpkMultilineKeyValue};
 use picky_kv_words::{PpkField, PpkLiteral, PpkSingle};
-use picky_text::{LineEnd, push_rows};
+use picky_text::LineEnd;
 use picky_wire::{SizeError, Text};
-use std::alloc::{AllocError, Global};
+use std::alloc::Global;
 use std::marker::Model;
-
-/// How many characters a line of a block has.
-const LINE_LEN: usize = 64;
-
-/// The most lines that a block can have.
-const MAX_LINE_COUNT: usize = 65535;
 
 /// The lines so far, as a text of fewer than 2^32 bytes.
 #[derive(Drop)]
@@ -70,10 +62,13 @@ impl PuttyKvWriter {
         ensures fits { T.Value.field.fits value.now }
     {
         match value.write(self.alloc) {
-            Ok(value) => match line(self.alloc, key.as_static_str(), value.as_str(), self.end) {
-                Ok(line) => self.append(line.as_str()),
-                Err(_) => Err(KvError::NoMemory),
-            },
+            Ok(value) => {
+                let mut line = String::new(self.alloc);
+                match push_line(&mut line, key.as_static_str(), value.as_str(), self.end) {
+                    Ok(()) => self.append(line.as_str()),
+                    Err(_) => Err(KvError::NoMemory),
+                }
+            }
             Err(SizeError::TooLong) => Err(KvError::TooLong),
             Err(SizeError::NoMemory) => Err(KvError::NoMemory),
         }
@@ -139,8 +134,9 @@ impl PuttyKvWriter {
         ensures gives { Gives KvError.NoMemory (λ _. self.new) result (with_block self.old key.now text.now) }
         ensures unchanged { OnErr result (self.new ≡ self.old) }
     {
-        match block(self.alloc, key, text, self.end) {
-            Ok(block) => {
+        let mut block = String::new(self.alloc);
+        match push_block(self.alloc, &mut block, key, text, self.end) {
+            Ok(()) => {
                 if self.has_room(block.as_str()) && line_count(text) > MAX_LINE_COUNT {
                     return Err(KvError::TooManyLines);
                 }
@@ -168,31 +164,4 @@ impl PuttyKvWriter {
     {
         piece.len() < (1 << 32) - self.text.len()
     }
-}
-
-fn line(alloc: Global, key: &str, value: &str, end: LineEnd) -> Result<String, AllocError>
-    ensures { IfOk result (λ l. string_bytes l ≡ text_of end (line_of key.now value.now ∷ [])) }
-{
-    let mut line = String::new(alloc);
-    line.push_str(key)?;
-    line.push_str(SEPARATOR)?;
-    line.push_str(value)?;
-    line.push_str(end.as_str())?;
-    Ok(line)
-}
-
-fn block(alloc: Global, key: &str, text: &str, end: LineEnd) -> Result<String, AllocError>
-    requires { IsAscii text.now }
-    ensures { IfOk result (λ b. string_bytes b ≡ text_of end (block_lines key.now text.now)) }
-{
-    let count = format!(in alloc; "{}", line_count(text))?;
-    let mut block = line(alloc, key, count.as_str(), end)?;
-    push_rows(&mut block, text, end)?;
-    Ok(block)
-}
-
-fn line_count(text: &str) -> usize
-    ensures { result ≡ length (rows_of text.now) }
-{
-    text.len().div_ceil(LINE_LEN)
 }

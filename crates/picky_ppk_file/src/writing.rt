@@ -17,20 +17,18 @@ ghost use Rattle.picky_ppk_file.specs.Written.{sealing_lines, fits_block, writte
 
 use crate::file::{PpkFile, PpkSealing};
 use picky_kv::PpkLiteral;
+use picky_kv::lines::{LINE_LEN, MAX_LINE_COUNT, push_block, push_line};
 use picky_kv::literals::{
     ARGON2_MEMORY, ARGON2_PARALLELISM, ARGON2_PASSES, ARGON2_SALT, COMMENT, ENCRYPTION,
-    KEY_DERIVATION, PRIVATE_LINES, PRIVATE_MAC, PUBLIC_LINES, SEPARATOR,
+    KEY_DERIVATION, PRIVATE_LINES, PRIVATE_MAC, PUBLIC_LINES,
 };
 use picky_ppk_parts::{Argon2Params, PpkVersion, PuttyError};
-use picky_text::{LineEnd, encode, push_rows};
+use picky_text::{LineEnd, encode};
 use picky_wire::{MAX_LEN, Text};
 use std::alloc::{AllocError, Global};
 
-/// How many bytes 65,535 lines of 64 characters hold.
-const MAX_BLOCK_LEN: usize = 3145680;
-
-/// How many characters a line of a block has.
-const LINE_LEN: usize = 64;
+/// How many bytes a block holds at most: three in four characters of base64.
+const MAX_BLOCK_LEN: usize = MAX_LINE_COUNT * LINE_LEN / 4 * 3;
 
 /// How many bytes the lines have without the comment and what is written of bytes, or more.
 const LINES_ROOM: usize = 512;
@@ -81,7 +79,7 @@ fn text_string(alloc: Global, file: &PpkFile) -> Result<String, AllocError>
     )?;
     push_line(&mut text, ENCRYPTION, encryption.as_static_str(), end)?;
     push_line(&mut text, COMMENT, file.comment.as_str(), end)?;
-    push_block(
+    push_base64(
         alloc,
         &mut text,
         PUBLIC_LINES,
@@ -89,7 +87,7 @@ fn text_string(alloc: Global, file: &PpkFile) -> Result<String, AllocError>
         end,
     )?;
     push_sealing(alloc, &mut text, &file.sealing, end)?;
-    push_block(
+    push_base64(
         alloc,
         &mut text,
         PRIVATE_LINES,
@@ -136,7 +134,7 @@ fn push_argon2(
 }
 
 /// Appends the block of the bytes in base64.
-fn push_block(
+fn push_base64(
     alloc: Global,
     text: &mut String,
     key: &str,
@@ -147,11 +145,7 @@ fn push_block(
     ensures bytes { IsBytes bytes.now }
 {
     let body = encode(alloc, bytes)?;
-    let rows = body.as_str();
-    let count = format!(in alloc; "{}", rows.len().div_ceil(LINE_LEN))?;
-    push_line(text, key, count.as_str(), end)?;
-    push_rows(text, rows, end)?;
-    Ok(())
+    push_block(alloc, text, key, body.as_str(), end)
 }
 
 /// Appends the line of the bytes in hex.
@@ -182,17 +176,6 @@ fn push_number(
 {
     let digits = format!(in alloc; "{}", number)?;
     push_line(text, key, digits.as_str(), end)
-}
-
-/// Appends the line of the key and the value.
-fn push_line(text: &mut String, key: &str, value: &str, end: LineEnd) -> Result<(), AllocError>
-    ensures ok { OnOk result (AppendsAll text.old text.new (text_of end (pair_line key.now value.now ∷ []))) }
-{
-    text.push_str(key)?;
-    text.push_str(SEPARATOR)?;
-    text.push_str(value)?;
-    text.push_str(end.as_str())?;
-    Ok(())
 }
 
 /// What ends the lines of a version.
