@@ -9,7 +9,7 @@ pub use picky_target::{ConvertError, KeyTarget, carries_comment, write_text};
 
 // The conversion, and certificates.
 pub use picky_cert_target::{CertRequest, write_certificate, write_signed_bytes};
-pub use picky_conversion::{Given, Target, convert, convert_key, issue, print_signed};
+pub use picky_conversion::{ConversionGiven, Target, convert, convert_key, issue, print_signed};
 pub use picky_issuing::{CertOptions, Parts, cert_type_of, number_of, options_of, parts_of};
 
 // The program, and a source that is read to its end.

@@ -33,6 +33,6 @@ pub use picky_cert::{
 
 // Certificates that are made and signed.
 pub use picky_cert_builder::{
-    BuildCertificate, Draft, FitTerms, IssuerKey, RequestTerms, SshCertificateBuilder,
+    BuildCertificate, CertificateDraft, FitTerms, IssuerKey, RequestTerms, SshCertificateBuilder,
     SshCertificateGenerationError, default_algorithm, format_of, private_issuer,
 };

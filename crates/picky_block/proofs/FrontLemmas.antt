@@ -14,7 +14,7 @@ use Rattle.picky_text.proofs.Base64Laws.{base64_is_read_back, base64_is_of_what_
 use Rattle.picky_block.specs.declared.error.BlockError.{BlockError}
 use Rattle.picky_block.specs.declared.error.BlockError.TheVariants.{BadBase64, TooLong}
 use Rattle.picky_block.specs.Block.{groups_of}
-use Rattle.picky_block.specs.BlockRefusal.{goes_on_after_padding, judged, taken}
+use Rattle.picky_block.specs.BlockRefusal.{goes_on_after_padding, judged_base64, taken}
 use Rattle.picky_block.specs.inner.Tail.{rest_judged}
 use Rattle.picky_text.proofs.Base64Laws.{length_base64}
 use Rattle.picky_block.proofs.GroupLemmas.{bytes_front, bytes_back, bytes_append, base64_bytes}
@@ -122,7 +122,7 @@ taken_behind x rest small few =
     let short : Bool = nat_lt (length x) (2 ^ 32) in
     let answer : Bool → Result (List ℕ) BlockError =
     λ b. if b then Err BadBase64 else if short then Ok text else Err TooLong in
-    ap (judged text) reads ∙ ap answer (goes_on_is x rest small few)
+    ap (judged_base64 text) reads ∙ ap answer (goes_on_is x rest small few)
     ∙ choices (not (length x % 3 == 0) && nat_lt 0 (length rest)) short (base64_of x) rest
 
 -- ---- the rest
@@ -228,7 +228,7 @@ bad_groups x g rest small_x small_g whole few full none =
           cc (sym none ∙ ap decoded back ∙ base64_is_read_back (drop (length x) y) (bytes_back _ y small_y))
       | inr nothing ↦ nothing
     ] in
-    ap (judged text) (ap decoded groups ∙ reads)
+    ap (judged_base64 text) (ap decoded groups ∙ reads)
 
 -- anything after padding
 pub bad_after_padding : (x text : List ℕ) → IsBytes x → IsBytes text → length x % 3 ≢ 0
@@ -248,5 +248,5 @@ bad_after_padding x text small_x small padded some =
           let few : length text < 4 = omega (arith, none, length_groups text) in
           taken_behind x text small_x few
           ∙ ap (map_ok (λ r. base64_of x ++ r)) (rest_after_padding (length x) text padded some)
-      | inr none ↦ ap (judged (base64_of x ++ text)) (ap decoded groups ∙ none)
+      | inr none ↦ ap (judged_base64 (base64_of x ++ text)) (ap decoded groups ∙ none)
     ]

@@ -17,7 +17,7 @@ use Rattle.picky_text.proofs.Base64Laws.{base64_is_read_back, base64_is_of_what_
 use Rattle.picky_block.specs.declared.error.BlockError.TheVariants.{BadBase64, TooLong}
 use Rattle.picky_block.specs.Block.{groups_of, GoesOnAfterPadding, IsNoFront, IsFrontFor, IsLongFront}
 use Rattle.picky_block.specs.Block.{IsBlock}
-use Rattle.picky_block.specs.BlockRefusal.{goes_on_after_padding, judged, taken, finished, lines_taken}
+use Rattle.picky_block.specs.BlockRefusal.{goes_on_after_padding, judged_base64, taken, finished, lines_taken}
 use Rattle.picky_block.specs.BlockRefusal.{block_of}
 use Rattle.picky_text.proofs.Base64Laws.{length_base64, base64_nil}
 use Rattle.picky_block.proofs.GroupLemmas.{bytes_front, bytes_append}
@@ -51,7 +51,7 @@ judged_none : (text : List ℕ) → decoded (groups_of text) ≡ None → Judged
 unfolding taken
 judged_none text none =
     no_bytes (λ x small is. cc (sym none ∙ ap decoded is ∙ base64_is_read_back x small))
-    (ap (judged text) none)
+    (ap (judged_base64 text) none)
 
 judged_some : (text x : List ℕ) → IsBytes text → decoded (groups_of text) ≡ Some x → Judged text
 unfolding taken
@@ -59,7 +59,7 @@ judged_some text x small some =
     let small_g = groups_bytes text small in
     let g_is = base64_is_of_what_it_gives _ x small_g some in
     let small_x = decoded_is_bytes _ x small_g some in
-    let first = ap (judged text) some in
+    let first = ap (judged_base64 text) some in
     elim (cases_Bool (goes_on_after_padding text)) [
       | inl goes ↦ goes_on (goes_on_where_tested text goes) (first ∙ rw goes refl)
       | inr stops ↦
@@ -126,7 +126,8 @@ long_by text (is_short x front below is) = (
 pub long_iff : (text : List ℕ) → IsBytes text → taken text ≡ Err TooLong ↔ IsLongFront text
 long_iff text small = long_by text (judge text small)
 
-whole_by : (text new : List ℕ) (reads : Option (List ℕ)) → judged text reads ≡ Ok new → new ≡ text
+whole_by : (text new : List ℕ) (reads : Option (List ℕ))
+    → judged_base64 text reads ≡ Ok new → new ≡ text
 whole_by text new None is = cc is
 whole_by text new (Some x) is = elim (cases_Bool (goes_on_after_padding text)) [
   | inl goes ↦ cc (rw goes at is)

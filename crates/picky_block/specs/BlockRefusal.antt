@@ -15,16 +15,16 @@ goes_on_after_padding text =
     slice_index groups (length groups - 1) == 61 && nat_lt (length groups) (length text)
 
 -- the text so far, where its groups of four decode to these bytes or to none
-abbrev pub judged : List ℕ → Option (List ℕ) → Result (List ℕ) BlockError
-judged text None = Err BadBase64
-judged text (Some bytes) =
+abbrev pub judged_base64 : List ℕ → Option (List ℕ) → Result (List ℕ) BlockError
+judged_base64 text None = Err BadBase64
+judged_base64 text (Some bytes) =
     if goes_on_after_padding text then Err BadBase64
     else if nat_lt (length bytes) (2 ^ 32) then Ok text
     else Err TooLong
 
 -- the text so far, or the first reason against it
 unfoldable pub taken : List ℕ → Result (List ℕ) BlockError
-taken text = judged text (decoded (groups_of text))
+taken text = judged_base64 text (decoded (groups_of text))
 
 -- the bytes of a text that ends here
 unfoldable pub finished : List ℕ → Result (List ℕ) BlockError

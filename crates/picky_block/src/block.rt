@@ -122,7 +122,7 @@ fn extend_behind(
     if tail.as_slice().is_empty() {
         return extend(bytes, line);
     }
-    match joined(alloc, tail.as_slice(), line) {
+    match joined_texts(alloc, tail.as_slice(), line) {
         Ok(text) => extend(bytes, text.as_slice()),
         Err(_) => Err(BlockError::NoMemory),
     }
@@ -205,7 +205,7 @@ fn text_of(alloc: Global, bytes: &[u8], tail: &[u8]) -> Result<String, AllocErro
 }
 
 /// Two texts, one behind the other.
-fn joined(alloc: Global, front: &[u8], back: &[u8]) -> Result<Vec<u8>, AllocError>
+fn joined_texts(alloc: Global, front: &[u8], back: &[u8]) -> Result<Vec<u8>, AllocError>
     ensures { IfOk result (λ text. text.items ≡ front.now ++ back.now) }
 {
     let mut text = Vec::from_slice(alloc, front)?;

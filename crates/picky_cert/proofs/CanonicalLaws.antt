@@ -23,7 +23,7 @@ use Rattle.picky_cert_blob.specs.Subject.{fits_subject}
 use Rattle.picky_cert.specs.declared.certificate.SshCertificate.{SshCertificate}
 use Rattle.picky_cert.specs.Certificate.{certificate, certified, said}
 use Rattle.picky_cert.specs.Keeps.{IsWellFormed}
-use Rattle.picky_cert.specs.Line.{IsCertificateLine, IsKept}
+use Rattle.picky_cert.specs.Line.{IsCertificateLine, IsReadBackCertificate}
 use Rattle.picky_cert.specs.LineRefusal.{line_meaning, line_text}
 use Rattle.picky_cert.specs.SourceLine.{source_meaning}
 use Rattle.picky_cert.specs.Spelled.{line_of}
@@ -72,7 +72,8 @@ line_is_formed text c line short =
     }
 
 -- A certificate that a line says is one whose line is read back, where that is short enough to be written.
-pub said_is_kept : (text : List ℕ) (c : SshCertificate) → IsCertificateLine text c → length (line_of c) < 2 ^ 32 → IsKept c
+pub said_is_kept : (text : List ℕ) (c : SshCertificate) → IsCertificateLine text c → length (line_of c) < 2 ^ 32
+    → IsReadBackCertificate c
 said_is_kept text c line short =
     let rest : List ℕ = after_body text in
     let comment : c.comment ≡ comment_of text = ap (λ v. v.comment) line.bare in
@@ -102,12 +103,12 @@ text_is_line c line is =
 
 -- A certificate read from a line is one whose line is read back.
 pub text_is_kept : (text : List ℕ) (c : SshCertificate) → IsBytes text → line_meaning text ≡ Ok c
-    → length (line_of c) < 2 ^ 32 → IsKept c
+    → length (line_of c) < 2 ^ 32 → IsReadBackCertificate c
 text_is_kept text c each means short = said_is_kept text c (line_meaning_says text c each means) short
 
 -- So is a certificate read from a source.
 pub source_is_kept : (bytes : List ℕ) (c : SshCertificate) (rest : List ℕ) → IsBytes bytes
-    → source_meaning bytes ≡ Ok (c, rest) → length (line_of c) < 2 ^ 32 → IsKept c
+    → source_meaning bytes ≡ Ok (c, rest) → length (line_of c) < 2 ^ 32 → IsReadBackCertificate c
 unfolding source_meaning read_line
 source_is_kept bytes c rest each means short =
     let taken = and_then_ok (read_line certificate_error bytes) _ (c, rest) means in

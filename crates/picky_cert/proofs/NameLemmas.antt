@@ -17,7 +17,7 @@ use Rattle.picky_keys.specs.NameTables.{key_types}
 use Rattle.picky_keys.specs.declared.curve.EcCurve.{EcCurve}
 use Rattle.picky_keys.specs.declared.kind.KeyKind.{KeyKind}
 use Rattle.picky_keys.specs.declared.kind.KeyKind.TheVariants as kinds
-use Rattle.picky_sshpub.specs.Blob.{blob, ec_fields, ed_fields, ed_key, fields_of, key_type, rsa_fields, sk_ecdsa_fields, sk_ed_fields}
+use Rattle.picky_sshpub.specs.Blob.{blob, ec_fields, ed_fields, ed_key, public_key_fields, key_type, rsa_fields, sk_ecdsa_fields, sk_ed_fields}
 use Rattle.picky_cert_names.specs.Names.{cert_key_type_name, is_sk}
 use Rattle.picky_cert_names.specs.NameTables.{cert_key_types, option_types, signature_formats}
 use Rattle.picky_cert_names.specs.declared.cert_key_type.SshCertKeyType.{SshCertKeyType}
@@ -111,7 +111,7 @@ sk_ed_refuses =
     both_refuses InBlob (ed_key 1).read _ ed_key_refuses (λ key.
     both_refuses InBlob (at 2 text).read _ (at_refuses 2 text) (λ application. done_refuses InBlob _))
 
-fields_refuse : (kind : KeyKind) → RefusesAs InBlob (fields_of kind).read
+fields_refuse : (kind : KeyKind) → RefusesAs InBlob (public_key_fields kind).read
 fields_refuse kinds.Rsa = rsa_refuses
 fields_refuse (kinds.Ec curve) = ec_refuses curve
 fields_refuse (kinds.Ed algorithm) = ed_refuses
@@ -143,8 +143,8 @@ head_for_refuses : (t : SshCertKeyType) (kind : KeyKind) → RefusesAs InCert (h
 unfolding head_for
 head_for_refuses t kind =
     both_refuses InCert (the parts.Nonce string).read _ (the_refuses parts.Nonce string) (λ nonce.
-    both_refuses InCert (within parts.Subject (fields_of kind)).read _
-    (within_key_refuses parts.Subject (fields_of kind) (fields_refuse kind)) (λ key. done_refuses InCert _))
+    both_refuses InCert (within parts.Subject (public_key_fields kind)).read _
+    (within_key_refuses parts.Subject (public_key_fields kind) (fields_refuse kind)) (λ key. done_refuses InCert _))
 
 head_of_refuses : (t : SshCertKeyType) (kind : Option KeyKind) → RefusesAs InCert (head_of t kind).read
 head_of_refuses t (Some kind) bytes e is = head_for_refuses t kind bytes e is

@@ -17,7 +17,7 @@ use Rattle.picky_cert_names.specs.Names.{cert_key_type_name}
 use Rattle.picky_cert_parts.specs.Signature.{total_of}
 use Rattle.picky_cert.specs.declared.certificate.SshCertificate.{SshCertificate}
 use Rattle.picky_cert.specs.Certificate.{certified, said}
-use Rattle.picky_cert.specs.Line.{IsCertificateLine, IsKept}
+use Rattle.picky_cert.specs.Line.{IsCertificateLine, IsReadBackCertificate}
 use Rattle.picky_cert.specs.LineRefusal.{line_meaning}
 use Rattle.picky_cert.specs.SourceLine.{source_meaning}
 use Rattle.picky_cert.specs.Spelled.{blob_of, line_of}
@@ -57,7 +57,8 @@ part_lengths : (c : SshCertificate) → length (line_of c)
 unfolding line_of
 part_lengths c = simp length-append (omega arith)
 
-line_parts : (c : SshCertificate) → IsKept c → AreParts (cert_key_type_name c.cert_key_type) (line_body c) c.comment
+line_parts : (c : SshCertificate) → IsReadBackCertificate c
+    → AreParts (cert_key_type_name c.cert_key_type) (line_body c) c.comment
 line_parts c kept = record {
   name_word = type_name_is_word c.cert_key_type;
   body_word = base64_is_word (blob_of c) (blob_bytes c kept.is);
@@ -67,7 +68,7 @@ line_parts c kept = record {
 }
 
 -- a line of a certificate's parts says the certificate
-parts_say : (c : SshCertificate) (line : List ℕ) → IsKept c
+parts_say : (c : SshCertificate) (line : List ℕ) → IsReadBackCertificate c
     → HasParts line (cert_key_type_name c.cert_key_type) (line_body c) c.comment → IsCertificateLine line c
 parts_say c line kept is =
     let len = part_lengths c in
@@ -88,7 +89,7 @@ parts_say c line kept is =
     }
 
 -- The line that is written says the certificate, whatever follows it.
-pub line_says : (c : SshCertificate) (more : List ℕ) → IsKept c → IsCertificateLine (line_of c ++ more) c
+pub line_says : (c : SshCertificate) (more : List ℕ) → IsReadBackCertificate c → IsCertificateLine (line_of c ++ more) c
 unfolding line_of
 line_says c more kept =
     let name : List ℕ = cert_key_type_name c.cert_key_type in
@@ -96,7 +97,7 @@ line_says c more kept =
     rw (append_assoc (name ++ 32 ∷ line_body c ++ 32 ∷ c.comment) (13 ∷ 10 ∷ []) more) (parts_say c _ kept is)
 
 -- It is read back.
-pub line_reads_back : (c : SshCertificate) (more : List ℕ) → IsKept c → line_meaning (line_of c ++ more) ≡ Ok c
+pub line_reads_back : (c : SshCertificate) (more : List ℕ) → IsReadBackCertificate c → line_meaning (line_of c ++ more) ≡ Ok c
 line_reads_back c more kept = line_meaning_of (line_of c ++ more) c (line_says c more kept)
 
 -- ---- from a source
@@ -105,12 +106,12 @@ line_reads_back c more kept = line_meaning_of (line_of c ++ more) c (line_says c
 abbrev line_front : SshCertificate → List ℕ
 line_front c = cert_key_type_name c.cert_key_type ++ 32 ∷ line_body c ++ 32 ∷ c.comment
 
-front_reads_back : (c : SshCertificate) → IsKept c → line_meaning (line_front c) ≡ Ok c
+front_reads_back : (c : SshCertificate) → IsReadBackCertificate c → line_meaning (line_front c) ≡ Ok c
 front_reads_back c kept =
     let is = key_line_alone (cert_key_type_name c.cert_key_type) (line_body c) c.comment (line_parts c kept) in
     line_meaning_of (line_front c) c (parts_say c (line_front c) kept is)
 
-front_stays : (c : SshCertificate) → IsKept c → Stays (line_front c)
+front_stays : (c : SshCertificate) → IsReadBackCertificate c → Stays (line_front c)
 front_stays c kept =
     let goes_on : ℕ → Type 0 = λ b. ends_line b ≡ false in
     let parts = line_parts c kept in
@@ -120,7 +121,7 @@ front_stays c kept =
     all_append goes_on (name ++ 32 ∷ line_body c) (32 ∷ c.comment) words (refl, stays_line c.comment kept.no_cr kept.no_lf)
 
 -- It is read back from a source: CR ends it, and LF and what follows are left.
-pub source_reads_back : (c : SshCertificate) (more : List ℕ) → IsKept c
+pub source_reads_back : (c : SshCertificate) (more : List ℕ) → IsReadBackCertificate c
     → source_meaning (line_of c ++ more) ≡ Ok (c, 10 ∷ more)
 unfolding source_meaning read_line after_line line_of
 source_reads_back c more kept =

@@ -39,7 +39,7 @@ bare_line key_type blob_bytes = cert_key_type_name key_type ++ 32 ∷ base64_of 
 
 -- a certificate whose line is read back: it is written, no key of it has a comment, and its own is text with no CR, LF and
 -- white space at its end
-pub record IsKept (c : SshCertificate) : Type 0 where
+pub record IsReadBackCertificate (c : SshCertificate) : Type 0 where
   pub is : IsCertificate c
   pub formed : IsWellFormed c
   pub signed : blob_fits c.signature.format c.signature.blob ≡ true

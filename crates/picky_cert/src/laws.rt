@@ -18,7 +18,7 @@ ghost use Rattle.picky_cert.specs.declared.view.CertView.{CertView as View};
 ghost use Rattle.picky_cert.specs.Certificate.{certificate, certified, refused_part, said, signed_in};
 ghost use Rattle.picky_cert.specs.CertRefusal.{cert_error};
 ghost use Rattle.picky_cert.specs.Keeps.{IsCertificate, IsWellFormed};
-ghost use Rattle.picky_cert.specs.Line.{bare_line, IsCertificateLine, IsKept};
+ghost use Rattle.picky_cert.specs.Line.{bare_line, IsCertificateLine, IsReadBackCertificate};
 ghost use Rattle.picky_cert.specs.LineRefusal.{line_meaning, line_text, signed_text};
 ghost use Rattle.picky_cert.specs.Want.{IsReadFault, WantsMemory};
 ghost use Rattle.picky_cert_parts.specs.Signature.{blob_fits, total_of};
@@ -85,7 +85,7 @@ pub fn written_bytes_bind_what_is_said()
 #[tactic(auto, using(crate::proofs::FormedLaws::signed_is_formed, crate::proofs::FormedLaws::kept_is_written))]
 pub fn what_is_written_is_formed()
     ensures signed { (c : Certificate) (bytes : List ℕ) → signed_text c ≡ Ok bytes → IsWellFormed c }
-    ensures line { (c : Certificate) → IsKept c → line_text c ≡ Ok (line_of c) }
+    ensures line { (c : Certificate) → IsReadBackCertificate c → line_text c ≡ Ok (line_of c) }
 {}
 
 /// The bytes that are written are a piece, and are read back, without the comments that they don't have.
@@ -116,8 +116,9 @@ pub fn view_is_the_line_reader()
 /// A line that is written is read back, whatever follows it: as a text, and from a source, where LF and what follows are left.
 #[tactic(auto, using(crate::proofs::ReadBackLaws::read_back_laws))]
 pub fn line_is_read_back()
-    ensures text { (c : Certificate) (more : List ℕ) → IsKept c → line_meaning (line_of c ++ more) ≡ Ok c }
-    ensures source { (c : Certificate) (more : List ℕ) → IsKept c → source_meaning (line_of c ++ more) ≡ Ok (c, 10 ∷ more) }
+    ensures text { (c : Certificate) (more : List ℕ) → IsReadBackCertificate c → line_meaning (line_of c ++ more) ≡ Ok c }
+    ensures source { (c : Certificate) (more : List ℕ) → IsReadBackCertificate c
+        → source_meaning (line_of c ++ more) ≡ Ok (c, 10 ∷ more) }
 {}
 
 /// A line that was read, however it was spelled, is written in its one spelling, which is read back as the same certificate:

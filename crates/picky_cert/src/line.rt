@@ -16,7 +16,7 @@ ghost use Rattle.picky_cert.specs.Line.{bare_line};
 ghost use Rattle.picky_cert.specs.LineRefusal.{blob_certificate, body_certificate, line_meaning, word_type, words_meaning};
 
 use crate::certificate::SshCertificate;
-use crate::refusal::refusal;
+use crate::refusal::certificate_view_refusal;
 use crate::view::certificate_at;
 use picky_cert_parts::{SshCertKeyType, SshCertificateError};
 use picky_sshpub::{SshBasePublicKey, SshPublicKey};
@@ -108,7 +108,7 @@ fn subject_of_blob(alloc: Global, blob: &[u8]) -> Result<SshBasePublicKey, SshCe
             Ok(key) => Ok(key),
             Err(NoMemory) => Err(SshCertificateError::NoMemory),
         },
-        Err(stopped) => Err(refusal(alloc, &stopped)),
+        Err(stopped) => Err(certificate_view_refusal(alloc, &stopped)),
     }
 }
 
@@ -234,6 +234,6 @@ fn certificate_of_blob(alloc: Global, blob: &[u8]) -> Result<SshCertificate, Ssh
             Ok(certificate) => Ok(certificate),
             Err(NoMemory) => Err(SshCertificateError::NoMemory),
         },
-        Err(stopped) => Err(refusal(alloc, &stopped)),
+        Err(stopped) => Err(certificate_view_refusal(alloc, &stopped)),
     }
 }

@@ -17,7 +17,7 @@ use picky_wire::{IoKind, NoMemory, Part, Stuck};
 use std::alloc::Global;
 
 /// The error of the reader where a view is stopped, with a copy of a refused name, or `NoMemory`.
-pub fn refusal(alloc: Global, stopped: &Stopped<'_>) -> SshCertificateError
+pub fn certificate_view_refusal(alloc: Global, stopped: &Stopped<'_>) -> SshCertificateError
     requires { IsRefusal stopped.now }
     ensures { (result ≡ cert_error (reason_of stopped.now)) ⊎ (result ≡ SshCertificateError.NoMemory) }
 {

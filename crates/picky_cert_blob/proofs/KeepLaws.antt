@@ -16,7 +16,7 @@ use Rattle.picky_keys.specs.declared.kind.KeyKind.{KeyKind}
 use Rattle.picky_keys.specs.declared.kind.KeyKind.TheVariants as kinds
 use Rattle.picky_sshpub.specs.declared.key.SshBasePublicKey.{SshBasePublicKey}
 use Rattle.picky_sshpub.specs.Key.{IsKey, kind_of}
-use Rattle.picky_sshpub.specs.Blob.{rsa_fields, ec_fields, ed_fields, sk_ecdsa_fields, sk_ed_fields, fields_of}
+use Rattle.picky_sshpub.specs.Blob.{rsa_fields, ec_fields, ed_fields, sk_ecdsa_fields, sk_ed_fields, public_key_fields}
 use Rattle.picky_sshpub.proofs.KeyLaws.{string_keeps, text_keeps, fields_keep, spelled_is_key}
 use Rattle.picky_cert_names.specs.declared.cert_key_type.SshCertKeyType.{SshCertKeyType}
 use Rattle.picky_cert_parts.specs.declared.critical_option.SshCriticalOption.{SshCriticalOption}
@@ -87,7 +87,8 @@ extensions_keep vs bytes each (block, string_is, row) =
 -- ---- who is certified
 
 -- the fields of a kind are those of a key of that kind
-kind_kept : (kind : KeyKind) (key : SshBasePublicKey) (bytes : List ℕ) → (fields_of kind).piece key bytes → kind_of key ≡ kind
+kind_kept : (kind : KeyKind) (key : SshBasePublicKey) (bytes : List ℕ) → (public_key_fields kind).piece key bytes
+    → kind_of key ≡ kind
 unfolding rsa_fields ec_fields ed_fields sk_ecdsa_fields sk_ed_fields
 kind_kept kinds.Rsa key bytes (e, x, y, e_is, (n, z, w, n_is, (is, none), inner), outer) = ap kind_of is
 kind_kept (kinds.Ec curve) key bytes (name, x, y, name_is, (point, z, w, point_is, (is, none), inner), outer) = ap kind_of is

@@ -10,7 +10,7 @@ use Rattle.picky_wire.specs.declared.timestamp.Timestamp.{Timestamp}
 use Rattle.picky_wire.specs.Moment.{moment}
 use Rattle.picky_keys.specs.declared.kind.KeyKind.{KeyKind}
 use Rattle.picky_sshpub.specs.declared.key.SshBasePublicKey.{SshBasePublicKey}
-use Rattle.picky_sshpub.specs.Blob.{blob, fields_of}
+use Rattle.picky_sshpub.specs.Blob.{blob, public_key_fields}
 use Rattle.picky_cert_names.specs.declared.cert_key_type.SshCertKeyType.{SshCertKeyType}
 use Rattle.picky_cert_parts.specs.declared.cert_type.SshCertType.{SshCertType}
 use Rattle.picky_cert_parts.specs.declared.critical_option.SshCriticalOption.{SshCriticalOption}
@@ -23,7 +23,7 @@ use Rattle.picky_cert_parts.specs.declared.signature.SshSignature.{SshSignature}
 use Rattle.picky_cert_parts.specs.Signature.{signature}
 use Rattle.picky_cert_blob.specs.Reason.{CertReason, in_part, in_signature, the, within}
 use Rattle.picky_cert_blob.specs.Subject.{subject_kind}
-use Rattle.picky_cert_blob.specs.Listed.{enclosed, listed, never}
+use Rattle.picky_cert_blob.specs.Listed.{enclosed, listed, refuses_all_bytes}
 use Rattle.picky_cert_blob.specs.Items.{principal_item, option_item, extension_item}
 use Rattle.picky_cert_blob.specs.carried.Items.{principal_item_solid, option_item_solid, extension_item_solid}
 
@@ -43,13 +43,13 @@ cert_name = narrow (the parts.Name text) (entry (λ name. (parts.Name, Name name
 unfoldable pub head_for : SshCertKeyType → KeyKind → Grammar CertReason Head
 head_for t kind = do
   nonce ← the parts.Nonce string
-  key ← within parts.Subject (fields_of kind)
+  key ← within parts.Subject (public_key_fields kind)
   done (record { cert_key_type = t; nonce = nonce; key = key })
 
 -- a type that is for no kind of keys is refused with its name
 abbrev pub head_of : SshCertKeyType → Option KeyKind → Grammar CertReason Head
 head_of t (Some kind) = head_for t kind
-head_of t None = never (parts.Name, Name (cert_key_type_name t))
+head_of t None = refuses_all_bytes (parts.Name, Name (cert_key_type_name t))
 
 unfoldable pub head : Grammar CertReason Head
 head = do

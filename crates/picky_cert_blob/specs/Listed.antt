@@ -31,8 +31,8 @@ abbrev pub enclosed : {E A : Type 0} → (Flaw → E) → Grammar E A → Gramma
 enclosed cut G = placed_inside cut (begins G) G.used
 
 -- no bytes are a piece, and all are refused for this
-abbrev pub never : {E A : Type 0} → E → Grammar E A
-never why = record {
+abbrev pub refuses_all_bytes : {E A : Type 0} → E → Grammar E A
+refuses_all_bytes why = record {
   piece = λ v bytes. ⊥;
   read = λ bytes. Err why;
   used = λ bytes. 0;

@@ -2,7 +2,7 @@
 
 ghost use Rattle.std.specs.Prelude.{◌^◌, ◌<◌, length};
 ghost use Rattle.picky_wire.specs.View.{end_of};
-ghost use Rattle.picky_sshpub.specs.Blob.{fields_of};
+ghost use Rattle.picky_sshpub.specs.Blob.{public_key_fields};
 ghost use Rattle.picky_sshpub.specs.View.{key_seen, PartsLie};
 ghost use Rattle.picky_cert_blob.specs.declared.part.CertPart.TheVariants as parts;
 ghost use Rattle.picky_cert_blob.specs.Layout.{cert_name, head as head_layout, head_for};
@@ -103,7 +103,7 @@ fn subject_at<'a>(
     kind: KeyKind,
 ) -> Result<(PublicView<'a>, usize), Stopped<'a>>
     requires { length blob.now < 2 ^ 32 }
-    ensures { SeenIn key_seen (PartsLie blob.now from) (within parts.Subject (fields_of kind)) blob.now from result }
+    ensures { SeenIn key_seen (PartsLie blob.now from) (within parts.Subject (public_key_fields kind)) blob.now from result }
 {
     match fields_at(blob, from, kind) {
         Ok(found) => Ok(found),

@@ -42,14 +42,14 @@ pub fn list_at<'a, I: Item>(
 {
     let (block, next) = string_in(blob, from, part)?;
     let (front, _) = blob.split_at(next);
-    match pass_all::<I>(front, block.at) {
+    match pass_items::<I>(front, block.at) {
         Ok(()) => Ok((block, next)),
         Err(stopped) => Err(stopped),
     }
 }
 
 /// Passes the items that stand from a place on, up to the end of the bytes.
-fn pass_all<'a, I: Item>(bytes: &'a [u8], from: usize) -> Result<(), Stopped<'a>>
+fn pass_items<'a, I: Item>(bytes: &'a [u8], from: usize) -> Result<(), Stopped<'a>>
     requires { from ≤ length bytes.now }
     ensures { ArePassed I.item bytes.now from result }
 {

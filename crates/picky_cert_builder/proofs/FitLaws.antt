@@ -27,7 +27,7 @@ use Rattle.picky_cert_builder.specs.declared.terms.RequestTerms.{RequestTerms}
 use Rattle.picky_cert_builder.specs.Algorithm.{format_of}
 use Rattle.picky_cert_builder.specs.Fit.{IsFit}
 use Rattle.picky_cert_builder.specs.Request.{subject_kind_in, terms_of}
-use Rattle.picky_cert_builder.specs.Terms.{algorithm_by, fit_of, granted, is_made, judged, judged_signature, judged_subject}
+use Rattle.picky_cert_builder.specs.Terms.{algorithm_by, fit_of, granted, is_made, judged_signature, judged_subject, judged_terms}
 use Rattle.picky_cert_builder.specs.Terms.{judged_use, ordered}
 
 -- ---- steps
@@ -149,8 +149,8 @@ signature_says r t signed is =
     })
 
 -- Terms that are judged fit are.
-pub judged_is_fit : (r : RequestTerms) (fit : FitTerms) → judged r ≡ Ok fit → IsFit r fit
-unfolding judged
+pub judged_is_fit : (r : RequestTerms) (fit : FitTerms) → judged_terms r ≡ Ok fit → IsFit r fit
+unfolding judged_terms
 judged_is_fit r fit is =
     let subject = and_then_ok (judged_subject r) _ fit is in
     let used = and_then_ok (judged_use r) _ fit subject.2 in
@@ -196,15 +196,15 @@ unfolding judged_signature
 fit_signature r fit is = rw (is.signature.1, sym is.algorithm, is.signature.2) refl
 
 -- Terms that are fit are judged so.
-pub fit_is_judged : (r : RequestTerms) (fit : FitTerms) → IsFit r fit → judged r ≡ Ok fit
-unfolding judged
+pub fit_is_judged : (r : RequestTerms) (fit : FitTerms) → IsFit r fit → judged_terms r ≡ Ok fit
+unfolding judged_terms
 fit_is_judged r fit is = rw (fit_subject r fit is, fit_use r fit is, fit_signature r fit is) refl
 
-pub judged_where_fit : (r : RequestTerms) (fit : FitTerms) → (judged r ≡ Ok fit) ↔ IsFit r fit
+pub judged_where_fit : (r : RequestTerms) (fit : FitTerms) → (judged_terms r ≡ Ok fit) ↔ IsFit r fit
 judged_where_fit r fit = (judged_is_fit r fit, fit_is_judged r fit)
 
 -- A certificate's type is for its subject's key.
-pub judged_fits : (b : SshCertificateBuilder) (fit : FitTerms) (key : SshPublicKey) → judged (terms_of b) ≡ Ok fit
+pub judged_fits : (b : SshCertificateBuilder) (fit : FitTerms) (key : SshPublicKey) → judged_terms (terms_of b) ≡ Ok fit
     → b.public_key ≡ Some key → fits_subject fit.cert_key_type key.inner_key ≡ true
 judged_fits b fit key is given =
     let fits = judged_is_fit (terms_of b) fit is in

@@ -35,7 +35,7 @@ use Rattle.picky_cert_parts.specs.CriticalOption.{IsOption}
 use Rattle.picky_cert_blob.specs.Subject.{fits_subject}
 use Rattle.picky_cert.specs.declared.certificate.SshCertificate.{SshCertificate}
 use Rattle.picky_cert.specs.Keeps.{IsCertificate, IsWellFormed}
-use Rattle.picky_cert.specs.Line.{IsKept}
+use Rattle.picky_cert.specs.Line.{IsReadBackCertificate}
 use Rattle.picky_cert.specs.LineRefusal.{line_meaning, line_text}
 use Rattle.picky_cert.specs.Spelled.{blob_of, line_of, signed_of}
 use Rattle.picky_cert.proofs.FormedLaws.{short_is_formed}
@@ -53,7 +53,7 @@ use Rattle.picky_cert_builder.specs.Issuer.{issuer_part}
 use Rattle.picky_cert_builder.specs.Keeps.{IsRequest, without_key_comments}
 use Rattle.picky_cert_builder.specs.Permits.{permits}
 use Rattle.picky_cert_builder.specs.Request.{terms_of}
-use Rattle.picky_cert_builder.specs.Terms.{judged}
+use Rattle.picky_cert_builder.specs.Terms.{judged_terms}
 use Rattle.picky_cert_builder.proofs.FitLaws.{judged_fits, judged_is_fit, some_of_ok}
 
 -- ---- lists in order
@@ -124,7 +124,7 @@ pub record IsMade (b : SshCertificateBuilder) (nonce : List ℕ) (u : Unsigned) 
   pub fit : FitTerms
   pub key : SshPublicKey
   pub issuer : IssuerKey
-  pub judged : judged (terms_of b) ≡ Ok fit
+  pub judged : judged_terms (terms_of b) ≡ Ok fit
   pub key_is : b.public_key ≡ Some key
   pub issuer_is : b.issuer ≡ Some issuer
   pub is : certificate_of b fit key issuer nonce ≡ u.certificate
@@ -133,7 +133,7 @@ pub record IsMade (b : SshCertificateBuilder) (nonce : List ℕ) (u : Unsigned) 
 pub requested_is_made : (b : SshCertificateBuilder) (nonce : List ℕ) (u : Unsigned) → requested b nonce ≡ Ok u → IsMade b nonce u
 unfolding requested
 requested_is_made b nonce u is =
-    let fit = and_then_ok (judged (terms_of b)) _ u is in
+    let fit = and_then_ok (judged_terms (terms_of b)) _ u is in
     let key = and_then_ok (ok_or b.public_key errors.MissingPublicKey) _ u fit.2 in
     let issuer = and_then_ok (ok_or b.issuer errors.MissingSignatureKey) _ u key.2 in
     let c : SshCertificate = certificate_of b fit.0 key.0 issuer.0 nonce in
@@ -205,7 +205,7 @@ made_is_plain b nonce u is =
 pub signed_is_kept : (b : SshCertificateBuilder) (nonce : List ℕ) (u : Unsigned) (bytes : List ℕ) → IsRequest b
     → IsString nonce → IsString bytes → requested b nonce ≡ Ok u → HasNo 13 u.certificate.comment
     → HasNo 10 u.certificate.comment → trim_end u.certificate.comment ≡ u.certificate.comment
-    → length (line_of (signed_with u.certificate bytes)) < 2 ^ 32 → IsKept (without_key_comments (signed_with u.certificate bytes))
+    → length (line_of (signed_with u.certificate bytes)) < 2 ^ 32 → IsReadBackCertificate (without_key_comments (signed_with u.certificate bytes))
 unfolding line_of blob_of signed_of
 signed_is_kept b nonce u bytes kept is_nonce is_bytes is no_cr no_lf trimmed short =
     let keeps = made_keeps b nonce u kept is_nonce is in

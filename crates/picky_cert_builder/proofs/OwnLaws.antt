@@ -17,7 +17,7 @@ use Rattle.picky_cert_builder.specs.declared.terms.RequestTerms.{RequestTerms}
 use Rattle.picky_cert_builder.specs.Algorithm.{format_of}
 use Rattle.picky_cert_builder.specs.Draft.{certificate_of, requested}
 use Rattle.picky_cert_builder.specs.Request.{terms_of}
-use Rattle.picky_cert_builder.specs.Terms.{algorithm_by, granted, is_made, judged, judged_signature, judged_subject, judged_use, ordered}
+use Rattle.picky_cert_builder.specs.Terms.{algorithm_by, granted, is_made, judged_signature, judged_subject, judged_terms, judged_use, ordered}
 
 abbrev pub IsOwn : SshCertificateGenerationError → Type 0
 IsOwn e = (e ≢ errors.NoMemory) × (e ≢ errors.SignatureError)
@@ -89,8 +89,8 @@ signature_is r t e is =
     (λ g. given_is (format_of kind (algorithm_by r.signature_algo t)) errors.IncorrectSignatureAlgorithm g (λ is. cc is, λ is. cc is))
     (λ format g is. cc is)) is
 
-pub judged_is_own : (r : RequestTerms) (e : SshCertificateGenerationError) → judged r ≡ Err e → IsOwn e
-unfolding judged
+pub judged_is_own : (r : RequestTerms) (e : SshCertificateGenerationError) → judged_terms r ≡ Err e → IsOwn e
+unfolding judged_terms
 judged_is_own r e is =
     next_is (judged_subject r) _ e (subject_is r)
     (λ t f. next_is (judged_use r) _ f (use_is r)
@@ -101,7 +101,7 @@ pub requested_is_own : (b : SshCertificateBuilder) (nonce : List ℕ) (e : SshCe
     → requested b nonce ≡ Err e → IsOwn e
 unfolding requested
 requested_is_own b nonce e is =
-    next_is (judged (terms_of b)) _ e (judged_is_own (terms_of b))
+    next_is (judged_terms (terms_of b)) _ e (judged_is_own (terms_of b))
     (λ fit f. next_is (ok_or b.public_key errors.MissingPublicKey) _ f
     (λ g. given_is b.public_key errors.MissingPublicKey g (λ is. cc is, λ is. cc is))
     (λ key g. next_is (ok_or b.issuer errors.MissingSignatureKey) _ g

@@ -27,7 +27,7 @@ use Rattle.picky_cert_builder.specs.ByName.{by_name}
 use Rattle.picky_cert_builder.specs.Issuer.{issuer_part}
 use Rattle.picky_cert_builder.specs.Permits.{permits}
 use Rattle.picky_cert_builder.specs.Request.{terms_of}
-use Rattle.picky_cert_builder.specs.Terms.{judged}
+use Rattle.picky_cert_builder.specs.Terms.{judged_terms}
 
 -- ---- defaults
 
@@ -84,7 +84,7 @@ if_short c algorithm = if is_short (signed_of c) then Ok (unsigned_of c algorith
 -- the certificate that is asked for, or the first reason why none is made
 unfoldable pub requested : SshCertificateBuilder → (nonce : List ℕ) → Result Unsigned SshCertificateGenerationError
 requested b nonce =
-    and_then (judged (terms_of b)) (λ fit.
+    and_then (judged_terms (terms_of b)) (λ fit.
     and_then (ok_or b.public_key errors.MissingPublicKey) (λ key.
     and_then (ok_or b.issuer errors.MissingSignatureKey) (λ issuer.
     if_short (certificate_of b fit key issuer nonce) fit.signature_algo)))

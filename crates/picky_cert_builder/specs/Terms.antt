@@ -82,8 +82,8 @@ fit_of t used signed = record {
   format = signed.1;
 }
 
-unfoldable pub judged : RequestTerms → Result FitTerms SshCertificateGenerationError
-judged r =
+unfoldable pub judged_terms : RequestTerms → Result FitTerms SshCertificateGenerationError
+judged_terms r =
     and_then (judged_subject r) (λ t.
     and_then (judged_use r) (λ used.
     and_then (judged_signature r t) (λ signed. Ok (fit_of t used signed))))

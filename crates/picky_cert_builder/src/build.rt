@@ -11,7 +11,7 @@ ghost use Rattle.picky_cert_builder.specs.Request.{unset};
 ghost use Rattle.picky_cert_builder.specs.Drafted.{IsWhole, draft_shown};
 
 use crate::builder::SshCertificateBuilder;
-use crate::draft::Draft;
+use crate::draft::CertificateDraft;
 use crate::error::SshCertificateGenerationError;
 use picky_cert::{SshCertificate, SshSignatureBlob};
 use picky_suite::{SignError, Signer};
@@ -33,7 +33,7 @@ impl SshCertificateBuilder {
     {
         match self.draft(alloc, nonce) {
             Ok(draft) => {
-                let Draft {
+                let CertificateDraft {
                     certificate,
                     issuer,
                     message,
@@ -86,7 +86,7 @@ impl SshCertificateBuilder {
     }
 }
 
-impl Draft {
+impl CertificateDraft {
     /// The certificate with the device's signature of exactly its signed bytes. Refuses: `SignatureError`.
     pub fn sign<G: Signer>(
         self,
@@ -97,7 +97,7 @@ impl Draft {
         ensures answers { IsBuilt (G.signs signer.old) (Ok (draft_shown self)) (Rose (G.faults signer.old) (G.faults signer.new)) result }
         ensures signer { LeavesSigner G.signs G.faults (Ok (draft_shown self)) result signer.old signer.new }
     {
-        let Draft {
+        let CertificateDraft {
             mut certificate,
             issuer,
             algorithm,

@@ -23,7 +23,7 @@ use std::alloc::Global;
 
 /// A certificate with an empty signature, who is to sign it and by which algorithm, and the bytes that are signed.
 #[derive(Drop)]
-pub struct Draft {
+pub struct CertificateDraft {
     pub certificate: SshCertificate,
     pub issuer: Issuer,
     pub algorithm: SignatureAlgorithm,
@@ -39,7 +39,7 @@ impl SshCertificateBuilder {
         &self,
         alloc: Global,
         nonce: &[u8; 32],
-    ) -> Result<Draft, SshCertificateGenerationError>
+    ) -> Result<CertificateDraft, SshCertificateGenerationError>
         ensures gives { Gives SshCertificateGenerationError.NoMemory draft_shown result (requested self.now nonce.now) }
         ensures whole { IfOk result IsWhole }
         ensures issuer { IfOk result (λ draft. IfSome self.now.issuer (λ issuer. draft.issuer ≡ issuer_of issuer)) }
@@ -47,7 +47,7 @@ impl SshCertificateBuilder {
         match self.terms().judge() {
             Ok(fit) => match &self.public_key {
                 Some(key) => match &self.issuer {
-                    Some(issuer) => draft_of(alloc, self, &fit, key, issuer, nonce),
+                    Some(issuer) => certificate_draft(alloc, self, &fit, key, issuer, nonce),
                     None => Err(SshCertificateGenerationError::MissingSignatureKey),
                 },
                 None => Err(SshCertificateGenerationError::MissingPublicKey),
@@ -60,14 +60,14 @@ impl SshCertificateBuilder {
 /// The certificate of these terms, subject and issuer.
 ///
 /// Refuses: `TooLong`, where 2^32 bytes or more would be signed.
-fn draft_of(
+fn certificate_draft(
     alloc: Global,
     builder: &SshCertificateBuilder,
     fit: &FitTerms,
     key: &SshPublicKey,
     issuer: &IssuerKey,
     nonce: &[u8; 32],
-) -> Result<Draft, SshCertificateGenerationError>
+) -> Result<CertificateDraft, SshCertificateGenerationError>
     requires { fits_subject fit.now.cert_key_type key.now.inner_key ≡ true }
     ensures gives { Gives SshCertificateGenerationError.NoMemory draft_shown result
         (if_short (certificate_of builder.now fit.now key.now issuer.now nonce.now) fit.now.signature_algo) }
@@ -80,14 +80,14 @@ fn draft_of(
     }
 }
 
-/// The certificate, for this issuer to sign. Refuses: as `draft_of`.
+/// The certificate, for this issuer to sign. Refuses: as `certificate_draft`.
 #[tactic(auto, using(crate::proofs::IssuerLemmas::issuer_key_of))]
 fn draft_by(
     alloc: Global,
     certificate: SshCertificate,
     algorithm: SignatureAlgorithm,
     issuer: &IssuerKey,
-) -> Result<Draft, SshCertificateGenerationError>
+) -> Result<CertificateDraft, SshCertificateGenerationError>
     requires fits { fits_subject certificate.cert_key_type certificate.public_key.inner_key ≡ true }
     requires issuer { certificate.signature_key.inner_key ≡ issuer_part issuer.now }
     ensures gives { Gives SshCertificateGenerationError.NoMemory draft_shown result (if_short certificate algorithm) }
@@ -95,7 +95,7 @@ fn draft_by(
     ensures issuer { IfOk result (λ draft. draft.issuer ≡ issuer_of issuer.now) }
 {
     match issuer_and_message(alloc, issuer, &certificate) {
-        Ok((issuer, message)) => Ok(Draft {
+        Ok((issuer, message)) => Ok(CertificateDraft {
             certificate,
             issuer,
             algorithm,
@@ -108,7 +108,7 @@ fn draft_by(
     }
 }
 
-/// Who is to sign the certificate, and the bytes that are signed. Refuses: as `draft_of`.
+/// Who is to sign the certificate, and the bytes that are signed. Refuses: as `certificate_draft`.
 fn issuer_and_message(
     alloc: Global,
     issuer: &IssuerKey,
@@ -120,7 +120,7 @@ fn issuer_and_message(
         else Err SshCertificateGenerationError.TooLong) }
 {
     match message_of(alloc, certificate) {
-        Ok(message) => match issuer.to_issuer(alloc) {
+        Ok(message) => match issuer.issuer_for_signer(alloc) {
             Ok(issuer) => Ok((issuer, message)),
             Err(NoMemory) => Err(SshCertificateGenerationError::NoMemory),
         },
@@ -128,7 +128,7 @@ fn issuer_and_message(
     }
 }
 
-/// The bytes that are signed. Refuses: as `draft_of`.
+/// The bytes that are signed. Refuses: as `certificate_draft`.
 #[tactic(auto, unfolding(picky_cert::specs::LineRefusal::signed_text))]
 fn message_of(
     alloc: Global,

@@ -40,7 +40,7 @@ impl IssuerKey {
     }
 
     /// The issuer that a device signs for, with the secret where it is here. Refuses: `NoMemory`.
-    pub fn to_issuer(&self, alloc: Global) -> Result<Issuer, NoMemory>
+    pub fn issuer_for_signer(&self, alloc: Global) -> Result<Issuer, NoMemory>
         ensures { IfOk result (λ issuer. issuer ≡ issuer_of self.now) }
     {
         match self {

@@ -17,7 +17,7 @@ ghost use Rattle.picky_cert_builder.specs.declared.terms.RequestTerms.{RequestTe
 ghost use Rattle.picky_cert_builder.specs.Draft.{Unsigned, requested, signed_with};
 ghost use Rattle.picky_cert_builder.specs.Fit.{IsFit};
 ghost use Rattle.picky_cert_builder.specs.Keeps.{IsRequest, without_key_comments};
-ghost use Rattle.picky_cert_builder.specs.Terms.{judged};
+ghost use Rattle.picky_cert_builder.specs.Terms.{judged_terms};
 
 use crate::builder::SshCertificateBuilder;
 use crate::error::SshCertificateGenerationError;
@@ -25,7 +25,7 @@ use crate::issuer::IssuerKey;
 
 /// The terms of a request are judged fit exactly where a certificate is made for them.
 pub fn terms_are_judged_as_they_fit()
-    ensures { (r : Terms) (fit : Fit) → (judged r ≡ Ok fit) ↔ IsFit r fit }
+    ensures { (r : Terms) (fit : Fit) → (judged_terms r ≡ Ok fit) ↔ IsFit r fit }
 {}
 
 /// A certificate that is made has its parts in their ranges and is well formed, so what is signed of it binds all that it says.

@@ -17,7 +17,7 @@ mod terms;
 
 pub use algorithm::{default_algorithm, format_of};
 pub use builder::{BuildCertificate, SshCertificateBuilder};
-pub use draft::Draft;
+pub use draft::CertificateDraft;
 pub use error::SshCertificateGenerationError;
 pub use issuer::{IssuerKey, private_issuer};
 pub use ranges::{request_keeps_its_ranges, signature_keeps_its_ranges};

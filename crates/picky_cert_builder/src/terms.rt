@@ -2,7 +2,7 @@
 
 ghost use Rattle.std.specs.Prelude.{◌≡◌};
 ghost use Rattle.picky_cert_blob.specs.Subject.{is_for, subject_kind as subject_kind_of};
-ghost use Rattle.picky_cert_builder.specs.Terms.{algorithm_by, granted, is_made as is_made_here, judged, judged_signature};
+ghost use Rattle.picky_cert_builder.specs.Terms.{algorithm_by, granted, is_made as is_made_here, judged_signature, judged_terms};
 ghost use Rattle.picky_cert_builder.specs.Terms.{judged_subject, judged_use, ordered};
 
 use crate::algorithm::{default_algorithm, format_of};
@@ -53,9 +53,9 @@ impl RequestTerms {
     /// `MissingPublicKey`; `UnsupportedCertificateKeyType`, where the type isn't for the subject's key;
     /// `MissingCertificateType`; `InvalidTime`; `HostCertificateExtensions`; `HostCertificateCriticalOptions`;
     /// `MissingSignatureKey`; `IncorrectSignatureAlgorithm`.
-    #[tactic(auto, unfolding(crate::specs::Terms::judged))]
+    #[tactic(auto, unfolding(crate::specs::Terms::judged_terms))]
     pub fn judge(&self) -> Result<FitTerms, SshCertificateGenerationError>
-        ensures { result ≡ judged self.now }
+        ensures { result ≡ judged_terms self.now }
     {
         let cert_key_type = match judge_subject(self) {
             Ok(cert_key_type) => cert_key_type,

@@ -129,7 +129,7 @@ impl SshComplexTypeDecode for SshSignature {
             Ok(format) => format,
             Err(e) => return Err(e),
         };
-        match take_rest(alloc, stream, format) {
+        match take_signature_rest(alloc, stream, format) {
             Ok(signature) => Ok(signature),
             Err(e) => Err(e),
         }
@@ -156,7 +156,7 @@ fn take_format<S: Source>(
 }
 
 /// The fields that follow the name of this format.
-fn take_rest<S: Source>(
+fn take_signature_rest<S: Source>(
     alloc: Global,
     stream: &mut S,
     format: SshSignatureFormat,

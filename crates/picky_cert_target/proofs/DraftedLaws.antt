@@ -8,7 +8,7 @@ use Rattle.picky_sshpub.specs.LineRefusal.{is_short}
 use Rattle.picky_cert_builder.specs.declared.terms.FitTerms.{FitTerms}
 use Rattle.picky_cert_builder.specs.Draft.{Unsigned, requested}
 use Rattle.picky_cert_builder.specs.Request.{terms_of}
-use Rattle.picky_cert_builder.specs.Terms.{judged}
+use Rattle.picky_cert_builder.specs.Terms.{judged_terms}
 use Rattle.picky_cert_builder.proofs.MadeLaws.{requested_is_made}
 use Rattle.picky_key_text.specs.declared.meaning.Meaning.{Meaning}
 use Rattle.picky_target.specs.declared.error.ConvertError.{ConvertError}
@@ -32,7 +32,7 @@ drafted_is : (request : CertRequest) (m : Meaning) (fresh : List ℕ) (u : Unsig
 unfolding drafted drafted_of
 drafted_is request m fresh u is =
     let comment = passes (carries_comment targets.OpenSshPublic m.comment) _ errors.CommentNotCarried u is in
-    let terms = and_then_ok (map_err request_refusal (judged (terms_of (asked_for request m)))) (λ _.
+    let terms = and_then_ok (map_err request_refusal (judged_terms (terms_of (asked_for request m)))) (λ _.
     and_then (nonce_in fresh) (λ nonce. map_err request_refusal (requested (asked_for request m) nonce))) u comment.1 in
     let second = and_then_ok (nonce_in fresh) (λ nonce. map_err request_refusal (requested (asked_for request m) nonce)) u terms.2 in
     let nonce = passes (nat_le 32 (length fresh)) (Ok (take 32 fresh)) errors.FreshTooShort second.0 second.1 in

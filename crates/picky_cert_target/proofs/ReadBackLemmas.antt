@@ -15,12 +15,12 @@ use Rattle.picky_cert_names.specs.declared.cert_key_type.SshCertKeyType.TheVaria
 use Rattle.picky_cert_names.specs.Names.{cert_key_type_name}
 use Rattle.picky_cert_names.specs.NameTables.{cert_key_types}
 use Rattle.picky_cert.specs.declared.certificate.SshCertificate.{SshCertificate}
-use Rattle.picky_cert.specs.Line.{IsCertificateLine, IsKept}
+use Rattle.picky_cert.specs.Line.{IsCertificateLine, IsReadBackCertificate}
 use Rattle.picky_cert.specs.LineRefusal.{line_text}
 use Rattle.picky_cert.specs.Spelled.{blob_of, line_of}
 use Rattle.picky_text.specs.Base64.{base64_of}
 use Rattle.picky_cert.proofs.ReadBackLaws.{line_says, type_name_is_word}
-use Rattle.picky_cert_builder.specs.declared.draft.Draft.{Draft}
+use Rattle.picky_cert_builder.specs.declared.draft.CertificateDraft.{CertificateDraft}
 use Rattle.picky_cert_builder.specs.Draft.{Unsigned, signed_with}
 use Rattle.picky_cert_builder.specs.Drafted.{draft_shown}
 use Rattle.picky_cert_builder.specs.Keeps.{IsRequest, without_key_comments}
@@ -96,7 +96,7 @@ nonce_is_string fresh bytes =
 -- Signed, it has a line that is read back.
 pub line_is_kept : (request : CertRequest) (m : Meaning) (fresh : List ℕ) (u : Unsigned) (bytes : List ℕ)
     → IsRequest (asked_for request m) → IsBytes fresh → IsString bytes → IsDrafted request m fresh u
-    → length (line_of (signed_with u.certificate bytes)) < 2 ^ 32 → IsKept (without_key_comments (signed_with u.certificate bytes))
+    → length (line_of (signed_with u.certificate bytes)) < 2 ^ 32 → IsReadBackCertificate (without_key_comments (signed_with u.certificate bytes))
 line_is_kept request m fresh u bytes kept are_bytes is_bytes is short =
     let b = asked_for request m in
     let comment : m.comment ≡ u.certificate.comment = made_comment b (take 32 fresh) u is.is in
@@ -106,7 +106,7 @@ line_is_kept request m fresh u bytes kept are_bytes is_bytes is short =
 
 -- It means the subject's key and the comment.
 pub line_means : (request : CertRequest) (m : Meaning) (fresh : List ℕ) (u : Unsigned) (bytes text : List ℕ) (r : Reader)
-    → IsDrafted request m fresh u → IsKept (without_key_comments (signed_with u.certificate bytes))
+    → IsDrafted request m fresh u → IsReadBackCertificate (without_key_comments (signed_with u.certificate bytes))
     → line_text (signed_with u.certificate bytes) ≡ Ok text → Reads r text (public_meaning (public_key m))
 line_means request m fresh u bytes text r is kept written =
     let b = asked_for request m in
@@ -127,10 +127,11 @@ pub line_is_read_back : (signs : Relation) (request : CertRequest) (m : Meaning)
 line_is_read_back signs request m fresh u text r is line =
     let bytes = line.1.0 in
     line_means request m fresh u bytes text r is
-    (subst (λ c. IsKept (without_key_comments c)) line.1.1 line.2) (subst (λ c. line_text c ≡ Ok text) line.1.1 line.3)
+    (subst (λ c. IsReadBackCertificate (without_key_comments c)) line.1.1 line.2)
+    (subst (λ c. line_text c ≡ Ok text) line.1.1 line.3)
 
 -- Whatever signature a draft gets, its line is read back.
-pub draft_reads_back : (request : CertRequest) (m : Meaning) (fresh : List ℕ) (r : Result Draft ConvertError)
+pub draft_reads_back : (request : CertRequest) (m : Meaning) (fresh : List ℕ) (r : Result CertificateDraft ConvertError)
     → carries_comment targets.OpenSshPublic m.comment ≡ true → IsRequest (asked_for request m) → IsBytes fresh
     → Gives errors.NoMemory draft_shown r (drafted_of (asked_for request m) fresh) → IfOk r (λ d. IsReadBack d.certificate)
 unfolding drafted

@@ -4,7 +4,7 @@ use Rattle.std.proofs.Common.{refl, sym, subst, inl, inr}
 use Rattle.picky_cert_names.specs.declared.error.SshCertificateError.TheVariants as lines
 use Rattle.picky_cert_parts.specs.Signature.{IsSignature}
 use Rattle.picky_cert.specs.declared.certificate.SshCertificate.{SshCertificate}
-use Rattle.picky_cert.specs.Line.{IsKept}
+use Rattle.picky_cert.specs.Line.{IsReadBackCertificate}
 use Rattle.picky_cert.specs.LineRefusal.{line_text}
 use Rattle.picky_cert.specs.Spelled.{line_of}
 use Rattle.picky_cert_builder.specs.Draft.{IsSigned, Unsigned, signed_with}
@@ -16,9 +16,9 @@ use Rattle.picky_cert_target.specs.Certified.{Certifies, Relation}
 use Rattle.picky_cert_target.specs.inner.Signed.{IsReadBack}
 
 signed_is_kept_back : (u : Unsigned) (c : SshCertificate) (bytes text : List ℕ) → c ≡ signed_with u.certificate bytes
-    → IsReadBack u.certificate → IsSignature c.signature → line_text c ≡ Ok text → IsKept (without_key_comments c)
+    → IsReadBack u.certificate → IsSignature c.signature → line_text c ≡ Ok text → IsReadBackCertificate (without_key_comments c)
 signed_is_kept_back u c bytes text same back ranges written =
-    subst (λ d. IsKept (without_key_comments d)) (sym same)
+    subst (λ d. IsReadBackCertificate (without_key_comments d)) (sym same)
     (back bytes (subst (λ d. IsSignature d.signature) same ranges)
     (subst (λ d. length (line_of d) < 2 ^ 32) same (signed_line c text written).1))
 

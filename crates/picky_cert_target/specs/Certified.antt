@@ -5,7 +5,7 @@ use Rattle.picky_keys.specs.declared.public_key.PublicKey.{PublicKey}
 pub use Rattle.picky_suite.specs.Signs.{Relation}
 use Rattle.picky_cert_names.specs.declared.error.SshCertificateError.TheVariants as lines
 use Rattle.picky_cert.specs.declared.certificate.SshCertificate.{SshCertificate}
-use Rattle.picky_cert.specs.Line.{IsKept}
+use Rattle.picky_cert.specs.Line.{IsReadBackCertificate}
 use Rattle.picky_cert.specs.LineRefusal.{line_text}
 use Rattle.picky_cert_builder.specs.declared.error.SshCertificateGenerationError.TheVariants as requests
 use Rattle.picky_cert_builder.specs.Draft.{IsSigned, Unsigned}
@@ -17,7 +17,7 @@ use Rattle.picky_target.specs.declared.error.ConvertError.TheVariants as errors
 -- comments of its keys aside
 abbrev pub IsLineOf : Relation → Unsigned → (text : List ℕ) → Type 0
 IsLineOf signs u text =
-    (c : SshCertificate) × IsSigned signs u c × IsKept (without_key_comments c) × (line_text c ≡ Ok text)
+    (c : SshCertificate) × IsSigned signs u c × IsReadBackCertificate (without_key_comments c) × (line_text c ≡ Ok text)
 
 -- there is a good signature with which the line is too long
 abbrev pub IsTooLong : Relation → Unsigned → Type 0

@@ -11,7 +11,7 @@ use Rattle.picky_cert_builder.specs.declared.error.SshCertificateGenerationError
 use Rattle.picky_cert_builder.specs.declared.error.SshCertificateGenerationError.TheVariants as requests
 use Rattle.picky_cert_builder.specs.Draft.{Unsigned, requested}
 use Rattle.picky_cert_builder.specs.Request.{terms_of}
-use Rattle.picky_cert_builder.specs.Terms.{judged}
+use Rattle.picky_cert_builder.specs.Terms.{judged_terms}
 use Rattle.picky_key_text.specs.declared.meaning.Meaning.{Meaning}
 use Rattle.picky_target.specs.declared.error.ConvertError.{ConvertError}
 use Rattle.picky_target.specs.declared.error.ConvertError.TheVariants as errors
@@ -36,7 +36,7 @@ nonce_in fresh = if nat_le 32 (length fresh) then Ok (take 32 fresh) else Err er
 -- the certificate that is to be signed of what is asked for, or the first reason why there is none
 unfoldable pub drafted_of : SshCertificateBuilder → (fresh : List ℕ) → Result Unsigned ConvertError
 drafted_of b fresh =
-    and_then (map_err request_refusal (judged (terms_of b))) (λ _.
+    and_then (map_err request_refusal (judged_terms (terms_of b))) (λ _.
     and_then (nonce_in fresh) (λ nonce. map_err request_refusal (requested b nonce)))
 
 -- the same of a key and a comment

@@ -12,7 +12,7 @@ ghost use Rattle.picky_cert_target.specs.inner.Signed.{IsReadBack};
 
 use crate::request::{CertRequest, builder_of};
 use picky_cert_builder::{
-    Draft, SshCertificateBuilder, SshCertificateGenerationError, request_keeps_its_ranges,
+    CertificateDraft, SshCertificateBuilder, SshCertificateGenerationError, request_keeps_its_ranges,
 };
 use picky_key_text::Meaning;
 use picky_target::{ConvertError, KeyTarget, carries_comment};
@@ -60,7 +60,7 @@ pub fn draft_line(
     request: &CertRequest,
     meaning: Meaning,
     fresh: &[u8],
-) -> Result<Draft, ConvertError>
+) -> Result<CertificateDraft, ConvertError>
     ensures gives { Gives ConvertError.NoMemory draft_shown result (line_drafted request.now meaning fresh.now) }
     ensures whole { IfOk result IsWhole }
     ensures back { IfOk result (λ d. IsReadBack d.certificate) }
@@ -84,7 +84,7 @@ fn draft(
     request: &CertRequest,
     meaning: Meaning,
     fresh: &[u8],
-) -> Result<Draft, ConvertError>
+) -> Result<CertificateDraft, ConvertError>
     ensures gives { Gives ConvertError.NoMemory draft_shown result (drafted request.now meaning fresh.now) }
     ensures whole { IfOk result IsWhole }
     ensures back { IfOk result (λ d. IsReadBack d.certificate) }
@@ -95,7 +95,7 @@ fn draft(
     }
     match builder_of(alloc, request, meaning) {
         Ok(builder) => {
-            let draft = draft_of(alloc, &builder, fresh);
+            let draft = builder_draft(alloc, &builder, fresh);
             drop(builder);
             draft
         }
@@ -126,11 +126,11 @@ fn bytes_of(
 
 /// The certificate of what is asked for. Refuses, in order: `Request`; `FreshTooShort`; `TooLong`.
 #[tactic(auto, unfolding(crate::specs::Drafted::drafted_of))]
-fn draft_of(
+fn builder_draft(
     alloc: Global,
     builder: &SshCertificateBuilder,
     fresh: &[u8],
-) -> Result<Draft, ConvertError>
+) -> Result<CertificateDraft, ConvertError>
     ensures gives { Gives ConvertError.NoMemory draft_shown result (drafted_by builder.now fresh.now) }
     ensures whole { IfOk result IsWhole }
     ensures ranges { IsRequest builder.now }
@@ -163,7 +163,7 @@ fn nonce_of(fresh: &[u8]) -> Result<[u8; NONCE_LEN], ConvertError>
 }
 
 /// How long the line is without a signature.
-fn unsigned_line_len(draft: &Draft) -> usize
+fn unsigned_line_len(draft: &CertificateDraft) -> usize
     requires { IsWhole draft.now }
     ensures { result ≡ length (unsigned_line draft.now.certificate) }
 {

@@ -2,7 +2,7 @@
 
 use crate::answers::{ends_in, gives};
 use picky_cert_rows::{CertRow, ROW_COUNT, ZERO_LINE, cert_row};
-use picky_conversion::{Given, convert_key};
+use picky_conversion::{ConversionGiven, convert_key};
 use picky_ppk::{PpkEncryptionConfig, PpkVersion};
 use picky_suite::PlainSuite;
 use picky_target::{ConvertError, KeyTarget};
@@ -13,7 +13,7 @@ use std::test::Fail;
 
 /// The conversion without passphrases and fresh bytes.
 pub fn converted(alloc: Global, line: &str, target: KeyTarget) -> Result<Text, ConvertError> {
-    let given = Given {
+    let given = ConversionGiven {
         pass_in: None,
         pass_out: None,
         fresh: &[],

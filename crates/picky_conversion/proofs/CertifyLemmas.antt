@@ -13,7 +13,7 @@ use Rattle.picky_cert_builder.specs.declared.error.SshCertificateGenerationError
 use Rattle.picky_cert_builder.specs.declared.error.SshCertificateGenerationError.TheVariants as requests
 use Rattle.picky_cert_builder.specs.Draft.{Unsigned, requested}
 use Rattle.picky_cert_builder.specs.Request.{terms_of}
-use Rattle.picky_cert_builder.specs.Terms.{judged}
+use Rattle.picky_cert_builder.specs.Terms.{judged_terms}
 use Rattle.picky_cert_builder.proofs.OwnLaws.{IsOwn as IsRequestsOwn, judged_is_own as judged_request, requested_is_own}
 use Rattle.picky_key_text.specs.declared.error.ReadError.{ReadError}
 use Rattle.picky_key_text.specs.declared.meaning.Meaning.{Meaning}
@@ -72,9 +72,9 @@ nonce_is_own fresh e is = either_is (nat_le 32 (length fresh)) (Ok (take 32 fres
 drafted_of_is_own : (b : SshCertificateBuilder) (fresh : List ℕ) (e : ConvertError) → drafted_of b fresh ≡ Err e → IsOwn e
 unfolding drafted_of
 drafted_of_is_own b fresh e is =
-    next_is IsOwn (map_err request_refusal (judged (terms_of b)))
+    next_is IsOwn (map_err request_refusal (judged_terms (terms_of b)))
     (λ _. and_then (nonce_in fresh) (λ nonce. map_err request_refusal (requested b nonce))) e
-    (λ f. mapped_is IsOwn request_refusal (judged (terms_of b)) f (λ g was. request_is_own g (judged_request (terms_of b) g was)))
+    (λ f. mapped_is IsOwn request_refusal (judged_terms (terms_of b)) f (λ g was. request_is_own g (judged_request (terms_of b) g was)))
     (λ fit f was. next_is IsOwn (nonce_in fresh) (λ nonce. map_err request_refusal (requested b nonce)) f (nonce_is_own fresh)
     (λ nonce g so. mapped_is IsOwn request_refusal (requested b nonce) g (λ h was. request_is_own h (requested_is_own b nonce h was)))) is
 

@@ -14,7 +14,7 @@ use Rattle.picky_target.specs.declared.error.ConvertError.{ConvertError}
 use Rattle.picky_target.specs.declared.error.ConvertError.TheVariants as errors
 use Rattle.picky_target.specs.declared.target.KeyTarget.{KeyTarget}
 use Rattle.picky_target.specs.Carried.{Carries}
-use Rattle.picky_target.specs.Judged.{judged}
+use Rattle.picky_target.specs.Judged.{judged_meaning}
 use Rattle.picky_target.specs.Output.{Output}
 use Rattle.picky_target.specs.Texts.{text_for}
 use Rattle.picky_target.specs.Written.{written}
@@ -47,13 +47,13 @@ says_in o input meaning given utf8 means =
 -- ---- what is written of a meaning
 
 written_parts : (m : Meanings) (out : Output) (to : KeyTarget) (meaning : Meaning) (text : List ℕ)
-    → written m out to meaning ≡ Ok text → (judged out to meaning ≡ Ok tt) × (text_for m out to meaning ≡ text)
+    → written m out to meaning ≡ Ok text → (judged_meaning out to meaning ≡ Ok tt) × (text_for m out to meaning ≡ text)
 unfolding written
 written_parts m out to meaning text done =
-    let steps = and_then_ok (judged out to meaning) (λ _. Ok (text_for m out to meaning)) text done in
+    let steps = and_then_ok (judged_meaning out to meaning) (λ _. Ok (text_for m out to meaning)) text done in
     (steps.1, cc steps.2)
 
-written_from : (m : Meanings) (out : Output) (to : KeyTarget) (meaning : Meaning) → judged out to meaning ≡ Ok tt
+written_from : (m : Meanings) (out : Output) (to : KeyTarget) (meaning : Meaning) → judged_meaning out to meaning ≡ Ok tt
     → written m out to meaning ≡ Ok (text_for m out to meaning)
 unfolding written
 written_from m out to meaning passed = rw passed refl
@@ -63,7 +63,7 @@ written_from m out to meaning passed = rw passed refl
 pub record Parts (o : Outside) (to : KeyTarget) (input text : List ℕ) : Type 0 where
   pub meaning : Meaning
   pub means : reading (reader o) input ≡ Ok meaning
-  pub passed : judged o.output to meaning ≡ Ok tt
+  pub passed : judged_meaning o.output to meaning ≡ Ok tt
   pub is : text_for o.meanings o.output to meaning ≡ text
 
 pub conversion_parts : (o : Outside) (to : KeyTarget) (input text : List ℕ) → conversion o to input ≡ Ok text
@@ -80,7 +80,7 @@ conversion_parts o to input text done =
     }
 
 pub conversion_from : (o : Outside) (to : KeyTarget) (input : List ℕ) (meaning : Meaning) → reading (reader o) input ≡ Ok meaning
-    → judged o.output to meaning ≡ Ok tt → conversion o to input ≡ Ok (text_for o.meanings o.output to meaning)
+    → judged_meaning o.output to meaning ≡ Ok tt → conversion o to input ≡ Ok (text_for o.meanings o.output to meaning)
 unfolding conversion
 conversion_from o to input meaning means passed = rw means (written_from o.meanings o.output to meaning passed)
 

@@ -11,7 +11,7 @@ use Rattle.picky_target.specs.declared.error.ConvertError.TheVariants as errors
 use Rattle.picky_target.specs.declared.target.KeyTarget.{KeyTarget}
 use Rattle.picky_target.specs.declared.target.KeyTarget.TheVariants as targets
 use Rattle.picky_target.specs.Carried.{Place, places, PrivateKey, Kind, Comment, Derivation, Fresh, Length, Lines}
-use Rattle.picky_target.specs.Judged.{first_failing, judged, passes, refusal}
+use Rattle.picky_target.specs.Judged.{first_failing, judged_meaning, passes, place_refusal}
 use Rattle.picky_target.specs.Output.{Output}
 use Rattle.picky_target.specs.Texts.{text_for}
 use Rattle.picky_target.specs.Written.{written}
@@ -25,7 +25,7 @@ IsOwn e = (WantsMemory e → ⊥) × (IsFault e → ⊥) × (IsSignerFault e →
 neither : {A B : Type 0} → (A → ⊥) → (B → ⊥) → (A ⊎ B) → ⊥
 neither a b = λ either. elim either [ inl x ↦ a x | inr y ↦ b y ]
 
-place_is_own : (to : KeyTarget) (place : Place) → IsOwn (refusal to place)
+place_is_own : (to : KeyTarget) (place : Place) → IsOwn (place_refusal to place)
 place_is_own to PrivateKey = (λ want. cc want, λ fault. fault, λ fault. fault)
 place_is_own to Kind = (neither (λ is. cc is) (λ is. cc is), λ is. cc is, λ fault. fault)
 place_is_own to Comment = (λ want. cc want, λ fault. fault, λ fault. fault)
@@ -48,10 +48,11 @@ failing_is_own P test error (place ∷ more) e each refused =
     go true later is = later is
     go false later is = let same : error place ≡ e = cc is in subst P same (each place)
 
-judged_is_own : (out : Output) (to : KeyTarget) (meaning : Meaning) (e : ConvertError) → judged out to meaning ≡ Err e → IsOwn e
-unfolding judged
+judged_is_own : (out : Output) (to : KeyTarget) (meaning : Meaning) (e : ConvertError) → judged_meaning out to meaning ≡ Err e → IsOwn e
+unfolding judged_meaning
 judged_is_own out to meaning e refused =
-    failing_is_own IsOwn (passes out to meaning) (refusal to) places e (place_is_own to) refused
+    failing_is_own IsOwn (passes out to meaning) (place_refusal to) places e
+    (place_is_own to) refused
 
 -- a step after which only refusals of the next one come
 pub next_is : {E A B : Type 0} (P : E → Type 0) (r : Result A E) (next : A → Result B E) (e : E)
@@ -63,7 +64,7 @@ pub written_is_own : (m : Meanings) (out : Output) (to : KeyTarget) (meaning : M
     → written m out to meaning ≡ Err e → IsOwn e
 unfolding written
 written_is_own m out to meaning e refused =
-    next_is IsOwn (judged out to meaning) (λ _. Ok (text_for m out to meaning)) e (judged_is_own out to meaning)
+    next_is IsOwn (judged_meaning out to meaning) (λ _. Ok (text_for m out to meaning)) e (judged_is_own out to meaning)
     (λ x f was is. cc is) refused
 
 pub mapped_is : {E F A : Type 0} (P : F → Type 0) (f : E → F) (r : Result A E) (e : F)

@@ -12,7 +12,7 @@ use Rattle.picky_sshpub.specs.declared.key.SshPublicKey.{SshPublicKey}
 use Rattle.picky_key_text.specs.declared.meaning.Key.{Key}
 use Rattle.picky_key_text.specs.declared.meaning.Key.TheVariants as keys
 use Rattle.picky_key_text.specs.declared.meaning.Meaning.{Meaning}
-use Rattle.picky_key_text.specs.Kept.{IsKept, IsKeptKey}
+use Rattle.picky_key_text.specs.Kept.{IsKeptMeaning, IsKeptKey}
 use Rattle.picky_key_text.specs.Key.{public_key, public_meaning, public_part}
 use Rattle.picky_key_text.specs.Order.{reading}
 use Rattle.picky_key_text.specs.Reader.{Reader}
@@ -20,7 +20,7 @@ use Rattle.picky_key_text.specs.Reads.{Reads}
 use Rattle.picky_target.specs.declared.error.ConvertError.TheVariants as errors
 use Rattle.picky_target.specs.declared.target.KeyTarget.{KeyTarget}
 use Rattle.picky_target.specs.declared.target.KeyTarget.TheVariants as targets
-use Rattle.picky_target.specs.Judged.{judged}
+use Rattle.picky_target.specs.Judged.{judged_meaning}
 use Rattle.picky_target.specs.Output.{Output}
 use Rattle.picky_target.specs.ReadBack.{IsTarget, kept, under}
 use Rattle.picky_target.specs.Texts.{text_for}
@@ -47,7 +47,7 @@ use Rattle.picky_conversion.proofs.LawLemmas.{judged_kept, text_kept, text_means
 -- ---- equal texts
 
 record IsWritten (o : Outside) (to : KeyTarget) (meaning : Meaning) (text : List ℕ) : Type 0 where
-  passed : judged o.output to meaning ≡ Ok tt
+  passed : judged_meaning o.output to meaning ≡ Ok tt
   is : text_for o.meanings o.output to meaning ≡ text
 
 written_of : (o : Outside) (to : KeyTarget) (input text : List ℕ) (meaning : Meaning) → reading (reader o) input ≡ Ok meaning
@@ -57,7 +57,7 @@ written_of o to input text meaning means done =
     let same : parts.meaning ≡ meaning = let read_so = parts.means in cc (read_so, means) in
     subst (λ n. IsWritten o to n text) same (record { passed = parts.passed; is = parts.is })
 
-read_again : (o : Outside) (to : KeyTarget) (meaning : Meaning) (text : List ℕ) → IsGiven o → IsTarget to → IsKept meaning
+read_again : (o : Outside) (to : KeyTarget) (meaning : Meaning) (text : List ℕ) → IsGiven o → IsTarget to → IsKeptMeaning meaning
     → IsWritten o to meaning text → reading (under o.meanings o.output.pass) text ≡ Ok (kept to meaning)
 read_again o to meaning text given fits is_kept written =
     subst (λ t. reading (under o.meanings o.output.pass) t ≡ Ok (kept to meaning)) written.is
@@ -92,10 +92,10 @@ key_is_kept : (key : Key) → IsKeptKey key → IsKey (public_part key)
 key_is_kept (keys.Private key) is = public_is_kept key is
 key_is_kept (keys.Public key) is = is
 
-public_meaning_is_kept : (m : Meaning) → IsKept m → IsKept (public_meaning (public_key m))
+public_meaning_is_kept : (m : Meaning) → IsKeptMeaning m → IsKeptMeaning (public_meaning (public_key m))
 public_meaning_is_kept m is = record { key = key_is_kept m.key is.key; comment = is.comment }
 
-kept_is_kept : (to : KeyTarget) (m : Meaning) → IsKept m → IsKept (kept to m)
+kept_is_kept : (to : KeyTarget) (m : Meaning) → IsKeptMeaning m → IsKeptMeaning (kept to m)
 kept_is_kept targets.OpenSsh m is = is
 kept_is_kept (targets.Ppk version config) m is = is
 kept_is_kept targets.OpenSshPublic m is = public_meaning_is_kept m is
@@ -111,7 +111,7 @@ kept_is_public targets.PuttyPublic m = refl
 record HasPublic (r : Reader) (text : List ℕ) (key : SshPublicKey) : Type 0 where
   meaning : Meaning
   means : reading r text ≡ Ok meaning
-  is_kept : IsKept meaning
+  is_kept : IsKeptMeaning meaning
   is : public_key meaning ≡ key
 
 step_keeps : (signs : Relation) (o : Outside) (way : Way) (from next : List ℕ) (key : SshPublicKey) → IsGiven (record o { pass_in = None })
@@ -137,7 +137,7 @@ step_keeps signs o (Certified request) from next key given fits before wrote =
     record {
       meaning = public_meaning (public_key steps.0);
       means = read (under o.meanings o.output.pass) next (public_meaning (public_key steps.0)) reads;
-      is_kept = public_meaning_is_kept steps.0 (subst IsKept (sym same) before.is_kept);
+      is_kept = public_meaning_is_kept steps.0 (subst IsKeptMeaning (sym same) before.is_kept);
       is = ap public_key same ∙ before.is;
     }
 
@@ -168,7 +168,7 @@ public_parts_stay signs o steps out to input between text pass_in utf8 m means p
     let after = steps_keep signs o steps input between (public_key m) before through in
     let written = written_of later to between text after.meaning after.means done in
     let alike = kept_alike to m after.meaning public (sym after.is) in
-    let passed : judged out to m ≡ Ok tt =
-    sym (judged_kept out to m) ∙ ap (judged out to) alike ∙ judged_kept out to after.meaning ∙ written.passed in
+    let passed : judged_meaning out to m ≡ Ok tt =
+    sym (judged_kept out to m) ∙ ap (judged_meaning out to) alike ∙ judged_kept out to after.meaning ∙ written.passed in
     conversion_from (record o { output = out }) to input m means passed
     ∙ ap Ok (sym (text_kept o.meanings out to m) ∙ ap (text_for o.meanings out to) alike ∙ text_kept o.meanings out to after.meaning ∙ written.is)

@@ -15,13 +15,13 @@ use Rattle.picky_target.specs.declared.error.ConvertError.TheVariants as errors
 use Rattle.picky_key_text.specs.declared.meaning.Key.{Key}
 use Rattle.picky_key_text.specs.declared.meaning.Key.TheVariants as keys
 use Rattle.picky_key_text.specs.declared.meaning.Meaning.{Meaning}
-use Rattle.picky_key_text.specs.Kept.{IsKept}
+use Rattle.picky_key_text.specs.Kept.{IsKeptMeaning}
 use Rattle.picky_key_text.specs.Key.{public_part}
 use Rattle.picky_key_text.specs.Order.{reading}
 use Rattle.picky_target.specs.declared.target.KeyTarget.{KeyTarget}
 use Rattle.picky_target.specs.declared.target.KeyTarget.TheVariants as targets
 use Rattle.picky_target.specs.Carried.{need_under}
-use Rattle.picky_target.specs.Judged.{judged}
+use Rattle.picky_target.specs.Judged.{judged_meaning}
 use Rattle.picky_target.specs.Output.{Output}
 use Rattle.picky_target.specs.ReadBack.{IsTarget, kept, under}
 use Rattle.picky_target.specs.Texts.{text_for}
@@ -51,8 +51,8 @@ no_need_of_public None key = refl
 no_need_of_public (Some pass) (keys.Private key) = refl
 no_need_of_public (Some pass) (keys.Public key) = refl
 
-pub judged_kept : (out : Output) (to : KeyTarget) (meaning : Meaning) → judged out to (kept to meaning) ≡ judged out to meaning
-unfolding judged
+pub judged_kept : (out : Output) (to : KeyTarget) (meaning : Meaning) → judged_meaning out to (kept to meaning) ≡ judged_meaning out to meaning
+unfolding judged_meaning
 judged_kept out targets.OpenSsh meaning = refl
 judged_kept out (targets.Ppk version config) meaning = refl
 judged_kept out targets.OpenSshPublic meaning =
@@ -68,8 +68,8 @@ text_kept m out targets.OpenSshPublic meaning = refl
 text_kept m out targets.PuttyPublic meaning = refl
 
 -- what is written of a meaning that was read means what is kept of it
-pub text_means : (o : Outside) (to : KeyTarget) (meaning : Meaning) → IsGiven o → IsTarget to → IsKept meaning
-    → judged o.output to meaning ≡ Ok tt
+pub text_means : (o : Outside) (to : KeyTarget) (meaning : Meaning) → IsGiven o → IsTarget to → IsKeptMeaning meaning
+    → judged_meaning o.output to meaning ≡ Ok tt
     → reading (under o.meanings o.output.pass) (text_for o.meanings o.output to meaning) ≡ Ok (kept to meaning)
 text_means o to meaning given fits is_kept passed =
     let text = text_for o.meanings o.output to meaning in
@@ -99,7 +99,7 @@ keeps_all targets.PuttyPublic meaning private = cc private
 
 -- the text is what the target writes of the meaning
 record IsWritten (m : Meanings) (out : Output) (to : KeyTarget) (meaning : Meaning) (text : List ℕ) : Type 0 where
-  passed : judged out to meaning ≡ Ok tt
+  passed : judged_meaning out to meaning ≡ Ok tt
   is : text_for m out to meaning ≡ text
 
 step_written : (o : Outside) (step : Step) (input next : List ℕ) (meaning : Meaning) → reading (reader o) input ≡ Ok meaning
@@ -111,7 +111,7 @@ step_written o step input next meaning means done =
     subst (λ n. IsWritten o.meanings step.output step.target n next) same (record { passed = parts.passed; is = parts.is })
 
 -- the meaning stays from step to step
-chain_written : (o : Outside) (step : Step) (steps : List Step) (input text : List ℕ) (meaning : Meaning) → IsKept meaning
+chain_written : (o : Outside) (step : Step) (steps : List Step) (input text : List ℕ) (meaning : Meaning) → IsKeptMeaning meaning
     → reading (reader o) input ≡ Ok meaning → through o (step ∷ steps) input ≡ Ok text
     → IsWritten o.meanings (last_of step steps).output (last_of step steps).target meaning text
 chain_written o step [] input text meaning is_kept means done =

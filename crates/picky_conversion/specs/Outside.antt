@@ -6,7 +6,7 @@ use Rattle.picky_suite.specs.Meanings.{Meanings}
 use Rattle.picky_key_text.specs.Reader.{Reader}
 use Rattle.picky_target.specs.Output.{Output}
 use Rattle.picky_target.specs.ReadBack.{under}
-use Rattle.picky_conversion.specs.declared.given.Given.{Given}
+use Rattle.picky_conversion.specs.declared.given.ConversionGiven.{ConversionGiven}
 
 -- what a suite's calls mean, the passphrase that the key text is read under, and what is written under
 pub record Outside : Type 0 where
@@ -31,5 +31,5 @@ outside_of m pass_in pass_out fresh = record {
 }
 
 -- the same of what is given together
-abbrev pub outside : Meanings → Given → Outside
+abbrev pub outside : Meanings → ConversionGiven → Outside
 outside m given = outside_of m given.pass_in given.pass_out given.fresh.now

@@ -20,7 +20,7 @@ ghost use Rattle.picky_conversion.specs.Made.{Answers, AnswersPlain, IsLeft, Lea
 ghost use Rattle.picky_conversion.specs.To.{CanConvert, IsConverted, IsFaultTo, IsWay, asks_to, converted, way_to};
 ghost use Rattle.picky_conversion.specs.Refusal.{input_refusal as input_refusal_of, issuer_refusal as issuer_refusal_of};
 
-use crate::given::Given;
+use crate::given::ConversionGiven;
 use crate::target::Target;
 use picky_cert_target::{CertRequest, write_certificate, write_signed_bytes};
 use picky_key_text::{ReadError, read_text};
@@ -78,7 +78,7 @@ pub fn convert<S: Suite, G: Signer>(
 {
     is_given(pass_in, pass_out, fresh);
     is_target(target);
-    let given = Given {
+    let given = ConversionGiven {
         pass_in,
         pass_out,
         fresh,
@@ -93,7 +93,7 @@ fn convert_to<S: Suite, G: Signer>(
     signer: &mut G,
     input: &str,
     target: &Target,
-    given: Given<'_>,
+    given: ConversionGiven<'_>,
 ) -> Result<Text, ConvertError>
     ensures gives { Answers (G.signs signer.old) (λ text. text)
         (converted (outside (S.meanings suite.old) given.entry) (way_to target.now) input.now)
@@ -128,14 +128,14 @@ pub fn convert_key<S: Suite>(
     suite: &mut S,
     input: &str,
     target: KeyTarget,
-    given: Given<'_>,
+    given: ConversionGiven<'_>,
 ) -> Result<Text, ConvertError>
     ensures gives { AnswersText (λ text. text) (outside (S.meanings suite.old) given.entry) target input.now
         (Rose (S.faults suite.old) (S.faults suite.new)) result }
     ensures suite { LeavesAskedSuite S.meanings S.faults
         (converting_asks (outside (S.meanings suite.old) given.entry) target input.now) result suite.old suite.new }
 {
-    let Given {
+    let ConversionGiven {
         pass_in,
         pass_out,
         fresh,
@@ -155,7 +155,7 @@ pub fn certify<S: Suite, G: Signer>(
     signer: &mut G,
     input: &str,
     request: &CertRequest,
-    given: Given<'_>,
+    given: ConversionGiven<'_>,
 ) -> Result<Text, ConvertError>
     ensures gives { Answers (G.signs signer.old) (λ text. text)
         (map_ok ToSign (certification (outside (S.meanings suite.old) given.entry) request.now input.now))
@@ -180,7 +180,7 @@ pub fn bytes_to_sign<S: Suite>(
     suite: &mut S,
     input: &str,
     request: &CertRequest,
-    given: Given<'_>,
+    given: ConversionGiven<'_>,
 ) -> Result<Bytes, ConvertError>
     ensures gives { AnswersPlain (λ bytes. bytes)
         (map_ok (λ u. signed_of u.certificate) (drafting (outside (S.meanings suite.old) given.entry) request.now input.now))

@@ -2,7 +2,7 @@
 
 /// The passphrases, and the fresh bytes.
 #[derive(Clone, Copy)]
-pub struct Given<'a> {
+pub struct ConversionGiven<'a> {
     /// The passphrase that key texts are read under.
     pub pass_in: Option<&'a str>,
     /// The passphrase that what is written is sealed under.

@@ -15,7 +15,7 @@ ghost use Rattle.picky_conversion.specs.Made.{Answers, AnswersPlain, LeavesSigne
 ghost use Rattle.picky_conversion.specs.Outside.{outside};
 
 use crate::conversion::{bytes_to_sign, certify, issuer_refusal};
-use crate::given::Given;
+use crate::given::ConversionGiven;
 use picky_cert_target::CertRequest;
 use picky_issuing::{CertOptions, parts_of};
 use picky_key_text::{Key, Meaning, read_text};
@@ -33,7 +33,7 @@ pub fn issue<S: Suite, G: Signer>(
     signer: &mut G,
     options: CertOptions,
     input: &str,
-    given: Given<'_>,
+    given: ConversionGiven<'_>,
 ) -> Result<Text, ConvertError>
     ensures gives { Answers (G.signs signer.old) (λ text. text) (map_ok ToSign (issued (outside (S.meanings suite.old) given.entry) options input.now))
         (λ e. IsIssuingFault (outside (S.meanings suite.old) given.entry) input.now e (Rose (S.faults suite.old) (S.faults suite.new)))
@@ -65,7 +65,7 @@ pub fn print_signed<S: Suite>(
     suite: &mut S,
     options: CertOptions,
     input: &str,
-    given: Given<'_>,
+    given: ConversionGiven<'_>,
 ) -> Result<String, ConvertError>
     ensures gives { AnswersPlain string_bytes (issued_bytes (outside (S.meanings suite.old) given.entry) options input.now)
         (λ e. IsIssuingFault (outside (S.meanings suite.old) given.entry) input.now e (Rose (S.faults suite.old) (S.faults suite.new))) result }
@@ -92,7 +92,7 @@ fn print_request<S: Suite>(
     suite: &mut S,
     input: &str,
     request: &CertRequest,
-    given: Given<'_>,
+    given: ConversionGiven<'_>,
 ) -> Result<String, ConvertError>
     ensures gives { AnswersPlain string_bytes (map_ok hex_line (drafting (outside (S.meanings suite.old) given.entry) request.now input.now))
         (λ e. IsReadFault (outside (S.meanings suite.old) given.entry) input.now e (Rose (S.faults suite.old) (S.faults suite.new))) result }
@@ -121,7 +121,7 @@ fn issuer_of<S: Suite>(
     alloc: Global,
     suite: &mut S,
     issuer: Option<&str>,
-    given: Given<'_>,
+    given: ConversionGiven<'_>,
 ) -> Result<Option<Key>, ConvertError>
     ensures gives { AnswersPlain (λ key. key) (issuer_read (outside (S.meanings suite.old) given.entry) (option_copied issuer.entry))
         (λ e. (e ≡ issuer_fault (option_copied issuer.entry))

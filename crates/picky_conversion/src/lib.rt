@@ -8,6 +8,6 @@ pub mod laws;
 mod target;
 
 pub use conversion::{convert, convert_key, input_refusal, is_given};
-pub use given::Given;
+pub use given::ConversionGiven;
 pub use issuing::{issue, print_signed};
 pub use target::Target;

@@ -16,7 +16,7 @@ ghost use Rattle.picky_convert.specs.inner.Causes.{refusal_status, Comes};
 use crate::error::Status;
 use crate::fingerprint::fingerprint_text;
 use picky_cert_builder::SshCertificateGenerationError;
-use picky_conversion::{Given, convert_key, input_refusal, issue, print_signed};
+use picky_conversion::{ConversionGiven, convert_key, input_refusal, issue, print_signed};
 use picky_input::as_text;
 use picky_issuing::{CertOptions, number_of, options_of};
 use picky_key_text::{ReadError, public_key, read_text};
@@ -180,7 +180,7 @@ fn file_of(version: PpkVersion) -> KeyTarget
 pub fn perform<S: Suite, G: Signer>(
     alloc: Global,
     command: Command,
-    given: Given<'_>,
+    given: ConversionGiven<'_>,
     suite: &mut S,
     signer: &mut G,
     input: &[u8],
@@ -232,7 +232,7 @@ fn status_of(e: ConvertError) -> Status
 fn answer_to<S: Suite, G: Signer>(
     alloc: Global,
     command: Command,
-    given: Given<'_>,
+    given: ConversionGiven<'_>,
     suite: &mut S,
     signer: &mut G,
     text: &str,
@@ -268,7 +268,7 @@ fn fingerprint<S: Suite>(
     alloc: Global,
     suite: &mut S,
     text: &str,
-    given: Given<'_>,
+    given: ConversionGiven<'_>,
 ) -> Result<String, ConvertError>
     ensures gives { AnswersPlain string_bytes (fingerprints (outside (S.meanings suite.old) given.entry) text.now)
         (λ e. IsReadFault (outside (S.meanings suite.old) given.entry) text.now e (Rose (S.faults suite.old) (S.faults suite.new))) result }

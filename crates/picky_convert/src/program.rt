@@ -14,7 +14,7 @@ ghost use Rattle.picky_convert.specs.inner.Causes.{extent_at, Comes};
 use crate::command::{Command, command_of, perform, reads_source};
 use crate::error::Status;
 use crate::reports::word;
-use picky_conversion::{Given, is_given};
+use picky_conversion::{ConversionGiven, is_given};
 use picky_input::{InputError, read_input};
 use picky_suite::{Signer, Suite};
 use picky_target::ConvertError;
@@ -91,7 +91,7 @@ pub fn run<S: Suite, G: Signer, I: Source, O: Sink, E: Sink>(
     ensures said { SaysEnd E.tells E.written E.faults result err.old err.new }
 {
     is_given(pass_in, pass_out, fresh);
-    let given = Given {
+    let given = ConversionGiven {
         pass_in,
         pass_out,
         fresh,
@@ -105,7 +105,7 @@ pub fn run<S: Suite, G: Signer, I: Source, O: Sink, E: Sink>(
 fn attempt<S: Suite, G: Signer, I: Source, O: Sink>(
     alloc: Global,
     words: &[Text],
-    given: Given<'_>,
+    given: ConversionGiven<'_>,
     suite: &mut S,
     signer: &mut G,
     source: &mut I,
@@ -139,7 +139,7 @@ fn attempt<S: Suite, G: Signer, I: Source, O: Sink>(
 fn carry_out<S: Suite, G: Signer, I: Source, O: Sink>(
     alloc: Global,
     command: Command,
-    given: Given<'_>,
+    given: ConversionGiven<'_>,
     suite: &mut S,
     signer: &mut G,
     source: &mut I,
@@ -184,7 +184,7 @@ fn put<O: Sink>(out: &mut O, text: &str) -> Result<(), Status>
 fn take_text<S: Suite, G: Signer, I: Source>(
     alloc: Global,
     command: Command,
-    given: Given<'_>,
+    given: ConversionGiven<'_>,
     suite: &mut S,
     signer: &mut G,
     source: &mut I,

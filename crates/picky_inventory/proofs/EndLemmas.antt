@@ -18,7 +18,7 @@ use Rattle.picky_inventory.specs.BadLine.{bad_line}
 use Rattle.picky_inventory.specs.Listing.{inventory}
 use Rattle.picky_inventory.specs.Merging.{left_part, right_part, unless_bad}
 use Rattle.picky_inventory.specs.OrderedText.{merged}
-use Rattle.picky_inventory.specs.Run.{Ends, answer, outcome, refusal, source_status, unmerged_status}
+use Rattle.picky_inventory.specs.Run.{Ends, answer, outcome, part_refusal, source_status, unmerged_status}
 use Rattle.picky_inventory.specs.inner.Comes.{Comes}
 use Rattle.picky_inventory.proofs.RunLemmas.{Bad, Cause, Unread, answer_cause, outcome_of, outcome_without}
 
@@ -105,7 +105,7 @@ refused_if : (r : Reader) (command : Command) (input : List ℕ) (n : ℕ) (e : 
     → IsSourceText input → inventory r input ≡ Err (n, e) → outcome r command input ≡ Err (statuses.Refused n e)
 refused_if r command input n e listing text says =
     ap (λ c. outcome r c input) listing
-    ∙ outcome_of r commands.Listing input input (source_text_is input input (text, refl)) ∙ ap (map_err refusal) says
+    ∙ outcome_of r commands.Listing input input (source_text_is input input (text, refl)) ∙ ap (map_err part_refusal) says
 
 pub refused_exactly : (r : Reader) (command : Command) (input : List ℕ) (n : ℕ) (e : ReadError)
     → (outcome r command input ≡ Err (statuses.Refused n e))

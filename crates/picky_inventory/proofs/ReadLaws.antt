@@ -7,9 +7,9 @@ use Rattle.std.specs.Option.{IfSome}
 use Rattle.picky_layout.specs.Outcome.{and_then, map_err, map_ok}
 use Rattle.picky_sshpub.specs.Key.{IsKey}
 use Rattle.picky_sshkey_blob.proofs.KeyLaws.{public_part_is_key}
-use Rattle.picky_issuing.specs.Parts.{cut, issuer_of, key_of}
+use Rattle.picky_issuing.specs.Parts.{cut, issuer_of, key_text_of_cut}
 use Rattle.picky_issuing.proofs.PartsText.{parts_are_text}
-use Rattle.picky_key_text.specs.Kept.{IsKept, IsKeptKey}
+use Rattle.picky_key_text.specs.Kept.{IsKeptMeaning, IsKeptKey}
 use Rattle.picky_key_text.specs.Key.{public_part}
 use Rattle.picky_key_text.specs.Order.{reading}
 use Rattle.picky_key_text.specs.Reader.{Reader}
@@ -25,7 +25,7 @@ use Rattle.picky_inventory.proofs.PartsLaws.{AreParts, parts_by_cut}
 -- ---- the parts of a text are texts
 
 texts_by_cut : (text : List ℕ) (found : Option (List ℕ × List ℕ)) → AreParts text found
-    → IfSome (issuer_of found) IsUtf8 × IsUtf8 (key_of text found)
+    → IfSome (issuer_of found) IsUtf8 × IsUtf8 (key_text_of_cut text found)
     → ((more : List ℕ) → length more < length text → IsUtf8 more → AllByRecursion IsUtf8 (text_parts more))
     → AllByRecursion IsUtf8 (text_parts text)
 texts_by_cut text None are both each = subst (AllByRecursion IsUtf8) (sym are) (both.1, tt)
@@ -47,7 +47,7 @@ kept_key : (key : Key) → IsKeptKey key → IsKey (public_part key)
 kept_key (Private key) kept = public_part_is_key key kept
 kept_key (Public key) kept = kept
 
-pub kept_is_item : (meaning : Meaning) → IsKept meaning → IsItem (item_of meaning)
+pub kept_is_item : (meaning : Meaning) → IsKeptMeaning meaning → IsItem (item_of meaning)
 kept_is_item meaning kept = record { key = kept_key meaning.key kept.key; comment = kept.comment }
 
 item_first : (meaning : Meaning) (rest : Result (List Item) (ℕ × ReadError)) (items : List Item) → IsItem (item_of meaning)

@@ -33,7 +33,7 @@ use Rattle.picky_inventory.specs.Listing.{FaultAt, NoneAsks, inventory}
 use Rattle.picky_inventory.specs.OrderedText.{merged, ordered_text}
 use Rattle.picky_inventory.specs.Parted.{text_parts}
 use Rattle.picky_inventory.specs.Merging.{left_part, right_part, unless_bad}
-use Rattle.picky_inventory.specs.Run.{IsFaultOf, SparesSuite, answer, extent_of, outcome, refusal, source_status, unmerged_status}
+use Rattle.picky_inventory.specs.Run.{IsFaultOf, SparesSuite, answer, extent_of, outcome, part_refusal, source_status, unmerged_status}
 use Rattle.picky_inventory.specs.inner.Comes.{Comes, Gives, extent_for, unread_status}
 use Rattle.picky_inventory.proofs.ListingLaws.{none_asks}
 
@@ -113,7 +113,7 @@ listed_gives r text rose n e status is (inr (inl fault)) =
     inr (inl (is ∙ fault_status n e (subst IsFault (sym fault.fault) (fault_is fault.part)), (n, e, fault)))
 listed_gives r text rose n e status is (inr (inr failed)) =
     let own = inventory_own r text n e failed in
-    inr (inr (ap (map_err refusal) failed ∙ ap Err (sym (is ∙ own_status n e own.0 own.1))))
+    inr (inr (ap (map_err part_refusal) failed ∙ ap Err (sym (is ∙ own_status n e own.0 own.1))))
 
 -- ---- the status of a text
 
@@ -125,7 +125,7 @@ pub data Cause (r : Reader) (command : Command) (text : List ℕ) (status : Inve
       → Cause r command text status
 
 unread_cause : (r : Reader) (text : List ℕ) (status : InventoryStatus) (says : Result (List ℕ) (ℕ × ReadError))
-    → inventory r text ≡ says → map_err refusal says ≡ Err status → Cause r commands.Listing text status
+    → inventory r text ≡ says → map_err part_refusal says ≡ Err status → Cause r commands.Listing text status
 unread_cause r text status (Ok written) says is = cc is
 unread_cause r text status (Err (n, e)) says is = Unread n e refl says (cc is)
 

@@ -7,7 +7,7 @@ use Rattle.std.specs.Option.{IfSome}
 use Rattle.std.specs.Str.{IsUtf8}
 use Rattle.picky_layout.specs.Outcome.{and_then, map_err, map_ok}
 use Rattle.picky_text.proofs.ListLaws.{all_weaker}
-use Rattle.picky_issuing.specs.Parts.{cut, cut_lines, after_line, is_mark, issuer_of, key_of, lines_with_ends, mark_lf}
+use Rattle.picky_issuing.specs.Parts.{cut, cut_lines, after_line, is_mark, issuer_of, key_text_of_cut, lines_with_ends, mark_lf}
 use Rattle.picky_issuing.proofs.PartsLemmas.{lines_at_lf, lines_joined}
 use Rattle.picky_input.specs.SourceText.{text_of}
 use Rattle.picky_input.specs.declared.source_text.SourceError.{SourceError}
@@ -24,7 +24,7 @@ use Rattle.picky_inventory.specs.Listing.{inventory, inventory_of}
 use Rattle.picky_inventory.specs.Merging.{left_part, merged_or_bad, merging, or_empty, right_part, unless_bad}
 use Rattle.picky_inventory.specs.OrderedText.{IsWholeLine, merged, ordered_text}
 use Rattle.picky_inventory.specs.Parted.{text_parts}
-use Rattle.picky_inventory.specs.Run.{IsOfLists, WritesSet, answer, outcome, refusal, source_status, unmerged_status}
+use Rattle.picky_inventory.specs.Run.{IsOfLists, WritesSet, answer, outcome, part_refusal, source_status, unmerged_status}
 use Rattle.picky_inventory.proofs.BadLineLaws.{inventory_is_whole, no_bad_line}
 use Rattle.picky_inventory.proofs.ItemLaws.{inventory_of_its_set}
 use Rattle.picky_inventory.proofs.MergingLaws.{inventories_merged}
@@ -68,7 +68,7 @@ pub left_is_cut : (left right : List ℕ) → IsInventory left → left_part (le
 left_is_cut left right is = ap (λ c. or_empty (issuer_of c)) (inventory_is_cut left right is)
 
 pub right_is_cut : (left right : List ℕ) → IsInventory left → right_part (left ++ mark_lf ++ right) ≡ right
-right_is_cut left right is = ap (key_of (left ++ mark_lf ++ right)) (inventory_is_cut left right is)
+right_is_cut left right is = ap (key_text_of_cut (left ++ mark_lf ++ right)) (inventory_is_cut left right is)
 
 -- an inventory with itself
 itself_merged : (text : List ℕ) → IsInventory text → merged_or_bad text text ≡ Ok text
@@ -178,7 +178,7 @@ lists_to : (m : Reader) (input text : List ℕ) → outcome m commands.Listing i
 unfolding outcome
 lists_to m input text = go (text_of input) refl
   where
-    of_status : (says : Result (List ℕ) (ℕ × ReadError)) → map_err refusal says ≡ Ok text → says ≡ Ok text
+    of_status : (says : Result (List ℕ) (ℕ × ReadError)) → map_err part_refusal says ≡ Ok text → says ≡ Ok text
     of_status (Ok written) is = let same : written ≡ text = cc is in ap Ok same
     of_status (Err e) is = cc is
 

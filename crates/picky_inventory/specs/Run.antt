@@ -41,8 +41,8 @@ reader m pass = record { meanings = m; pass = option_copied pass }
 -- ---- what a text comes to
 
 -- the number of the first part that isn't read, and why
-abbrev pub refusal : ℕ × ReadError → InventoryStatus
-refusal unread = statuses.Refused unread.0 unread.1
+abbrev pub part_refusal : ℕ × ReadError → InventoryStatus
+part_refusal unread = statuses.Refused unread.0 unread.1
 
 -- why two inventories aren't merged
 abbrev pub unmerged_status : Unmerged → InventoryStatus
@@ -51,7 +51,7 @@ unmerged_status merges.NoMemory = statuses.NoMemory
 
 -- what the command writes for a text, or the status that says why it writes nothing
 abbrev pub answer : Reader → Command → (text : List ℕ) → Result (List ℕ) InventoryStatus
-answer r commands.Listing text = map_err refusal (inventory r text)
+answer r commands.Listing text = map_err part_refusal (inventory r text)
 answer r commands.Merging text = map_err unmerged_status (merging text)
 
 -- ---- what the bytes of a source come to

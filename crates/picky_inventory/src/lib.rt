@@ -24,5 +24,5 @@ pub use listing::{Unread, list_lines, list_text};
 pub use merging::{Unmerged, merge, merge_texts};
 pub use parted::parts;
 pub use run::run_inventory;
-pub use sorted::{joined, sorted_lines};
+pub use sorted::{joined_lines, sorted_lines};
 pub use status::InventoryStatus;

@@ -13,7 +13,7 @@ ghost use Rattle.picky_inventory.specs.Parted.{text_parts};
 
 use crate::lines::{is_blank, line_of};
 use crate::parted::parts;
-use crate::sorted::{joined, sorted_lines};
+use crate::sorted::{joined_lines, sorted_lines};
 use picky_key_text::{ReadError, read_text};
 use picky_suite::Suite;
 use picky_wire::NoMemory;
@@ -45,7 +45,7 @@ pub fn list_text<S: Suite>(
         Ok(found) => match list_lines(alloc, suite, found.as_slice(), pass) {
             Ok(lines) => {
                 let lines = sorted_lines(lines);
-                match joined(alloc, lines.as_slice()) {
+                match joined_lines(alloc, lines.as_slice()) {
                     Ok(written) => Ok(written),
                     Err(NoMemory) => Err(no_memory()),
                 }

@@ -9,7 +9,7 @@ ghost use Rattle.picky_inventory.specs.OrderedText.{merged};
 
 use crate::bad_lines::bad_line;
 use crate::ended::ended_lines;
-use crate::sorted::{joined, sorted_lines};
+use crate::sorted::{joined_lines, sorted_lines};
 use picky_issuing::parts_of;
 use picky_wire::NoMemory;
 use std::alloc::Global;
@@ -61,7 +61,7 @@ pub fn merge_texts(alloc: Global, left: &str, right: &str) -> Result<Vec<u8>, No
     add_lines(alloc, &mut lines, left)?;
     add_lines(alloc, &mut lines, right)?;
     let lines = sorted_lines(lines);
-    match joined(alloc, lines.as_slice()) {
+    match joined_lines(alloc, lines.as_slice()) {
         Ok(text) => Ok(text),
         Err(NoMemory) => Err(NoMemory),
     }

@@ -16,7 +16,7 @@ pub fn sorted_lines(mut lines: Vec<Vec<u8>>) -> Vec<Vec<u8>>
 }
 
 /// The lines as one text. Refuses: `NoMemory`.
-pub fn joined(alloc: Global, lines: &[Vec<u8>]) -> Result<Vec<u8>, NoMemory>
+pub fn joined_lines(alloc: Global, lines: &[Vec<u8>]) -> Result<Vec<u8>, NoMemory>
     ensures { IfOk result (λ text. text.items ≡ flat_map (λ line. line.items) lines.now) }
 {
     let mut text = Vec::new(alloc);

@@ -3,7 +3,7 @@
 use crate::row_texts::{LINE, PUBLIC_K, row_text};
 use crate::runs::texts_of;
 use picky_inventory::{
-    Command, bad_line, command_of, ended_lines, is_blank, joined, line_of, list_lines, list_text,
+    Command, bad_line, command_of, ended_lines, is_blank, joined_lines, line_of, list_lines, list_text,
     merge_texts, parts, sorted_lines,
 };
 use picky_key_rows::ZERO_KEY;
@@ -146,7 +146,7 @@ fn is_sorted(alloc: Global, lines: &[&str], wanted: &[&str]) -> Result<bool, Fai
 
 fn is_joined(alloc: Global, lines: &[&str], wanted: &str) -> Result<bool, Fail> {
     let copies = ManuallyDrop::new(copies_of(alloc, lines)?);
-    let text = ManuallyDrop::new(joined(alloc, copies.as_slice())?);
+    let text = ManuallyDrop::new(joined_lines(alloc, copies.as_slice())?);
     Ok(text.as_slice() == wanted.as_bytes())
 }
 

@@ -28,13 +28,13 @@ abbrev pub if_short : List ℕ → Option (List ℕ)
 if_short bytes = if nat_lt (length bytes) (2 ^ 32) then Some bytes else None
 
 -- the critical option with the name, and with the payload, where it is short enough
-abbrev pub critical_option_asked : List ℕ → Option SshCriticalOption
-critical_option_asked value =
+abbrev pub requested_critical_option : List ℕ → Option SshCriticalOption
+requested_critical_option value =
     some_then (find_entry option_types (name_in value)) (λ t.
     some_then (if_short (payload_in value)) (λ payload. Some (option_made t payload)))
 
 -- the same of an extension, known or not, whose name may be any but the empty one
-abbrev pub extension_asked : List ℕ → Option SshExtension
-extension_asked value =
+abbrev pub requested_extension : List ℕ → Option SshExtension
+requested_extension value =
     if length (name_in value) == 0 then None
     else some_then (if_short (payload_in value)) (λ payload. Some (extension_made (extension_named (name_in value)) payload))

@@ -10,7 +10,7 @@ use Rattle.picky_issuing.specs.declared.options.CertOptions.{CertOptions}
 use Rattle.picky_issuing.specs.Steps.{some_then}
 use Rattle.picky_issuing.specs.OptionWord.{option_of_word}
 use Rattle.picky_issuing.specs.Value.{algorithm_named, cert_type_named, number_named}
-use Rattle.picky_issuing.specs.NamedPayload.{critical_option_asked, extension_asked}
+use Rattle.picky_issuing.specs.NamedPayload.{requested_critical_option, requested_extension}
 
 -- nothing is asked for
 abbrev pub no_options : CertOptions
@@ -55,9 +55,9 @@ with_option words.KeyId value o =
 with_option words.Principal value o =
     Some (record o { principals = o.principals ++ value ∷ [] })
 with_option words.CriticalOption value o =
-    option_map (λ c. record o { critical_options = o.critical_options ++ c ∷ [] }) (critical_option_asked value)
+    option_map (λ c. record o { critical_options = o.critical_options ++ c ∷ [] }) (requested_critical_option value)
 with_option words.Extension value o =
-    option_map (λ x. record o { extensions = o.extensions ++ x ∷ [] }) (extension_asked value)
+    option_map (λ x. record o { extensions = o.extensions ++ x ∷ [] }) (requested_extension value)
 
 -- what is asked for with all of the words: each option and its value, whatever that begins with, and no word beside them
 unfoldable pub with_options : List (List ℕ) → CertOptions → Option CertOptions

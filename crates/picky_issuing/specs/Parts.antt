@@ -47,9 +47,9 @@ issuer_of None = None
 issuer_of (Some parts) = Some parts.0
 
 -- the key text of a cut, and the whole text where there is none
-abbrev pub key_of : List ℕ → Option (List ℕ × List ℕ) → List ℕ
-key_of text None = text
-key_of text (Some parts) = parts.1
+abbrev pub key_text_of_cut : List ℕ → Option (List ℕ × List ℕ) → List ℕ
+key_text_of_cut text None = text
+key_text_of_cut text (Some parts) = parts.1
 
 -- the issuer's text of a source: none where no line is the mark's
 abbrev pub issuer_part : List ℕ → Option (List ℕ)
@@ -57,7 +57,7 @@ issuer_part text = issuer_of (cut text)
 
 -- its key text: all of it where no line is the mark's
 abbrev pub key_part : List ℕ → List ℕ
-key_part text = key_of text (cut text)
+key_part text = key_text_of_cut text (cut text)
 
 -- no line of a text is exactly `%%`
 abbrev pub HasNoMark : List ℕ → Type 0

@@ -3,7 +3,7 @@
 ghost use Rattle.std.specs.Prelude.{◌≡◌, IfOk};
 ghost use Rattle.picky_layout.specs.Wire.{string_of};
 ghost use Rattle.picky_cert_names.specs.ExtensionType.{extension_named};
-ghost use Rattle.picky_issuing.specs.NamedPayload.{critical_option_asked, extension_asked, if_short, name_in, payload_in};
+ghost use Rattle.picky_issuing.specs.NamedPayload.{requested_critical_option, requested_extension, if_short, name_in, payload_in};
 
 use picky_cert_names::{SshCriticalOptionType, SshExtensionType};
 use picky_cert_parts::{SshCriticalOption, SshExtension};
@@ -12,7 +12,7 @@ use std::alloc::Global;
 
 /// The critical option that a value asks for, where it names one and its payload is short enough. Refuses: `NoMemory`.
 pub fn critical_option_of(alloc: Global, value: &str) -> Result<Option<SshCriticalOption>, NoMemory>
-    ensures { IfOk result (λ option. option ≡ critical_option_asked value.now) }
+    ensures { IfOk result (λ option. option ≡ requested_critical_option value.now) }
 {
     match SshCriticalOptionType::of_name(name_of(value)) {
         Some(option_type) => match payload_of(alloc, value)? {
@@ -28,7 +28,7 @@ pub fn critical_option_of(alloc: Global, value: &str) -> Result<Option<SshCritic
 
 /// The extension that a value asks for, where its name isn't empty and its payload is short enough. Refuses: `NoMemory`.
 pub fn extension_of(alloc: Global, value: &str) -> Result<Option<SshExtension>, NoMemory>
-    ensures { IfOk result (λ extension. extension ≡ extension_asked value.now) }
+    ensures { IfOk result (λ extension. extension ≡ requested_extension value.now) }
 {
     let name = name_of(value);
     if name.is_empty() {

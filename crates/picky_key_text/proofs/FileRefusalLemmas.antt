@@ -8,7 +8,7 @@ use Rattle.picky_suite.specs.Meanings.{Meanings}
 use Rattle.picky_sshpub.specs.declared.error.SshPublicKeyError.{SshPublicKeyError}
 use Rattle.picky_sshpub.specs.declared.error.SshPublicKeyError.TheVariants as public
 use Rattle.picky_sshkey.proofs.RefusalLaws.{Refuses, err_as, if_as, ok_as, then_as}
-use Rattle.picky_kv_words.specs.Field.{Field, field_value, judged, refusal}
+use Rattle.picky_kv_words.specs.Field.{Field, field_value, judged_value, value_refusal}
 use Rattle.picky_kv_words.specs.declared.error.PpkValueError.{PpkValueError}
 use Rattle.picky_kv_words.specs.declared.error.PpkValueError.TheVariants as value
 use Rattle.picky_kv_words.specs.declared.choices.PpkVersionKey.{PpkVersionKey}
@@ -71,11 +71,11 @@ either P false x y first second = second
 -- ---- the lines of a file
 
 judged_own : {A : Type 0} (is_big : A → Bool) (expected text : List ℕ) (o : Option A)
-    → Refuses IsOwnValue (judged is_big expected text o)
+    → Refuses IsOwnValue (judged_value is_big expected text o)
 judged_own is_big expected text (Some v) =
     if_as IsOwnValue (is_big v) (Err value.TooLong) (Ok v) (err_as IsOwnValue value.TooLong tt) (ok_as IsOwnValue v)
 judged_own is_big expected text None =
-    err_as IsOwnValue (refusal expected text)
+    err_as IsOwnValue (value_refusal expected text)
     (either IsOwnValue (nat_lt (length text) (2 ^ 32)) (value.Parsing (record { expected = expected; actual = text }))
     value.TooLong tt tt)
 

@@ -37,7 +37,8 @@ use Rattle.picky_sshkey.proofs.ReadLaws.{text_is_kept}
 use Rattle.picky_ppk_parts.specs.Algorithm.{ssh_key_of}
 use Rattle.picky_ppk_parts.specs.Material.{counted_digest, cipher_key_v2, derived_v3, flavour_named}
 use Rattle.picky_ppk_parts.specs.Parts.{StandsForKey}
-use Rattle.picky_ppk_parts.specs.Secret.{RsaSecret, rsa_key, rsa_secret, ed_secret, rsa_fields, ec_fields, ed_fields, fields_of}
+use Rattle.picky_ppk_parts.specs.Secret.{RsaSecret, rsa_key, rsa_secret, ed_secret}
+use Rattle.picky_ppk_parts.specs.Secret.{rsa_fields, ec_fields, ed_fields, ppk_secret_fields}
 use Rattle.picky_putty_public.specs.PuttyPublic.{IsPuttyPublic, SaysPuttyPublic, comment_start}
 use Rattle.picky_ppk_file.specs.declared.file.PpkFile.{PpkFile}
 use Rattle.picky_ppk_file.specs.declared.file.PpkSealing.{PpkSealing}
@@ -53,7 +54,7 @@ use Rattle.picky_key_text.specs.declared.form.Form.TheVariants as forms
 use Rattle.picky_key_text.specs.declared.meaning.Meaning.{Meaning}
 use Rattle.picky_key_text.specs.Form.{form_of}
 use Rattle.picky_key_text.specs.Key.{certificate_meaning, public_key, public_meaning, private_meaning}
-use Rattle.picky_key_text.specs.Kept.{IsKept}
+use Rattle.picky_key_text.specs.Kept.{IsKeptMeaning}
 use Rattle.picky_key_text.specs.Order.{reading}
 use Rattle.picky_key_text.specs.PpkText.{IsUnsealed, AreOpened, IsPpkText}
 use Rattle.picky_key_text.specs.Reader.{Reader}
@@ -96,7 +97,7 @@ ed_keeps secret bytes each (a, spells, (len, same)) =
     record { bytes = zeros_changed a secret (string_keeps a bytes each spells).bytes same; len = len }
 
 fields_keep : (public : PublicKey) (key : SshBasePrivateKey) (bytes : List ℕ) → IsBytes bytes → IsKey (ssh_key_of public)
-    → (fields_of public).piece key bytes → IsPrivateKey key
+    → (ppk_secret_fields public).piece key bytes → IsPrivateKey key
 unfolding rsa_fields ec_fields ed_fields
 fields_keep (plain.Rsa e n) key bytes each is (secret, x, y, spells, (same, none), joined) =
     subst IsPrivateKey (sym same) (rsa_keeps e n secret x (bytes_in_front x y (subst IsBytes joined each)) is spells)
@@ -209,24 +210,25 @@ given_is_text None utf8 short = tt
 given_is_text (Some pass) utf8 short = text_of pass utf8 short
 
 envelope_kept : (r : Reader) (text : List ℕ) (key : SshPrivateKey) → IsUtf8 text → IfSome r.pass IsUtf8
-    → IsPrivateText r.meanings r.pass text key → IsKept (private_meaning key.base_key key.comment)
+    → IsPrivateText r.meanings r.pass text key → IsKeptMeaning (private_meaning key.base_key key.comment)
 envelope_kept r text key utf8 pass says =
     let given = given_is_text r.pass pass says.short in
     let kept = text_is_kept r.meanings r.pass text key (utf8_is_bytes text utf8) given (text_means r.meanings r.pass text key says) in
     record { key = kept.base_key; comment = kept.comment }
 
 ppk_kept : (r : Reader) (text : List ℕ) (meaning : Meaning) → IsUtf8 text → IfSome r.pass IsUtf8 → IsPpkText r text meaning
-    → IsKept meaning
+    → IsKeptMeaning meaning
 ppk_kept r text meaning utf8 pass says =
     let f = says.file in
     let is = fields_in_ranges text f (utf8_is_bytes text utf8) (said_is_meant text f says.says) in
     let private = opened_is_bytes r f says.private is pass says.opened in
-    subst IsKept (sym says.is) (record {
+    subst IsKeptMeaning (sym says.is) (record {
       key = standing_is_key f says.private says.key is.public_key.1 private says.stands;
       comment = text_of f.comment (file_comment text f utf8 says.says) is.comment;
     })
 
-putty_public_kept : (text : List ℕ) (key : SshPublicKey) → IsUtf8 text → IsPuttyPublic text key → IsKept (public_meaning key)
+putty_public_kept : (text : List ℕ) (key : SshPublicKey) → IsUtf8 text → IsPuttyPublic text key
+    → IsKeptMeaning (public_meaning key)
 putty_public_kept text key utf8 says =
     let front = bytes_in_front says.fits.0 says.rest (subst IsBytes says.fits.2 says.says.bytes) in
     record {
@@ -234,7 +236,7 @@ putty_public_kept text key utf8 says =
       comment = text_of key.comment (public_comment text says.blob key.comment utf8 says.says) says.says.comment_short;
     }
 
-line_kept : (text : List ℕ) (key : SshPublicKey) → IsPublicLine text key → IsKept (public_meaning key)
+line_kept : (text : List ℕ) (key : SshPublicKey) → IsPublicLine text key → IsKeptMeaning (public_meaning key)
 line_kept text key says =
     let front = bytes_in_front says.fits.0 says.rest (subst IsBytes says.fits.2 says.are_bytes) in
     record {
@@ -243,22 +245,22 @@ line_kept text key says =
           (text_of _ (rest_of_line_is_text (after_body text) says.comment_utf8) says.comment_short);
     }
 
-certificate_kept : (text : List ℕ) (c : SshCertificate) → IsCertificateLine text c → IsKept (certificate_meaning c)
+certificate_kept : (text : List ℕ) (c : SshCertificate) → IsCertificateLine text c → IsKeptMeaning (certificate_meaning c)
 certificate_kept text c says =
     let kept = certificate_keeps text c says in
     record { key = kept.said.head.key; comment = kept.comment }
 
 said_is_kept : (form : Form) (r : Reader) (text : List ℕ) (meaning : Meaning) → IsUtf8 text → IfSome r.pass IsUtf8
-    → Means form r text meaning → IsKept meaning
+    → Means form r text meaning → IsKeptMeaning meaning
 said_is_kept forms.Envelope r text meaning utf8 pass (key, says, same) =
-    subst IsKept (sym same) (envelope_kept r text key utf8 pass says)
+    subst IsKeptMeaning (sym same) (envelope_kept r text key utf8 pass says)
 said_is_kept forms.Ppk r text meaning utf8 pass says = ppk_kept r text meaning utf8 pass says
 said_is_kept forms.PuttyPublic r text meaning utf8 pass (says, same) =
-    subst IsKept (sym same) (putty_public_kept text (public_key meaning) utf8 says)
+    subst IsKeptMeaning (sym same) (putty_public_kept text (public_key meaning) utf8 says)
 said_is_kept forms.Certificate r text meaning utf8 pass (c, says, same) =
-    subst IsKept (sym same) (certificate_kept text c says)
+    subst IsKeptMeaning (sym same) (certificate_kept text c says)
 said_is_kept forms.PublicLine r text meaning utf8 pass (says, same) =
-    subst IsKept (sym same) (line_kept text (public_key meaning) says)
+    subst IsKeptMeaning (sym same) (line_kept text (public_key meaning) says)
 
 pass_is_bytes : (pass : Option (List ℕ)) → IfSome pass IsUtf8 → IfSome pass IsBytes
 pass_is_bytes None utf8 = tt
@@ -266,7 +268,7 @@ pass_is_bytes (Some pass) utf8 = utf8_is_bytes pass utf8
 
 -- A meaning that is read keeps its ranges.
 pub meaning_is_kept : (r : Reader) (text : List ℕ) (meaning : Meaning) → IsUtf8 text → IfSome r.pass IsUtf8
-    → reading r text ≡ Ok meaning → IsKept meaning
+    → reading r text ≡ Ok meaning → IsKeptMeaning meaning
 meaning_is_kept r text meaning utf8 pass is =
     said_is_kept (form_of text) r text meaning utf8 pass
     (reading_says r text meaning utf8 (pass_is_bytes r.pass pass) is)

@@ -11,6 +11,6 @@ IsKeptKey (Private key) = IsPrivateKey key
 IsKeptKey (Public key) = IsKey key
 
 -- and the comment is a text that a length of the wire can say
-pub record IsKept (meaning : Meaning) : Type 0 where
+pub record IsKeptMeaning (meaning : Meaning) : Type 0 where
   pub key : IsKeptKey meaning.key
   pub comment : IsText meaning.comment

@@ -7,7 +7,7 @@ ghost use Rattle.picky_layout.specs.Numbers.{IsBytes};
 ghost use Rattle.picky_wire.specs.Equality.{IsEquality};
 ghost use Rattle.picky_key_text.specs.declared.error.ReadError.{ReadError as Refused};
 ghost use Rattle.picky_key_text.specs.declared.meaning.Meaning.{Meaning as Meant};
-ghost use Rattle.picky_key_text.specs.Kept.{IsKept};
+ghost use Rattle.picky_key_text.specs.Kept.{IsKeptMeaning};
 ghost use Rattle.picky_key_text.specs.Order.{reading};
 ghost use Rattle.picky_key_text.specs.Reader.{Reader};
 ghost use Rattle.picky_key_text.specs.Reads.{Reads};
@@ -26,7 +26,7 @@ pub fn text_has_one_meaning()
 
 /// A meaning that is read keeps the ranges of a key and a comment; so it can be written and read back.
 pub fn meaning_keeps_its_ranges()
-    ensures { (r : Reader) (t : List ℕ) (m : Meant) → IsUtf8 t → IfSome r.pass IsUtf8 → reading r t ≡ Ok m → IsKept m }
+    ensures { (r : Reader) (t : List ℕ) (m : Meant) → IsUtf8 t → IfSome r.pass IsUtf8 → reading r t ≡ Ok m → IsKeptMeaning m }
 {}
 
 /// The order of refusals answers no fault of the suite, and at no depth want of memory: these are answers of the calls alone.

@@ -52,7 +52,7 @@ fn key_of_file<S: Suite>(
 {
     match opened(alloc, suite, ppk, pass) {
         Ok(ppk) => {
-            let meaning = key_of(alloc, &ppk);
+            let meaning = meaning_of_opened_file(alloc, &ppk);
             drop(ppk);
             meaning
         }
@@ -91,7 +91,7 @@ fn opened<S: Suite>(
 
 /// The key of a file that isn't sealed, and the comment.
 #[tactic(auto, using(crate::proofs::RefusalLaws::no_fault))]
-fn key_of(alloc: Global, ppk: &Ppk) -> Result<Meaning, PuttyError>
+fn meaning_of_opened_file(alloc: Global, ppk: &Ppk) -> Result<Meaning, PuttyError>
     ensures gives { Gives PuttyError.NoMemory (λ meaning. meaning) result (file_key ppk.now) }
     ensures no_fault { result ≢ Err PuttyError.SuiteFault }
 {

@@ -6,7 +6,7 @@ use Rattle.std.proofs.lemmas.Bool.{cases_Bool}
 use Rattle.std.proofs.lemmas.Bool.Decides.{nat_tests}
 use Rattle.picky_layout.specs.Numbers.{IsBytes}
 use Rattle.picky_text.specs.Base64.{base64_of}
-use Rattle.picky_kv_words.specs.Field.{Field, field_value, judged}
+use Rattle.picky_kv_words.specs.Field.{Field, field_value, judged_value}
 use Rattle.picky_kv_values.specs.Values.{is_long}
 use Rattle.picky_kv_values.specs.carried.Values.{short_is_not_long}
 use Rattle.picky_kv_values.specs.Blocks.{IsOfBlocks, IsBlockText}
@@ -20,7 +20,7 @@ block_gives field made text v of_blocks is =
     ap field.meaning is.text_is ∙ of_blocks.block is.bytes is.small in
     let small : field.is_big (made is.bytes) ≡ false =
     of_blocks.sized is.bytes ∙ short_is_not_long is.bytes is.short in
-    ap (judged field.is_big field.expected text) reads ∙ rw small (ap Ok (sym is.value_is))
+    ap (judged_value field.is_big field.expected text) reads ∙ rw small (ap Ok (sym is.value_is))
 
 -- a value that is read, by what its text means
 record IsRead {A : Type 0} (field : Field A) (text : List ℕ) (v : A) : Type 0 where
@@ -28,7 +28,7 @@ record IsRead {A : Type 0} (field : Field A) (text : List ℕ) (v : A) : Type 0 
   few : field.is_big v ≡ false
 
 read_by : {A : Type 0} (field : Field A) (text : List ℕ) (meaning : Option A) (v : A)
-    → field.meaning text ≡ meaning → judged field.is_big field.expected text meaning ≡ Ok v
+    → field.meaning text ≡ meaning → judged_value field.is_big field.expected text meaning ≡ Ok v
     → IsRead field text v
 read_by field text None v means is = cc is
 read_by field text (Some w) v means is = elim (cases_Bool (field.is_big w)) [

@@ -40,7 +40,7 @@ impl PpkField for PpkArgon2MemoryValue {
 
     #[tactic(auto, unfolding(crate::specs::NumberFields::u32_field))]
     fn write(&self, alloc: Global) -> Result<Text, SizeError> {
-        write_u32(alloc, self.number)
+        u32_text(alloc, self.number)
     }
 }
 
@@ -97,7 +97,7 @@ impl PpkField for PpkArgon2PassesValue {
 
     #[tactic(auto, unfolding(crate::specs::NumberFields::u32_field))]
     fn write(&self, alloc: Global) -> Result<Text, SizeError> {
-        write_u32(alloc, self.number)
+        u32_text(alloc, self.number)
     }
 }
 
@@ -154,7 +154,7 @@ impl PpkField for PpkArgon2ParallelismValue {
 
     #[tactic(auto, unfolding(crate::specs::NumberFields::u32_field))]
     fn write(&self, alloc: Global) -> Result<Text, SizeError> {
-        write_u32(alloc, self.number)
+        u32_text(alloc, self.number)
     }
 }
 
@@ -238,7 +238,7 @@ fn read_u32(alloc: Global, text: &str) -> Result<u32, PpkValueError>
 }
 
 #[tactic(auto, unfolding(crate::specs::NumberFields::u32_field))]
-fn write_u32(alloc: Global, number: u32) -> Result<Text, SizeError>
+fn u32_text(alloc: Global, number: u32) -> Result<Text, SizeError>
     ensures { IsSpelling result (u32_field.spelling number) }
 {
     match format!(in alloc; "{number}") {

@@ -35,19 +35,19 @@ pub record IsOfRow {A : Type 0} (field : Field A) (row : FieldRow A) : Type 0 wh
   pub expects : field.expected ≡ row.expected
 
 -- a text that stands for no value is refused with itself, where it is short enough for a refusal
-abbrev pub refusal : List ℕ → List ℕ → PpkValueError
-refusal expected text =
+abbrev pub value_refusal : List ℕ → List ℕ → PpkValueError
+value_refusal expected text =
     if nat_lt (length text) (2 ^ 32) then Parsing (record { expected = expected; actual = text })
     else TooLong
 
 -- the answer for a text with this meaning
-abbrev pub judged : {A : Type 0} → (A → Bool) → List ℕ → List ℕ → Option A → Result A PpkValueError
-judged is_big expected text (Some v) = if is_big v then Err TooLong else Ok v
-judged is_big expected text None = Err (refusal expected text)
+abbrev pub judged_value : {A : Type 0} → (A → Bool) → List ℕ → List ℕ → Option A → Result A PpkValueError
+judged_value is_big expected text (Some v) = if is_big v then Err TooLong else Ok v
+judged_value is_big expected text None = Err (value_refusal expected text)
 
 -- the answer for a text
 abbrev pub field_value : {A : Type 0} → Field A → List ℕ → Result A PpkValueError
-field_value field text = judged field.is_big field.expected text (field.meaning text)
+field_value field text = judged_value field.is_big field.expected text (field.meaning text)
 
 -- the text is what was asked for, which is too long exactly where it has 2^32 bytes or more
 abbrev pub IsSpelling : Result (List ℕ) SizeError → List ℕ → Type 0

@@ -2,7 +2,7 @@
 
 ghost use Rattle.std.specs.Prelude.{◌≡◌, ◌⊎◌, ◌^◌, ◌<◌, ℕ, List, length};
 ghost use Rattle.picky_wire.specs.Gives.{Gives};
-ghost use Rattle.picky_kv_words.specs.Field.{Field, field_value, refusal, IsSpelling};
+ghost use Rattle.picky_kv_words.specs.Field.{Field, field_value, value_refusal, IsSpelling};
 
 use crate::error::{PpkValueError, PpkValueParsingError};
 use picky_wire::{SizeError, Text};
@@ -54,7 +54,7 @@ pub trait PpkSingle: PpkLiteral + Sized {
 /// The refusal of a text that stands for no value.
 pub fn refused(alloc: Global, expected: &str, text: &str) -> PpkValueError
     requires { length expected.now < 2 ^ 32 }
-    ensures { (result ≡ PpkValueError.NoMemory) ⊎ (result ≡ refusal expected.now text.now) }
+    ensures { (result ≡ PpkValueError.NoMemory) ⊎ (result ≡ value_refusal expected.now text.now) }
 {
     match Text::new(alloc, text) {
         Ok(actual) => match Text::new(alloc, expected) {

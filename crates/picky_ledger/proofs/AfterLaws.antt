@@ -8,7 +8,7 @@ use Rattle.picky_sshpub.specs.declared.key.SshBasePublicKey.{SshBasePublicKey}
 use Rattle.picky_suite.specs.Signs.{Relation}
 use Rattle.picky_cert_builder.specs.Draft.{requested}
 use Rattle.picky_request.specs.Builder.{asked_of}
-use Rattle.picky_ledger.specs.Apply.{Applies, Asked, added, judged}
+use Rattle.picky_ledger.specs.Apply.{Applies, Asked, added, judged_request_line}
 use Rattle.picky_ledger.specs.declared.entry.Entry.{Entry}
 use Rattle.picky_ledger.specs.declared.reply.Reply.{Reply}
 use Rattle.picky_ledger.specs.declared.reply.Reply.TheVariants as replies
@@ -41,7 +41,8 @@ room_for : (l : State) → IsLedger l → l.next ≢ 2 ^ 64 - 1 → l.next + 1 <
 room_for l is apart = let fits = is.fits in omega (arith, fits, apart)
 
 issues : (signs : Relation) (issuer : SshBasePublicKey) (old new : State) (fresh line : List ℕ) (reply : Reply) (a : Asked)
-    → judged (terms issuer fresh) old line ≡ Ok a → Applies signs old line (Ok a) ⊥ (Ok reply) new
+    → judged_request_line (terms issuer fresh) old line ≡ Ok a
+    → Applies signs old line (Ok a) ⊥ (Ok reply) new
     → Issues signs issuer old line new reply
 issues signs issuer old new fresh line reply a says (c, signed, is_entry, answered, after) =
     let t = terms issuer fresh in
@@ -70,7 +71,8 @@ issues signs issuer old new fresh line reply a says (c, signed, is_entry, answer
     }
 
 by_says : (signs : Relation) (issuer : SshBasePublicKey) (old new : State) (fresh line : List ℕ) (reply : Reply) (says : Result Asked Reply)
-    → judged (terms issuer fresh) old line ≡ says → Applies signs old line says ⊥ (Ok reply) new
+    → judged_request_line (terms issuer fresh) old line ≡ says
+    → Applies signs old line says ⊥ (Ok reply) new
     → Issues signs issuer old line new reply ⊎ Stays old new reply
 by_says signs issuer old new fresh line reply (Ok a) is applies = inl (issues signs issuer old new fresh line reply a is applies)
 by_says signs issuer old new fresh line reply (Err says) is applies =
@@ -84,7 +86,8 @@ step_is : (signs : Relation) (issuer : SshBasePublicKey) (old new : State) (fres
     → Step signs issuer old fresh line new reply → Issues signs issuer old line new reply ⊎ Stays old new reply
 unfolding Step
 step_is signs issuer old new fresh line reply step =
-    by_says signs issuer old new fresh line reply (judged (terms issuer fresh) old line) refl step
+    by_says signs issuer old new fresh line reply
+    (judged_request_line (terms issuer fresh) old line) refl step
 
 -- a kept line has its serial
 kept_step : (signs : Relation) (issuer : SshBasePublicKey) (old new : State) (fresh line : List ℕ) (reply : Reply) (e : Entry)
@@ -95,7 +98,8 @@ kept_step signs issuer old new fresh line reply e is among step same =
     let t = terms issuer fresh in
     let parts = parted old.entries e among in
     let again = kept_is_again t old parts.0 parts.1 e is parts.2 in
-    let says : judged t old line ≡ Err (replies.Again e.serial) = ap (judged t old) same ∙ again in
+    let says : judged_request_line t old line ≡ Err (replies.Again e.serial) =
+    ap (judged_request_line t old) same ∙ again in
     (subst (λ (s : Result Asked Reply). Applies signs old line s ⊥ (Ok reply) new) says step).0
 
 -- ---- more lines

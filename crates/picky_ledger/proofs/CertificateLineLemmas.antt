@@ -19,7 +19,7 @@ use Rattle.picky_cert_names.specs.Names.{cert_key_type_name}
 use Rattle.picky_cert_parts.specs.Signature.{blob_fits}
 use Rattle.picky_cert_blob.specs.Subject.{fits_subject}
 use Rattle.picky_cert.specs.declared.certificate.SshCertificate.{SshCertificate}
-use Rattle.picky_cert.specs.Line.{IsKept}
+use Rattle.picky_cert.specs.Line.{IsReadBackCertificate}
 use Rattle.picky_cert.specs.LineRefusal.{line_meaning, line_text}
 use Rattle.picky_cert.specs.Spelled.{blob_of, line_of}
 use Rattle.picky_cert.proofs.ByteLaws.{blob_bytes}
@@ -73,7 +73,7 @@ written_is_line c line is =
     sym (passed_ok (is_short (line_of c)) errors.TooLong (line_of c) line format.1).1
 
 -- where a short line would be read back, the line alone can be too long
-pub unwritten_is_long : (c : SshCertificate) (e : SshCertificateError) → (length (line_of c) < 2 ^ 32 → IsKept c)
+pub unwritten_is_long : (c : SshCertificate) (e : SshCertificateError) → (length (line_of c) < 2 ^ 32 → IsReadBackCertificate c)
     → line_text c ≡ Err e → 2 ^ 32 ≤ length (line_of c)
 unwritten_is_long c e kept refused = elim (cases_lt (length (line_of c)) (2 ^ 32)) [
   | inl short ↦
@@ -91,7 +91,7 @@ unfolding line_meaning rest_text
 same_parts text other name body comment one two = cc
 
 -- what stands before its CR LF is read back as well
-pub front_reads_back : (c : SshCertificate) → IsKept c → line_meaning (front_of c) ≡ Ok c
+pub front_reads_back : (c : SshCertificate) → IsReadBackCertificate c → line_meaning (front_of c) ≡ Ok c
 unfolding front_of line_of
 front_reads_back c kept =
     let name : List ℕ = cert_key_type_name c.cert_key_type in

@@ -13,7 +13,7 @@ use Rattle.picky_text.specs.Lines.{HasNo}
 use Rattle.picky_text.proofs.Base64Laws.{base64_has_no, base64_is_of_what_it_gives, base64_is_read_back}
 use Rattle.picky_cert_names.specs.declared.error.SshCertificateError.{SshCertificateError}
 use Rattle.picky_cert.specs.declared.certificate.SshCertificate.{SshCertificate}
-use Rattle.picky_cert.specs.Line.{IsKept}
+use Rattle.picky_cert.specs.Line.{IsReadBackCertificate}
 use Rattle.picky_cert.specs.LineRefusal.{line_meaning}
 use Rattle.picky_cert.specs.Spelled.{line_of}
 use Rattle.picky_cert.proofs.ByteLemmas.{utf8_is_bytes}
@@ -86,7 +86,7 @@ read_asks id word line each reads =
 
 -- ---- the certificate of a text
 
-certificate_is_read : (c : SshCertificate) → IsKept c → certificate_in (front_of c) ≡ Some c
+certificate_is_read : (c : SshCertificate) → IsReadBackCertificate c → certificate_in (front_of c) ≡ Some c
 unfolding certificate_in
 certificate_is_read c kept =
     then_is (result_ok (line_meaning (front_of c))) c (if_canonical (front_of c)) (ap result_ok (front_reads_back c kept))
@@ -153,7 +153,7 @@ words_say line id rest word text request c each short of_id of_word asked says =
     let parted = parted_bytes word text (subst IsBytes of_word behind) in
     let asks = read_asks id word request parted.0 asked in
     let canonical = read_is_canonical text c says in
-    let kept : length (line_of c) < 2 ^ 32 → IsKept c = text_is_kept text c parted.1 canonical.0 in
+    let kept : length (line_of c) < 2 ^ 32 → IsReadBackCertificate c = text_is_kept text c parted.1 canonical.0 in
     let fits : length (line_of c) < 2 ^ 32 =
     omega (
       arith,

@@ -12,7 +12,7 @@ use Rattle.picky_text.proofs.Base64Laws.{base64_has_no}
 use Rattle.picky_text.proofs.ListLaws.{all_append}
 use Rattle.picky_cert_names.specs.Names.{cert_key_type_name}
 use Rattle.picky_cert.specs.declared.certificate.SshCertificate.{SshCertificate}
-use Rattle.picky_cert.specs.Line.{IsKept}
+use Rattle.picky_cert.specs.Line.{IsReadBackCertificate}
 use Rattle.picky_cert.specs.Spelled.{blob_of, line_of}
 use Rattle.picky_cert.proofs.ByteLaws.{blob_bytes}
 use Rattle.picky_cert.proofs.ByteLemmas.{utf8_is_bytes}
@@ -37,7 +37,7 @@ id_has_no_lf e is =
     false_of false is_true = refl
     false_of true is_true = absurd (cc is_true)
 
-front_has_no_lf : (c : SshCertificate) → IsKept c → HasNo 10 (front_of c)
+front_has_no_lf : (c : SshCertificate) → IsReadBackCertificate c → HasNo 10 (front_of c)
 unfolding front_of
 front_has_no_lf c kept =
     let P : ℕ → Type 0 = λ b. b ≢ 10 in

@@ -14,7 +14,7 @@ use Rattle.picky_sshpub.specs.Line.{IsPublicLine}
 use Rattle.picky_cert_parts.specs.Signature.{IsSignature}
 use Rattle.picky_cert.specs.declared.certificate.SshCertificate.{SshCertificate}
 use Rattle.picky_cert.specs.Certificate.{bare}
-use Rattle.picky_cert.specs.Line.{IsKept}
+use Rattle.picky_cert.specs.Line.{IsReadBackCertificate}
 use Rattle.picky_cert.specs.Spelled.{line_of}
 use Rattle.picky_cert.proofs.ByteLemmas.{utf8_is_bytes}
 use Rattle.picky_cert_builder.specs.Built.{IsBuilt}
@@ -94,7 +94,7 @@ signed_string c u bytes is kept = subst (λ (d : SshCertificate). IsSignature d.
 signed_has_line : (signs : Relation) (issuer : SshBasePublicKey) (serial : ℕ) (r : CertRequestLine) (nonce line : List ℕ)
     (u : Unsigned) (c : SshCertificate) → IsUtf8 line → request_in line ≡ Some r → IsRequest (asked_of issuer serial r)
     → IsString nonce → IsSignature c.signature → requested (asked_of issuer serial r) nonce ≡ Ok u → IsSigned signs u c
-    → length (line_of c) < 2 ^ 32 → IsKept c
+    → length (line_of c) < 2 ^ 32 → IsReadBackCertificate c
 signed_has_line signs issuer serial r nonce line u c utf8 asks kept is_nonce is_signature is signed short =
     let b = asked_of issuer serial r in
     let bytes = signed.0 in
@@ -103,7 +103,7 @@ signed_has_line signs issuer serial r nonce line u c utf8 asks kept is_nonce is_
     let comment : r.key.comment ≡ u.certificate.comment = made_comment b nonce u is in
     let whole : without_key_comments (signed_with u.certificate bytes) ≡ c =
     made_without issuer serial r nonce u bytes is ∙ sym signed.1 in
-    subst IsKept whole
+    subst IsReadBackCertificate whole
     (signed_is_kept b nonce u bytes kept is_nonce (signed_string c u bytes signed.1 is_signature) is
     (subst (HasNo 13) comment carried.no_cr) (subst (HasNo 10) comment carried.no_lf)
     (subst (λ (t : List ℕ). trim_end t ≡ t) comment carried.trimmed)

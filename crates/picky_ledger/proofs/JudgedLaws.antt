@@ -13,7 +13,7 @@ use Rattle.picky_cert_builder.specs.Draft.{Unsigned, requested}
 use Rattle.picky_request.specs.Builder.{asked_of}
 use Rattle.picky_request.specs.Request.{request_in}
 use Rattle.picky_request.specs.declared.request.CertRequestLine.{CertRequestLine}
-use Rattle.picky_ledger.specs.Apply.{Asked, Terms, asked_by, asked_for, issuing, judged, kept_reply, last_next, unless_kept}
+use Rattle.picky_ledger.specs.Apply.{Asked, Terms, asked_by, asked_for, issuing, judged_request_line, kept_reply, last_next, unless_kept}
 use Rattle.picky_ledger.specs.declared.entry.Entry.{Entry}
 use Rattle.picky_ledger.specs.declared.reply.Reply.{Reply}
 use Rattle.picky_ledger.specs.declared.reply.Reply.TheVariants as replies
@@ -28,8 +28,8 @@ kept_again e = rw ((bytes_eq-Decides e.request e.request).1 refl) refl
 
 -- A line that a ledger has is answered with its serial again.
 pub kept_is_again : (t : Terms) (l : State) (front more : List Entry) (e : Entry) → IsLedger l → l.entries ≡ front ++ e ∷ more
-    → judged t l e.request ≡ Err (replies.Again e.serial)
-unfolding judged
+    → judged_request_line t l e.request ≡ Err (replies.Again e.serial)
+unfolding judged_request_line
 kept_is_again t l front more e is entries =
     let each = subst (AllByRecursion IsEntry) entries is.each in
     let entry = all_inside IsEntry front more e each in
@@ -76,8 +76,8 @@ unless_says : (t : Terms) (line : List ℕ) (next : ℕ) (r : CertRequestLine) (
 unless_says t line next r None a is = (refl, is)
 unless_says t line next r (Some e) a is = absurd (cc is)
 
-pub judged_asks : (t : Terms) (l : State) (line : List ℕ) (a : Asked) → judged t l line ≡ Ok a → AsksFor t l line a
-unfolding judged
+pub judged_asks : (t : Terms) (l : State) (line : List ℕ) (a : Asked) → judged_request_line t l line ≡ Ok a → AsksFor t l line a
+unfolding judged_request_line
 judged_asks t l line a is =
     let request = and_then_ok (ok_or (request_in line) replies.BadRequest) _ a is in
     let new = unless_says t line l.next request.0 (entry_named request.0.id l.entries) a request.2 in
@@ -129,9 +129,9 @@ request_no_issue : (o : Option CertRequestLine) (next : CertRequestLine → Resu
 request_no_issue None next reply each is = λ serial same. cc (is, same)
 request_no_issue (Some r) next reply each is = each r is
 
-pub judged_no_issue : (t : Terms) (l : State) (line : List ℕ) (reply : Reply) → judged t l line ≡ Err reply → (serial : ℕ)
+pub judged_no_issue : (t : Terms) (l : State) (line : List ℕ) (reply : Reply) → judged_request_line t l line ≡ Err reply → (serial : ℕ)
     → reply ≢ replies.Issued serial
-unfolding judged
+unfolding judged_request_line
 judged_no_issue t l line reply is =
     request_no_issue (request_in line) (λ r. unless_kept t line l.next r (entry_named r.id l.entries)) reply
     (λ r. unless_no_issue t line l.next r (entry_named r.id l.entries) reply) is

@@ -14,7 +14,7 @@ use Rattle.picky_suite.specs.Signs.{Relation}
 use Rattle.picky_request.specs.Request.{is_space, request_in}
 use Rattle.picky_request.specs.declared.request.CertRequestLine.{CertRequestLine}
 use Rattle.picky_request.proofs.LineLaws.{line_is_one}
-use Rattle.picky_ledger.specs.Apply.{Applies, Asked, Terms, judged}
+use Rattle.picky_ledger.specs.Apply.{Applies, Asked, Terms, judged_request_line}
 use Rattle.picky_ledger.specs.Replies.{id_in, replies_text, reply_line}
 use Rattle.picky_ledger.specs.Run.{filled_lines}
 use Rattle.picky_ledger.specs.Runs.{NoneAsks, Runs, Step, nonce_len}
@@ -34,13 +34,13 @@ id_is_first line r utf8 says =
 
 -- a line that is no request has no id in its reply, so what stands before its first space may be taken
 pub reply_by_first : (signs : Relation) (t : Terms) (old new : State) (line : List ℕ) (rose : Type 0) (reply : Reply) → IsUtf8 line
-    → Applies signs old line (judged t old line) rose (Ok reply) new
+    → Applies signs old line (judged_request_line t old line) rose (Ok reply) new
     → reply_line (before_first is_space line) reply ≡ reply_line (id_in line) reply
-unfolding judged reply_line
+unfolding judged_request_line reply_line
 reply_by_first signs t old new line rose reply utf8 = go (request_in line) refl
   where
     go : (found : Option CertRequestLine) → request_in line ≡ found
-        → Applies signs old line (judged t old line) rose (Ok reply) new
+        → Applies signs old line (judged_request_line t old line) rose (Ok reply) new
         → reply_line (before_first is_space line) reply ≡ reply_line (id_in line) reply
     go (Some r) is applies = ap (λ id. reply_line id reply) (id_is_first line r utf8 is) ∙ rw is refl
     go None is applies =
@@ -56,22 +56,22 @@ calm_applies signs old new line (Err r) rose reply applies = applies
 -- a reply, and the line of it that was added
 pub line_answers : (signs : Relation) (issuer : SshBasePublicKey) (nonce fresh : List ℕ) (old new : State) (line : List ℕ)
     (rose : Type 0) (reply : Reply) (before after : List ℕ) → IsUtf8 line → nonce ≡ fresh
-    → Applies signs old line (judged (record { issuer = issuer; nonce = nonce }) old line) rose (Ok reply) new
+    → Applies signs old line (judged_request_line (record { issuer = issuer; nonce = nonce }) old line) rose (Ok reply) new
     → after ≡ before ++ reply_line (before_first is_space line) reply
-    → (r : Reply) × Applies signs old line (judged (record { issuer = issuer; nonce = fresh }) old line) ⊥ (Ok r) new
+    → (r : Reply) × Applies signs old line (judged_request_line (record { issuer = issuer; nonce = fresh }) old line) ⊥ (Ok r) new
     × (after ≡ before ++ reply_line (id_in line) r)
 line_answers signs issuer nonce fresh old new line rose reply before after utf8 same applies added =
     let t : Terms = record { issuer = issuer; nonce = fresh } in
-    let of_fresh : Applies signs old line (judged t old line) rose (Ok reply) new =
-    subst (λ n. Applies signs old line (judged (record { issuer = issuer; nonce = n }) old line) rose (Ok reply) new) same applies in (
+    let of_fresh : Applies signs old line (judged_request_line t old line) rose (Ok reply) new =
+    subst (λ n. Applies signs old line (judged_request_line (record { issuer = issuer; nonce = n }) old line) rose (Ok reply) new) same applies in (
       reply,
-      calm_applies signs old new line (judged t old line) rose reply of_fresh,
+      calm_applies signs old new line (judged_request_line t old line) rose reply of_fresh,
       added ∙ ap (λ l. before ++ l) (reply_by_first signs t old new line rose reply utf8 of_fresh),
     )
 
 -- or the device failed for it
 failed_asks : (A : Type 0) (signs : Relation) (t : Terms) (old new : State) (line : List ℕ) (rose : Type 0) (before after : List ℕ)
-    (says : Result Asked Reply) → judged t old line ≡ says → (e : LedgerError) → Applies signs old line says rose (Err e) new
+    (says : Result Asked Reply) → judged_request_line t old line ≡ says → (e : LedgerError) → Applies signs old line says rose (Err e) new
     → AnswersLine {A = A} signs t old line rose before after (Err e) new
 failed_asks A signs t old new line rose before after (Ok a) is errors.SignerFault applies = (a, is, applies.0)
 failed_asks A signs t old new line rose before after (Err r) is errors.SignerFault applies = absurd applies
@@ -79,12 +79,12 @@ failed_asks A signs t old new line rose before after says is errors.NoMemory app
 
 pub line_fails : (A : Type 0) (signs : Relation) (issuer : SshBasePublicKey) (nonce fresh : List ℕ) (old new : State) (line : List ℕ)
     (rose : Type 0) (e : LedgerError) (before after : List ℕ) → nonce ≡ fresh
-    → Applies signs old line (judged (record { issuer = issuer; nonce = nonce }) old line) rose (Err e) new
+    → Applies signs old line (judged_request_line (record { issuer = issuer; nonce = nonce }) old line) rose (Err e) new
     → AnswersLine {A = A} signs (record { issuer = issuer; nonce = fresh }) old line rose before after (Err e) new
 line_fails A signs issuer nonce fresh old new line rose e before after same applies =
     let t : Terms = record { issuer = issuer; nonce = fresh } in
-    failed_asks A signs t old new line rose before after (judged t old line) refl e
-    (subst (λ n. Applies signs old line (judged (record { issuer = issuer; nonce = n }) old line) rose (Err e) new) same applies)
+    failed_asks A signs t old new line rose before after (judged_request_line t old line) refl e
+    (subst (λ n. Applies signs old line (judged_request_line (record { issuer = issuer; nonce = n }) old line) rose (Err e) new) same applies)
 
 -- ---- lines that aren't empty
 
@@ -144,14 +144,14 @@ module _ (signs : Relation) (issuer : SshBasePublicKey) (old : State) (fresh : L
   pub answered_more : (mid new : State) (rest nonce behind line : List ℕ) (left : List (List ℕ)) (text after : List ℕ) (reply : Reply)
       → Answered signs issuer old fresh lines mid rest (line ∷ left) text → nonce ≡ take nonce_len rest
       → behind ≡ drop nonce_len rest
-      → Applies signs mid line (judged (record { issuer = issuer; nonce = nonce }) mid line) ⊥ (Ok reply) new
+      → Applies signs mid line (judged_request_line (record { issuer = issuer; nonce = nonce }) mid line) ⊥ (Ok reply) new
       → after ≡ text ++ reply_line (id_in line) reply
       → Answered signs issuer old fresh lines new behind left after
   unfolding Step
   answered_more mid new rest nonce behind line left text after reply so is same applies added =
       let step : Step signs issuer mid (drop (nonce_len * length so.front) fresh) line new reply =
       subst (λ f. Step signs issuer mid f line new reply) so.behind
-      (subst (λ n. Applies signs mid line (judged (record { issuer = issuer; nonce = n }) mid line) ⊥ (Ok reply) new) is applies) in
+      (subst (λ n. Applies signs mid line (judged_request_line (record { issuer = issuer; nonce = n }) mid line) ⊥ (Ok reply) new) is applies) in
       record {
         front = so.front ++ line ∷ [];
         replies = so.replies ++ reply ∷ [];
@@ -169,12 +169,12 @@ module _ (signs : Relation) (issuer : SshBasePublicKey) (old : State) (fresh : L
 pub none_more : {S : Type 0} (signs : Relation) (issuer : SshBasePublicKey) (l new : State) (rest nonce behind line : List ℕ)
     (left : List (List ℕ)) (reply : Reply) (device before after : S) → NoneAsks issuer l rest (line ∷ left) → nonce ≡ take nonce_len rest
     → behind ≡ drop nonce_len rest
-    → Applies signs l line (judged (record { issuer = issuer; nonce = nonce }) l line) ⊥ (Ok reply) new
-    → IfErr (judged (record { issuer = issuer; nonce = nonce }) l line) (λ r. after ≡ before) → before ≡ device
+    → Applies signs l line (judged_request_line (record { issuer = issuer; nonce = nonce }) l line) ⊥ (Ok reply) new
+    → IfErr (judged_request_line (record { issuer = issuer; nonce = nonce }) l line) (λ r. after ≡ before) → before ≡ device
     → (after ≡ device) × NoneAsks issuer new behind left
 none_more signs issuer l new rest nonce behind line left reply device before after (r, says, more) is same applies unasked stays =
-    let first : judged (record { issuer = issuer; nonce = nonce }) l line ≡ Err r =
-    ap (λ n. judged (record { issuer = issuer; nonce = n }) l line) is ∙ says in
+    let first : judged_request_line (record { issuer = issuer; nonce = nonce }) l line ≡ Err r =
+    ap (λ n. judged_request_line (record { issuer = issuer; nonce = n }) l line) is ∙ says in
     let kept = subst (λ o. Applies signs l line o ⊥ (Ok reply) new) first applies in (
       subst (λ o. IfErr o (λ x. after ≡ before)) first unasked ∙ stays,
       subst (λ b. NoneAsks issuer new b left) (sym same) (subst (λ n. NoneAsks issuer n (drop nonce_len rest) left) (sym kept.1) more),

@@ -59,8 +59,8 @@ abbrev pub unless_kept : Terms → (line : List ℕ) → (next : ℕ) → CertRe
 unless_kept t line next r None = issuing t next r
 unless_kept t line next r (Some e) = Err (kept_reply line e)
 
-unfoldable pub judged : Terms → State → (line : List ℕ) → Result Asked Reply
-judged t l line =
+unfoldable pub judged_request_line : Terms → State → (line : List ℕ) → Result Asked Reply
+judged_request_line t l line =
     and_then (ok_or (request_in line) replies.BadRequest) (λ r. unless_kept t line l.next r (entry_named r.id l.entries))
 
 -- ---- the reply, and the ledger after it

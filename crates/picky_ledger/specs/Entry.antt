@@ -5,7 +5,7 @@ use Rattle.std.specs.Result.{result_ok}
 use Rattle.std.specs.Str.{is_utf8, IsUtf8}
 use Rattle.picky_text.specs.Base64.{base64_of, decoded}
 use Rattle.picky_cert.specs.declared.certificate.SshCertificate.{SshCertificate}
-use Rattle.picky_cert.specs.Line.{IsKept}
+use Rattle.picky_cert.specs.Line.{IsReadBackCertificate}
 use Rattle.picky_cert.specs.LineRefusal.{line_meaning}
 use Rattle.picky_cert.specs.Spelled.{blob_of, line_of}
 use Rattle.picky_cert_names.specs.Names.{cert_key_type_name}
@@ -23,7 +23,7 @@ pub record IsEntry (e : Entry) : Type 0 where
   pub text : IsUtf8 e.request
   pub serial : e.certificate.serial ≡ e.serial
   pub fits : e.serial < 2 ^ 64
-  pub kept : length (line_of e.certificate) < 2 ^ 32 → IsKept e.certificate
+  pub kept : length (line_of e.certificate) < 2 ^ 32 → IsReadBackCertificate e.certificate
 
 -- ---- the line of an entry
 

@@ -11,7 +11,7 @@ use Rattle.picky_request.specs.declared.request.CertRequestLine.{CertRequestLine
 use Rattle.picky_ledger.specs.declared.entry.Entry.{Entry}
 use Rattle.picky_ledger.specs.declared.reply.Reply.{Reply}
 use Rattle.picky_ledger.specs.declared.reply.Reply.TheVariants as answers
-use Rattle.picky_ledger.specs.Apply.{Applies, Asked, Terms, judged}
+use Rattle.picky_ledger.specs.Apply.{Applies, Asked, Terms, judged_request_line}
 use Rattle.picky_ledger.specs.LedgerText.{ledger_in, ledger_text}
 use Rattle.picky_ledger.specs.State.{IsLedger, State}
 
@@ -25,7 +25,7 @@ terms issuer fresh = record { issuer = issuer; nonce = take nonce_len fresh }
 -- one request
 unfoldable pub Step : Relation → SshBasePublicKey → State → (fresh line : List ℕ) → State → Reply → Type 0
 Step signs issuer old fresh line new reply =
-    Applies signs old line (judged (terms issuer fresh) old line) ⊥ (Ok reply) new
+    Applies signs old line (judged_request_line (terms issuer fresh) old line) ⊥ (Ok reply) new
 
 -- the requests of these lines in order, each with its reply
 abbrev pub Runs : Relation → SshBasePublicKey → State → (fresh : List ℕ) → (lines : List (List ℕ)) → State → List Reply
@@ -48,14 +48,14 @@ pub record FailsAt (signs : Relation) (issuer : SshBasePublicKey) (old : State) 
   pub left : List ℕ
   pub nonce : left ≡ drop (nonce_len * length front) fresh
   pub asked : Asked
-  pub asks : judged (terms issuer left) mid line ≡ Ok asked
+  pub asks : judged_request_line (terms issuer left) mid line ≡ Ok asked
   pub fault : rose
 
 -- no request of these lines is to be signed: each has its reply, and the ledger stays
 abbrev pub NoneAsks : SshBasePublicKey → State → (fresh : List ℕ) → (lines : List (List ℕ)) → Type 0
 NoneAsks issuer l fresh [] = Unit {0}
 NoneAsks issuer l fresh (line ∷ more) =
-    (reply : Reply) × (judged (terms issuer fresh) l line ≡ Err reply) × NoneAsks issuer l (drop nonce_len fresh) more
+    (reply : Reply) × (judged_request_line (terms issuer fresh) l line ≡ Err reply) × NoneAsks issuer l (drop nonce_len fresh) more
 
 -- the entry is the certificate of one of the lines, under the entry's serial, signed by the device
 pub record IsIssuedFor (signs : Relation) (issuer : SshBasePublicKey) (lines : List (List ℕ)) (e : Entry) : Type 0 where

@@ -14,7 +14,7 @@ ghost use Rattle.picky_ledger.specs.inner.Comes.{extent_at, Comes};
 ghost use Rattle.picky_ledger.specs.inner.Shown.{given_shown};
 
 use crate::apply::LedgerError;
-use crate::asked::{Given, given_in};
+use crate::asked::{LedgerInput, given_in};
 use crate::requests::answer_requests;
 use crate::status::{LedgerStatus, source_status};
 use picky_input::take_text;
@@ -79,7 +79,7 @@ fn answer_to<G: Signer>(
 /// The new ledger's text, the mark's line and the lines of the replies. Refuses, in order: `OutsideFault`, `TooLong`.
 fn answer_given<G: Signer>(
     alloc: Global,
-    given: Given<'_>,
+    given: LedgerInput<'_>,
     fresh: &[u8],
     signer: &mut G,
 ) -> Result<String, LedgerStatus>
@@ -91,7 +91,7 @@ fn answer_given<G: Signer>(
         G.faults (result ≡ Err LedgerStatus.OutsideFault)
         (NoneAsks given.entry.issuer.inner_key given.entry.ledger fresh.now (given_shown given.entry).requests) signer.old signer.new }
 {
-    let Given {
+    let LedgerInput {
         mut ledger,
         issuer,
         requests,
@@ -104,14 +104,14 @@ fn answer_given<G: Signer>(
         Err(LedgerError::NoMemory) => return Err(LedgerStatus::NoMemory),
     };
     match ledger.to_string(alloc) {
-        Ok(text) => joined(text, replies.as_str()),
+        Ok(text) => ledger_and_replies(text, replies.as_str()),
         Err(SizeError::TooLong) => Err(LedgerStatus::TooLong),
         Err(SizeError::NoMemory) => Err(LedgerStatus::NoMemory),
     }
 }
 
 /// The text of a ledger, the mark's line, and the replies. Refuses: `NoMemory`.
-fn joined(ledger: Text, replies: &str) -> Result<String, LedgerStatus>
+fn ledger_and_replies(ledger: Text, replies: &str) -> Result<String, LedgerStatus>
     ensures joined { IfOk result (λ text. string_bytes text ≡ ledger ++ (mark_lf ++ replies.now)) }
     ensures want { IfErr result (λ status. status ≡ LedgerStatus.NoMemory) }
 {

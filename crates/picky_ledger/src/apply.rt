@@ -11,7 +11,7 @@ ghost use Rattle.picky_cert_builder.specs.Draft.{requested};
 ghost use Rattle.picky_cert_builder.specs.Keeps.{IsRequest};
 ghost use Rattle.picky_request.specs.Builder.{asked_of};
 ghost use Rattle.picky_request.specs.Request.{request_in};
-ghost use Rattle.picky_ledger.specs.Apply.{added, issuing, judged, kept_reply as kept_reply_of, unless_kept, Applies, LeavesSigner};
+ghost use Rattle.picky_ledger.specs.Apply.{added, issuing, judged_request_line, kept_reply as kept_reply_of, unless_kept, Applies, LeavesSigner};
 ghost use Rattle.picky_ledger.specs.Entry.{entry_of as entry_by, IsEntry};
 ghost use Rattle.picky_ledger.specs.State.{entry_named as entry_with_id, IsNew};
 
@@ -48,7 +48,7 @@ impl Ledger {
     /// `Conflict`, where it has another; `Full`, where the next serial is 18,446,744,073,709,551,615; `Refused`, as
     /// `SshCertificateBuilder::build` refuses but for the device's fault; `Issued`, which alone changes the ledger. Refuses:
     /// `SignerFault`, with the ledger as it was; `NoMemory`, with the ledger as it was, though the device may have been asked.
-    #[tactic(auto, unfolding(crate::specs::Apply::judged))]
+    #[tactic(auto, unfolding(crate::specs::Apply::judged_request_line))]
     pub fn apply<G: Signer>(
         &mut self,
         alloc: Global,
@@ -58,10 +58,10 @@ impl Ledger {
         signer: &mut G,
     ) -> Result<Reply, LedgerError>
         ensures applies { Applies (G.signs signer.old) self.old line.now
-            (judged (record { issuer = issuer.now.inner_key; nonce = nonce.now }) self.old line.now)
+            (judged_request_line (record { issuer = issuer.now.inner_key; nonce = nonce.now }) self.old line.now)
             (Rose (G.faults signer.old) (G.faults signer.new)) result self.new }
         ensures signer { LeavesSigner G.signs G.faults
-            (judged (record { issuer = issuer.now.inner_key; nonce = nonce.now }) self.old line.now) result signer.old signer.new }
+            (judged_request_line (record { issuer = issuer.now.inner_key; nonce = nonce.now }) self.old line.now) result signer.old signer.new }
     {
         match CertRequestLine::from_str(alloc, line) {
             Ok(Some(request)) => self.answer(alloc, issuer, line, request, nonce, signer),

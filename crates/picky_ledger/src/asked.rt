@@ -29,14 +29,14 @@ pub struct LedgerParts<'a> {
 
 /// A ledger, who issues, and the text of the requests.
 #[derive(Drop)]
-pub struct Given<'a> {
+pub struct LedgerInput<'a> {
     pub ledger: Ledger,
     pub issuer: SshPublicKey,
     pub requests: &'a str,
 }
 
 /// What a text asks for. Refuses, in order: `BadInput`, `BadLedger`, `BadIssuer`, `FreshTooShort`.
-pub fn given_in<'a>(alloc: Global, fresh: &[u8], text: &'a str) -> Result<Given<'a>, LedgerStatus>
+pub fn given_in<'a>(alloc: Global, fresh: &[u8], text: &'a str) -> Result<LedgerInput<'a>, LedgerStatus>
     ensures { Gives LedgerStatus.NoMemory given_shown result (of_text fresh.now text.now) }
 {
     match ledger_parts(text) {
@@ -65,7 +65,7 @@ fn given_of<'a>(
     alloc: Global,
     fresh: &[u8],
     parts: LedgerParts<'a>,
-) -> Result<Given<'a>, LedgerStatus>
+) -> Result<LedgerInput<'a>, LedgerStatus>
     ensures { Gives LedgerStatus.NoMemory given_shown result (of_parts fresh.now (parts_shown parts.entry)) }
 {
     let ledger = match Ledger::from_str(alloc, parts.ledger) {
@@ -79,7 +79,7 @@ fn given_of<'a>(
     if fresh.len() / NONCE_LEN < count_of(parts.requests) {
         return Err(LedgerStatus::FreshTooShort);
     }
-    Ok(Given {
+    Ok(LedgerInput {
         ledger,
         issuer,
         requests: parts.requests,

@@ -71,7 +71,7 @@ impl Pem {
         if lines_len > MAX_LEN {
             return Err(PemError::TooLong);
         }
-        match lines_within(alloc, content, lines_len) {
+        match armoured_lines(alloc, content, lines_len) {
             Ok(text) => Ok(Text::from_string(text)),
             Err(_) => Err(PemError::NoMemory),
         }
@@ -109,7 +109,7 @@ pub fn parse_pem(alloc: Global, text: &str) -> Result<Pem, PemError>
 pub fn pem_text(alloc: Global, content: &[u8]) -> Result<String, AllocError>
     ensures { IfOk result (λ text. string_bytes text ≡ text_for content.now) }
 {
-    let mut text = lines_within(alloc, content, text_len(content.len()))?;
+    let mut text = armoured_lines(alloc, content, text_len(content.len()))?;
     text.push_str("\n")?;
     Ok(text)
 }
@@ -237,7 +237,7 @@ fn is_blank(byte: u8) -> bool
 }
 
 /// The armoured text without its last LF, in a buffer with so much room at first.
-fn lines_within(alloc: Global, content: &[u8], room: usize) -> Result<String, AllocError>
+fn armoured_lines(alloc: Global, content: &[u8], room: usize) -> Result<String, AllocError>
     ensures { IfOk result (λ text. string_bytes text ≡ lines_of content.now) }
 {
     let mut text = String::with_capacity(alloc, room)?;

@@ -14,7 +14,7 @@ use Rattle.picky_cert.specs.declared.certificate.SshCertificate.{SshCertificate}
 use Rattle.picky_policy.specs.Decided.{Accepts, Allows, Answers, Decides, Line}
 use Rattle.picky_policy.specs.Decided.{asks, decided, granted, is_kept_back, line_for, options_left}
 use Rattle.picky_policy.specs.Demands.{Demands, no_demands}
-use Rattle.picky_policy.specs.Rules.{judged}
+use Rattle.picky_policy.specs.Rules.{judged_rules}
 use Rattle.picky_policy.specs.Verifies.{Relation}
 use Rattle.picky_policy.specs.declared.deciding.DecideError.{DecideError}
 use Rattle.picky_policy.specs.declared.deciding.DecideError.TheVariants as errors
@@ -39,7 +39,7 @@ module _ (verifies : Relation) (entries : List AuthEntry) (user : List ℕ) (mom
 
   rules_granted : (c : SshCertificate) (message : List ℕ) (grant : Grant) (line : Line)
       → line_for true c.signature_key.inner_key entries ≡ Some line
-      → (kept : Result Demands Denial) → judged line.options c user moment ≡ kept
+      → (kept : Result Demands Denial) → judged_rules line.options c user moment ≡ kept
       → Answers (verifies c.signature_key.inner_key c.signature message) (and_then kept (λ d. Ok (granted line d)))
       (decisions.Granted grant)
       → Allows verifies entries (offers.Certificate c message) user moment grant
@@ -57,11 +57,11 @@ module _ (verifies : Relation) (entries : List AuthEntry) (user : List ℕ) (mom
       → line_for true c.signature_key.inner_key entries ≡ found
       → Answers (verifies c.signature_key.inner_key c.signature message)
       (and_then (ok_or found denials.NoAuthority) (λ line.
-      and_then (judged line.options c user moment) (λ d. Ok (granted line d)))) (decisions.Granted grant)
+      and_then (judged_rules line.options c user moment) (λ d. Ok (granted line d)))) (decisions.Granted grant)
       → Allows verifies entries (offers.Certificate c message) user moment grant
   certificate_granted c message grant None says answers = absurd answers
   certificate_granted c message grant (Some line) says answers =
-      rules_granted c message grant line says (judged line.options c user moment) refl answers
+      rules_granted c message grant line says (judged_rules line.options c user moment) refl answers
 
   -- what is granted is allowed
   pub grants : (offer : Offer) (grant : Grant)
@@ -85,7 +85,7 @@ module _ (verifies : Relation) (entries : List AuthEntry) (user : List ℕ) (mom
   denies (offers.Certificate c message) why grant answers allows =
       let line : Line = allows.0 in
       let says : decided entries (offers.Certificate c message) user moment ≡ Ok (granted line allows.1) =
-      ap (λ o. and_then (ok_or o denials.NoAuthority) (λ l. and_then (judged l.options c user moment) (λ d. Ok (granted l d))))
+      ap (λ o. and_then (ok_or o denials.NoAuthority) (λ l. and_then (judged_rules l.options c user moment) (λ d. Ok (granted l d))))
       (line_is true c.signature_key.inner_key entries line allows.2)
       ∙ ap (λ r. and_then r (λ d. Ok (granted line d))) (rules_are line.options c user moment allows.1 allows.3) in
       (subst (λ r. Answers (verifies c.signature_key.inner_key c.signature message) r (decisions.Denied why)) says answers).1
@@ -150,13 +150,13 @@ key_grants entries key user moment line d result found none gives calm =
 -- and of the issuer's line, where the rules and the signature are kept
 pub certificate_grants : (accepts : Type 0) (asked : Bool) (rose : Type 0) (entries : List AuthEntry) (c : SshCertificate)
     (message user : List ℕ) (moment : Timestamp) (line : Line) (d : Demands) (result : Result Decision DecideError)
-    → line_for true c.signature_key.inner_key entries ≡ Some line → judged line.options c user moment ≡ Ok d → accepts
+    → line_for true c.signature_key.inner_key entries ≡ Some line → judged_rules line.options c user moment ≡ Ok d → accepts
     → IfOk result (λ decision. decision ≡ decisions.Granted (granted line d)) → result ≢ Err errors.VerifierFault
     → Decides accepts (decided entries (offers.Certificate c message) user moment) asked rose result
 unfolding decided
 certificate_grants accepts asked rose entries c message user moment line d result found kept good gives calm =
     let says : decided entries (offers.Certificate c message) user moment ≡ Ok (granted line d) =
-    ap (λ o. and_then (ok_or o denials.NoAuthority) (λ l. and_then (judged l.options c user moment) (λ e. Ok (granted l e)))) found
+    ap (λ o. and_then (ok_or o denials.NoAuthority) (λ l. and_then (judged_rules l.options c user moment) (λ e. Ok (granted l e)))) found
     ∙ ap (λ r. and_then r (λ e. Ok (granted line e))) kept in
     grant_decides accepts (decided entries (offers.Certificate c message) user moment) asked rose (granted line d) result says good
     gives calm

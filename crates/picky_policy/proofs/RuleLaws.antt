@@ -15,7 +15,7 @@ use Rattle.picky_cert.specs.declared.certificate.SshCertificate.{SshCertificate}
 use Rattle.picky_cert_parts.specs.declared.cert_type.SshCertType.{SshCertType}
 use Rattle.picky_cert_parts.specs.declared.cert_type.SshCertType.TheVariants.{Client, Host}
 use Rattle.picky_policy.specs.Demands.{Demands, demands_in}
-use Rattle.picky_policy.specs.Rules.{IsForUser, Lets, is_among, is_for_user, is_host, judged, names_in, value_named}
+use Rattle.picky_policy.specs.Rules.{IsForUser, Lets, is_among, is_for_user, is_host, judged_rules, names_in, value_named}
 use Rattle.picky_policy.specs.declared.decision.Denial.TheVariants as denials
 use Rattle.picky_policy.proofs.DemandLaws.{demands_are, demands_say}
 
@@ -60,8 +60,8 @@ client Client is = refl
 client Host is = absurd (cc is)
 
 pub rules_say : (options : List AuthOption) (c : SshCertificate) (user : List ℕ) (moment : Timestamp) (d : Demands)
-    → judged options c user moment ≡ Ok d → Lets options c user moment d
-unfolding judged
+    → judged_rules options c user moment ≡ Ok d → Lets options c user moment d
+unfolding judged_rules
 rules_say options c user moment d is = elim (cases_Bool (is_host c.cert_type)) [
   | inl host ↦ absurd (cc (rw host at is))
   | inr other ↦ elim (cases_Bool (nat_lt moment.0 c.valid_after.0)) [
@@ -87,8 +87,8 @@ rules_say options c user moment d is = elim (cases_Bool (is_host c.cert_type)) [
 ]
 
 pub rules_are : (options : List AuthOption) (c : SshCertificate) (user : List ℕ) (moment : Timestamp) (d : Demands)
-    → Lets options c user moment d → judged options c user moment ≡ Ok d
-unfolding judged
+    → Lets options c user moment d → judged_rules options c user moment ≡ Ok d
+unfolding judged_rules
 rules_are options c user moment d lets =
     let other : is_host c.cert_type ≡ false = ap is_host lets.client in
     let begun : nat_lt moment.0 c.valid_after.0 ≡ false = le-ltb moment.0 c.valid_after.0 lets.begun in

@@ -14,7 +14,7 @@ use Rattle.picky_authorized.specs.declared.entry.AuthContent.{AuthContent}
 use Rattle.picky_authorized.specs.declared.entry.AuthContent.TheVariants as contents
 use Rattle.picky_authorized.specs.declared.entry.AuthEntry.{AuthEntry}
 use Rattle.picky_policy.specs.Demands.{Demands, no_demands}
-use Rattle.picky_policy.specs.Rules.{Lets, judged}
+use Rattle.picky_policy.specs.Rules.{Lets, judged_rules}
 use Rattle.picky_policy.specs.Verifies.{Keeps, Relation}
 use Rattle.picky_policy.specs.declared.deciding.DecideError.{DecideError}
 use Rattle.picky_policy.specs.declared.deciding.DecideError.TheVariants as errors
@@ -114,7 +114,7 @@ decided entries (offers.Key key) user moment =
     and_then (ok_or (line_for false key.inner_key entries) denials.NoLine) (λ line. Ok (granted line no_demands))
 decided entries (offers.Certificate c message) user moment =
     and_then (ok_or (line_for true c.signature_key.inner_key entries) denials.NoAuthority) (λ line.
-    and_then (judged line.options c user moment) (λ d. Ok (granted line d)))
+    and_then (judged_rules line.options c user moment) (λ d. Ok (granted line d)))
 
 -- the verifier is asked: of a certificate, where no rule before fails
 abbrev pub asks : List AuthEntry → Offer → (user : List ℕ) → Timestamp → Bool

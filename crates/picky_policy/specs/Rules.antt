@@ -53,8 +53,8 @@ is_host Client = false
 is_host Host = true
 
 -- what the certificate demands, or the first rule that fails
-unfoldable pub judged : (options : List AuthOption) → SshCertificate → (user : List ℕ) → Timestamp → Result Demands Denial
-judged options c user moment =
+unfoldable pub judged_rules : (options : List AuthOption) → SshCertificate → (user : List ℕ) → Timestamp → Result Demands Denial
+judged_rules options c user moment =
     if is_host c.cert_type then Err denials.NotClient
     else if nat_lt moment.0 c.valid_after.0 then Err denials.NotYet
     else if nat_le c.valid_before.0 moment.0 then Err denials.Expired

@@ -25,16 +25,16 @@ pub record Verifies {S : Type 0} (verifies : S → Relation) (faults : S → ℕ
 -- ---- the verifier that was handed an answer
 
 -- the message whose signature is good, where another device said so, and how many calls failed
-pub record Handed : Type 0 where
+pub record HandedVerifierState : Type 0 where
   pub message : Option (List ℕ)
   pub faults : ℕ
 
 -- that message alone has good signatures
-abbrev pub VerifiesAsHanded : Handed → Relation
+abbrev pub VerifiesAsHanded : HandedVerifierState → Relation
 VerifiesAsHanded verifier key signature message = verifier.message ≡ Some message
 
 -- a call fails exactly where there is none, and is counted
-pub record SaysAsHanded (result : Result Bool Failed) (old new : Handed) : Type 0 where
+pub record SaysAsHanded (result : Result Bool Failed) (old new : HandedVerifierState) : Type 0 where
   pub fails : IsErr result ↔ (old.message ≡ None)
   pub stays : OnOk result (new ≡ old)
   pub counts : OnErr result (new ≡ record old { faults = count_one old.faults })

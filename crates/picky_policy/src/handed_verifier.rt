@@ -4,7 +4,7 @@ ghost use Rattle.std.specs.Prelude.{◌≡◌, ◌↔◌, ◌-◌, ◌^◌, ℕ,
 ghost use Rattle.std.proofs.Common.{arith};
 ghost use Rattle.picky_sshpub.specs.declared.key.SshBasePublicKey.{SshBasePublicKey as BaseKey};
 ghost use Rattle.picky_cert_parts.specs.declared.signature.SshSignature.{SshSignature as Signature};
-ghost use Rattle.picky_policy.specs.Verifies.{Verifies, VerifiesAsHanded, Handed, SaysAsHanded};
+ghost use Rattle.picky_policy.specs.Verifies.{Verifies, VerifiesAsHanded, HandedVerifierState, SaysAsHanded};
 
 use crate::verifier::Verifier;
 use picky_cert::SshSignature;
@@ -20,7 +20,7 @@ pub struct HandedVerifier {
 }
 
 impl Model for HandedVerifier {
-    ghost Value = { Handed };
+    ghost Value = { HandedVerifierState };
 
     ghost view = { λ v. record { message = v.message; faults = v.faults } };
 }

@@ -18,7 +18,7 @@ ghost use Rattle.picky_policy.specs.Command.{Asked, Names};
 ghost use Rattle.picky_policy.specs.Decided.{line_for, IsLineFor, Line};
 ghost use Rattle.picky_policy.specs.Demands.{demands_in, AreDemands, Demands};
 ghost use Rattle.picky_policy.specs.Offer.{offer_in, IsOffer};
-ghost use Rattle.picky_policy.specs.Rules.{judged, Lets};
+ghost use Rattle.picky_policy.specs.Rules.{judged_rules, Lets};
 ghost use Rattle.picky_policy.specs.Run.{offer_part, offered};
 ghost use Rattle.picky_policy.specs.declared.offer.Offer.{Offer as AnOffer};
 ghost use Rattle.picky_policy.specs.declared.offer.Offer.TheVariants as offers;
@@ -47,7 +47,7 @@ pub fn demands_are_of_options()
 /// No rule fails exactly where the line lets the certificate in.
 pub fn rules_are_kept_exactly()
     ensures { (options : List AnOption) (c : Certificate) (user : List ℕ) (moment : Moment) (d : Demands)
-        → (judged options c user moment ≡ Ok d) ↔ Lets options c user moment d }
+        → (judged_rules options c user moment ≡ Ok d) ↔ Lets options c user moment d }
 {}
 
 /// The line for a key is the first.

@@ -5,7 +5,7 @@ ghost use Rattle.std.specs.List.{list_any};
 ghost use Rattle.std.specs.Option.{option_copied};
 ghost use Rattle.picky_layout.specs.Outcome.{map_ok};
 ghost use Rattle.picky_authorized.specs.KnownOptions.{principals as principals_name};
-ghost use Rattle.picky_policy.specs.Rules.{is_among as is_among_names, is_for_user as is_for, judged, names_in, value_named as value_of_name};
+ghost use Rattle.picky_policy.specs.Rules.{is_among as is_among_names, is_for_user as is_for, judged_rules, names_in, value_named as value_of_name};
 ghost use Rattle.picky_policy.specs.inner.Shown.{demands_shown};
 
 use crate::decision::Denial;
@@ -16,14 +16,14 @@ use picky_wire::{Text, Timestamp};
 
 /// What the certificate demands, or the first rule that fails: `NotClient`, `NotYet`, `Expired`, `Principal`,
 /// `CriticalOption`.
-#[tactic(auto, unfolding(crate::specs::Rules::judged))]
+#[tactic(auto, unfolding(crate::specs::Rules::judged_rules))]
 pub fn judge<'a>(
     options: &[AuthOption],
     certificate: &'a SshCertificate,
     user: &str,
     moment: Timestamp,
 ) -> Result<Demanded<'a>, Denial>
-    ensures { map_ok demands_shown result ≡ judged options.now certificate.now user.now moment }
+    ensures { map_ok demands_shown result ≡ judged_rules options.now certificate.now user.now moment }
 {
     match certificate.cert_type {
         SshCertType::Client => {}

@@ -8,7 +8,7 @@ use Rattle.picky_ppk_parts.specs.declared.error.PuttyError.{PuttyError}
 use Rattle.picky_ppk_parts.specs.declared.error.PuttyError.TheVariants as errors
 use Rattle.picky_ppk_file.specs.declared.file.PpkFile.{PpkFile}
 use Rattle.picky_ppk_file.specs.File.{version_of}
-use Rattle.picky_ppk.specs.Sealed.{padding_len, encrypted, draft_of, is_sealable}
+use Rattle.picky_ppk.specs.Sealed.{padding_len, encrypted, file_to_seal, is_sealable}
 use Rattle.picky_ppk.specs.Fresh.{drawn, salt_len, Fresh, fresh_for, can_draw, not_drawn, encrypted_fresh, asks_fresh}
 
 -- The generator is asked for some bytes.
@@ -51,10 +51,10 @@ fresh_seals m pass config f stream salt padding left can is =
 pub fresh_asks : (pass : List ℕ) (config : PpkEncryptionConfig) (f : PpkFile) (stream : Stream)
     (salt padding : List ℕ) (left : Stream) → can_draw pass config f ≡ true
     → fresh_for config f stream ≡ record { salt = salt; padding = padding; left = left }
-    → asks_fresh pass config f stream ≡ is_sealable pass f (draft_of config salt padding f)
+    → asks_fresh pass config f stream ≡ is_sealable pass f (file_to_seal config salt padding f)
 unfolding asks_fresh
 fresh_asks pass config f stream salt padding left can is =
-    rw can (ap (λ (x : Fresh). is_sealable pass f (draft_of config x.salt x.padding f)) is)
+    rw can (ap (λ (x : Fresh). is_sealable pass f (file_to_seal config x.salt x.padding f)) is)
 
 -- Nothing is drawn.
 pub unfresh_refused : (m : Meanings) (pass : List ℕ) (config : PpkEncryptionConfig) (f : PpkFile) (stream : Stream)
@@ -73,7 +73,7 @@ pub fresh_gives : {X : Type 0} (view : X → PpkFile) (r : Result X PuttyError) 
     → can_draw pass config f ≡ true
     → fresh_for config f stream ≡ record { salt = salt; padding = padding; left = left }
     → GivesAsked errors.NoMemory errors.SuiteFault view r (encrypted m pass config salt padding f)
-    (is_sealable pass f (draft_of config salt padding f)) rose
+    (is_sealable pass f (file_to_seal config salt padding f)) rose
     → GivesAsked errors.NoMemory errors.SuiteFault view r (encrypted_fresh m pass config f stream)
     (asks_fresh pass config f stream) rose
 fresh_gives view r rose m pass config f stream salt padding left can is gives =

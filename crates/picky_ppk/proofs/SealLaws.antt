@@ -23,7 +23,7 @@ use Rattle.picky_ppk_file.specs.declared.file.PpkSealing.TheVariants.{Unsealed, 
 use Rattle.picky_ppk_file.specs.File.{version_of, is_sealed}
 use Rattle.picky_ppk.specs.Keyed.{can_derive, keys_under}
 use Rattle.picky_ppk.specs.Mac.{CarriesMac, mac_under, own_mac}
-use Rattle.picky_ppk.specs.Sealed.{lacking, padding_len, sealing_under, draft_of, seal_draft, is_sealable, not_sealable, encrypted}
+use Rattle.picky_ppk.specs.Sealed.{lacking, padding_len, sealing_under, file_to_seal, seal_draft, is_sealable, not_sealable, encrypted}
 use Rattle.picky_ppk.specs.Opened.{is_openable, not_openable, opened_file, unsealed, decrypted}
 
 -- ---- tests
@@ -78,7 +78,7 @@ resealed m f sealing = record f { sealing = sealing; mac = own_mac m (record f {
 
 -- What was sealed of a file's own bytes is, unsealed, the file.
 unsealed_again : (m : Meanings) (keys : Keys) (config : PpkEncryptionConfig) (salt padding : List ℕ) (f : PpkFile)
-    → CarriesMac m f → unsealed m (seal_draft m keys (draft_of config salt padding f)) f.private_bytes ≡ f
+    → CarriesMac m f → unsealed m (seal_draft m keys (file_to_seal config salt padding f)) f.private_bytes ≡ f
 unfolding own_mac
 unsealed_again m keys config salt padding f carries =
     let sealing : Unsealed (version_of (sealing_under (version_of f.sealing) config salt)) ≡ f.sealing =
@@ -89,11 +89,11 @@ unsealed_again m keys config salt padding f carries =
 draft_opened : (m : Meanings) (pass : List ℕ) (config : PpkEncryptionConfig) (salt padding : List ℕ) (f : PpkFile)
     → CarriesMac m f → counted f.algorithm f.private_bytes ≡ Ok (length f.private_bytes)
     → length padding ≡ padding_len f → can_derive (sealing_under (version_of f.sealing) config salt) pass ≡ true
-    → let draft = draft_of config salt padding f in
+    → let draft = file_to_seal config salt padding f in
     decrypted m pass (seal_draft m (keys_under m draft.sealing pass) draft) ≡ Ok f
 unfolding decrypted
 draft_opened m pass config salt padding f carries is len derives =
-    let draft = draft_of config salt padding f in
+    let draft = file_to_seal config salt padding f in
     let keys = keys_under m draft.sealing pass in
     let sealed = seal_draft m keys draft in
     let plain = f.private_bytes ++ padding in
@@ -122,7 +122,7 @@ pub sealed_opened : (m : Meanings) (pass salt padding : List ℕ) (config : PpkE
     → decrypted m pass sealed ≡ Ok f
 unfolding encrypted
 sealed_opened m pass salt padding config f sealed carries is len made =
-    let draft = draft_of config salt padding f in
+    let draft = file_to_seal config salt padding f in
     let both = passed_ok (is_sealable pass f draft) (not_sealable pass f draft)
     (seal_draft m (keys_under m draft.sealing pass) draft) sealed made in
     let derives = middle_true _ _ _ both.0 in

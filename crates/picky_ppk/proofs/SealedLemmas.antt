@@ -14,7 +14,7 @@ use Rattle.picky_ppk_parts.specs.Material.{params_fit}
 use Rattle.picky_ppk_file.specs.declared.file.PpkFile.{PpkFile}
 use Rattle.picky_ppk_file.specs.File.{version_of, is_sealed}
 use Rattle.picky_ppk.specs.Keyed.{can_derive}
-use Rattle.picky_ppk.specs.Sealed.{sealing_under, draft_of, is_sealable, not_sealable}
+use Rattle.picky_ppk.specs.Sealed.{sealing_under, file_to_seal, is_sealable, not_sealable}
 use Rattle.picky_ppk.specs.Fresh.{can_derive_by, can_draw, not_drawn}
 
 -- the salt is as long as the configuration says, where there is one
@@ -32,7 +32,7 @@ derives_by V3 config salt pass len =
 
 -- What is judged of the draft is what is judged before the generator is asked, and its length.
 judged_as : (pass : List ℕ) (config : PpkEncryptionConfig) (salt padding : List ℕ) (f : PpkFile) → IsSaltOf config salt f
-    → is_sealable pass f (draft_of config salt padding f) ≡ (can_draw pass config f && is_short (f.private_bytes ++ padding))
+    → is_sealable pass f (file_to_seal config salt padding f) ≡ (can_draw pass config f && is_short (f.private_bytes ++ padding))
 judged_as pass config salt padding f len =
     ap (λ b. not (is_sealed f.sealing) && b && is_short (f.private_bytes ++ padding))
     (derives_by (version_of f.sealing) config salt pass len)
@@ -55,14 +55,14 @@ last_reason false false is = cc is
 
 reason_as : (pass : List ℕ) (config : PpkEncryptionConfig) (salt padding : List ℕ) (f : PpkFile) → IsSaltOf config salt f
     → reason (is_sealed f.sealing) (can_derive_by (version_of f.sealing) config pass)
-    ≡ not_sealable pass f (draft_of config salt padding f)
+    ≡ not_sealable pass f (file_to_seal config salt padding f)
 reason_as pass config salt padding f len =
     ap (reason (is_sealed f.sealing)) (sym (derives_by (version_of f.sealing) config salt pass len))
 
 -- A draft that fits is sealable.
 pub draft_fits : (pass : List ℕ) (config : PpkEncryptionConfig) (salt padding : List ℕ) (f : PpkFile)
     → IsSaltOf config salt f → can_draw pass config f ≡ true → length f.private_bytes + length padding < 2 ^ 32
-    → is_sealable pass f (draft_of config salt padding f) ≡ true
+    → is_sealable pass f (file_to_seal config salt padding f) ≡ true
 draft_fits pass config salt padding f len can short =
     judged_as pass config salt padding f len ∙ ap (λ b. b && is_short (f.private_bytes ++ padding)) can
     ∙ lt-ltb (length (f.private_bytes ++ padding)) (2 ^ 32) (omega (arith, length-append f.private_bytes padding))
@@ -70,8 +70,8 @@ draft_fits pass config salt padding f len can short =
 -- One that is too long isn't, for that reason.
 pub draft_too_long : (pass : List ℕ) (config : PpkEncryptionConfig) (salt padding : List ℕ) (f : PpkFile)
     → IsSaltOf config salt f → can_draw pass config f ≡ true → 2 ^ 32 ≤ length f.private_bytes + length padding
-    → (is_sealable pass f (draft_of config salt padding f) ≡ false)
-    × (errors.TooLong ≡ not_sealable pass f (draft_of config salt padding f))
+    → (is_sealable pass f (file_to_seal config salt padding f) ≡ false)
+    × (errors.TooLong ≡ not_sealable pass f (file_to_seal config salt padding f))
 draft_too_long pass config salt padding f len can long = (
   judged_as pass config salt padding f len ∙ ap (λ b. b && is_short (f.private_bytes ++ padding)) can
       ∙ le-ltb (length (f.private_bytes ++ padding)) (2 ^ 32) (omega (arith, length-append f.private_bytes padding)),
@@ -82,8 +82,8 @@ draft_too_long pass config salt padding f len can long = (
 -- What isn't drawn for isn't sealable, for the same reason.
 pub undrawn_refused : (pass : List ℕ) (config : PpkEncryptionConfig) (salt padding : List ℕ) (f : PpkFile)
     → IsSaltOf config salt f → can_draw pass config f ≡ false
-    → (is_sealable pass f (draft_of config salt padding f) ≡ false)
-    × (not_drawn f ≡ not_sealable pass f (draft_of config salt padding f))
+    → (is_sealable pass f (file_to_seal config salt padding f) ≡ false)
+    × (not_drawn f ≡ not_sealable pass f (file_to_seal config salt padding f))
 undrawn_refused pass config salt padding f len cannot = (
   judged_as pass config salt padding f len ∙ ap (λ b. b && is_short (f.private_bytes ++ padding)) cannot,
   first_reason (is_sealed f.sealing) (can_derive_by (version_of f.sealing) config pass) cannot

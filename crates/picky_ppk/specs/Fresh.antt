@@ -13,7 +13,7 @@ use Rattle.picky_ppk_parts.specs.declared.error.PuttyError.{PuttyError}
 use Rattle.picky_ppk_parts.specs.declared.error.PuttyError.TheVariants as errors
 use Rattle.picky_ppk_file.specs.declared.file.PpkFile.{PpkFile}
 use Rattle.picky_ppk_file.specs.File.{version_of, is_sealed}
-use Rattle.picky_ppk.specs.Sealed.{lacking, padding_len, encrypted, draft_of, is_sealable}
+use Rattle.picky_ppk.specs.Sealed.{lacking, padding_len, encrypted, file_to_seal, is_sealable}
 
 -- so many bytes of a generator, which isn't asked for none, and what is left of it
 abbrev pub drawn : ℕ → Stream → List ℕ × Stream
@@ -68,7 +68,7 @@ encrypted_fresh m pass config f stream =
 unfoldable pub asks_fresh : (pass : List ℕ) → PpkEncryptionConfig → PpkFile → Stream → Bool
 asks_fresh pass config f stream =
     let fresh = fresh_for config f stream in
-    can_draw pass config f && is_sealable pass f (draft_of config fresh.salt fresh.padding f)
+    can_draw pass config f && is_sealable pass f (file_to_seal config fresh.salt fresh.padding f)
 
 -- ---- a message
 

@@ -34,8 +34,8 @@ sealing_under V3 config salt = SealedV3 (record {
 })
 
 -- the file as it is sealed by this, with its private bytes and padding still open
-abbrev pub draft_of : PpkEncryptionConfig → (salt padding : List ℕ) → PpkFile → PpkFile
-draft_of config salt padding f = record f {
+abbrev pub file_to_seal : PpkEncryptionConfig → (salt padding : List ℕ) → PpkFile → PpkFile
+file_to_seal config salt padding f = record f {
   sealing = sealing_under (version_of f.sealing) config salt;
   private_bytes = f.private_bytes ++ padding;
 }
@@ -63,6 +63,6 @@ not_sealable pass f draft =
 unfoldable pub encrypted : Meanings → (pass : List ℕ) → PpkEncryptionConfig → (salt padding : List ℕ) → PpkFile
     → Result PpkFile PuttyError
 encrypted m pass config salt padding f =
-    let draft = draft_of config salt padding f in
+    let draft = file_to_seal config salt padding f in
     if is_sealable pass f draft then Ok (seal_draft m (keys_under m draft.sealing pass) draft)
     else Err (not_sealable pass f draft)

@@ -4,7 +4,7 @@ ghost use Rattle.std.specs.Prelude.{◌≡◌, ◌<◌, ◌^◌, ◌+◌, ◌++�
 ghost use Rattle.picky_kv_words.specs.declared.choices.PpkVersionKey.TheVariants.{V3};
 ghost use Rattle.picky_sshpub.specs.LineRefusal.{is_short};
 ghost use Rattle.picky_ppk_file.specs.File.{version_of};
-ghost use Rattle.picky_ppk.specs.Sealed.{draft_of, sealing_under as sealing_under_of};
+ghost use Rattle.picky_ppk.specs.Sealed.{file_to_seal, sealing_under as sealing_under_of};
 
 use picky_ppk_file::{PpkFile, PpkSealing};
 use picky_ppk_parts::{Argon2Params, PpkEncryptionConfig, PpkVersion};
@@ -22,7 +22,7 @@ pub fn file_draft(
 ) -> Result<PpkFile, NoMemory>
     requires salt { version_of file.now.sealing ≡ V3 → length salt.now ≡ config.argon2_salt_size }
     requires short { is_short (file.now.private_bytes ++ padding.now) ≡ true }
-    ensures { IfOk result (λ draft. draft ≡ record (draft_of config salt.now padding.now file.now) { mac = [] }) }
+    ensures { IfOk result (λ draft. draft ≡ record (file_to_seal config salt.now padding.now file.now) { mac = [] }) }
 {
     let sealing = sealing_under(alloc, file.sealing.version(), config, salt);
     let texts = both(
@@ -73,13 +73,13 @@ fn padded(alloc: Global, private: &[u8], padding: &[u8]) -> Result<Bytes, NoMemo
     requires { is_short (private.now ++ padding.now) ≡ true }
     ensures { IfOk result (λ bytes. bytes ≡ private.now ++ padding.now) }
 {
-    match joined(alloc, private, padding) {
+    match padded_private_bytes(alloc, private, padding) {
         Ok(bytes) => Ok(Bytes::from_vec(bytes)),
         Err(_) => Err(NoMemory),
     }
 }
 
-fn joined(alloc: Global, front: &[u8], back: &[u8]) -> Result<Vec<u8>, AllocError>
+fn padded_private_bytes(alloc: Global, front: &[u8], back: &[u8]) -> Result<Vec<u8>, AllocError>
     requires { length front.now + length back.now < 2 ^ 32 }
     ensures { IfOk result (λ bytes. bytes.items ≡ front.now ++ back.now) }
 {

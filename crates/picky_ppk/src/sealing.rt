@@ -8,7 +8,7 @@ ghost use Rattle.picky_ppk_parts.specs.Aes.{is_aligned};
 ghost use Rattle.picky_ppk_file.specs.File.{version_of};
 ghost use Rattle.picky_ppk.specs.Keyed.{can_derive, keys_under};
 ghost use Rattle.picky_ppk.specs.Mac.{mac_under};
-ghost use Rattle.picky_ppk.specs.Sealed.{padding_len, encrypted, is_sealable, not_sealable, draft_of, seal_draft};
+ghost use Rattle.picky_ppk.specs.Sealed.{padding_len, encrypted, is_sealable, not_sealable, file_to_seal, seal_draft};
 ghost use Rattle.picky_ppk.specs.Fresh.{IsDrawnFrom, fresh_for, can_draw, not_drawn, encrypted_fresh, asks_fresh};
 ghost use Rattle.picky_ppk.specs.Fresh.{can_derive_by as can_derive_by_of};
 ghost use Rattle.picky_ppk.specs.inner.Keys.{keys_seen};
@@ -45,10 +45,10 @@ impl Ppk {
         requires salt { version_of self.now.sealing ≡ V3 → length salt.now ≡ config.argon2_salt_size }
         ensures gives { GivesAsked PuttyError.NoMemory PuttyError.SuiteFault (λ ppk. ppk) result
             (encrypted (S.meanings suite.old) passphrase.now config salt.now padding.now self.now)
-            (is_sealable passphrase.now self.now (draft_of config salt.now padding.now self.now))
+            (is_sealable passphrase.now self.now (file_to_seal config salt.now padding.now self.now))
             (Rose (S.faults suite.old) (S.faults suite.new)) }
         ensures suite { LeavesSuite S.meanings S.faults PuttyError.SuiteFault
-            (is_sealable passphrase.now self.now (draft_of config salt.now padding.now self.now)) result
+            (is_sealable passphrase.now self.now (file_to_seal config salt.now padding.now self.now)) result
             suite.old suite.new }
     {
         match sealable(self.file(), passphrase, config, salt, padding) {
@@ -127,9 +127,9 @@ fn sealable(
 ) -> Result<(), PuttyError>
     requires padding { length padding.now < 16 }
     requires salt { version_of file.now.sealing ≡ V3 → length salt.now ≡ config.argon2_salt_size }
-    ensures ok { OnOk result (is_sealable passphrase.now file.now (draft_of config salt.now padding.now file.now) ≡ true) }
-    ensures err { IfErr result (λ e. (is_sealable passphrase.now file.now (draft_of config salt.now padding.now file.now) ≡ false)
-        × (e ≡ not_sealable passphrase.now file.now (draft_of config salt.now padding.now file.now))) }
+    ensures ok { OnOk result (is_sealable passphrase.now file.now (file_to_seal config salt.now padding.now file.now) ≡ true) }
+    ensures err { IfErr result (λ e. (is_sealable passphrase.now file.now (file_to_seal config salt.now padding.now file.now) ≡ false)
+        × (e ≡ not_sealable passphrase.now file.now (file_to_seal config salt.now padding.now file.now))) }
 {
     match drawable(file, passphrase, config) {
         Ok(()) => {

@@ -3,7 +3,7 @@ use Rattle.std.proofs.Common.{◌≡◌, ℕ, List, Bool, true, false, Option, S
 use Rattle.std.proofs.Common.{◌∙◌}
 use Rattle.picky_layout.specs.Outcome.{and_then}
 use Rattle.picky_layout.specs.carried.Outcome.{same_pair}
-use Rattle.picky_kv_words.specs.Field.{Field, judged}
+use Rattle.picky_kv_words.specs.Field.{Field, judged_value}
 use Rattle.picky_kv.specs.Lines.{next_pair, next_block, value_alone}
 use Rattle.picky_kv.specs.Parts.{IsPair, IsBlock}
 use Rattle.picky_kv.specs.declared.error.KvError.{KvError}
@@ -58,11 +58,11 @@ block_means key value context ls k v after is =
 
 -- A value that is given is what its text means, and not too big.
 pub judged_ok : {A : Type 0} (is_big : A → Bool) (expected text : List ℕ) (meaning : Option A) (v : A)
-    → judged is_big expected text meaning ≡ Ok v → (meaning ≡ Some v) × (is_big v ≡ false)
+    → judged_value is_big expected text meaning ≡ Ok v → (meaning ≡ Some v) × (is_big v ≡ false)
 judged_ok is_big expected text None v is = cc is
 judged_ok is_big expected text (Some w) v is = given (is_big w) refl is
   where
-    given : (big : Bool) → is_big w ≡ big → judged is_big expected text (Some w) ≡ Ok v
+    given : (big : Bool) → is_big w ≡ big → judged_value is_big expected text (Some w) ≡ Ok v
         → (Some w ≡ Some v) × (is_big v ≡ false)
     given true big is = cc (rw big at is)
     given false few is =

@@ -18,7 +18,7 @@ use Rattle.picky_sshkey_blob.specs.Key.{IsPrivateKey}
 use Rattle.picky_ppk_parts.specs.declared.key_parts.KeyParts.{KeyParts}
 use Rattle.picky_ppk_parts.specs.Algorithm.{algorithm_of, curve_algorithm}
 use Rattle.picky_ppk_parts.specs.Secret.{RsaSecret, rsa_secret, ed_secret, secret_bytes}
-use Rattle.picky_ppk_parts.specs.Secret.{rsa_fields, ec_fields, ed_fields, fields_of}
+use Rattle.picky_ppk_parts.specs.Secret.{rsa_fields, ec_fields, ed_fields, ppk_secret_fields}
 use Rattle.picky_ppk_parts.specs.Parts.{StandsForKey}
 use Rattle.picky_ppk_parts.specs.PartsRefusal.{flaw_error}
 use Rattle.picky_ppk_parts.specs.KeyParts.{key_parts}
@@ -119,7 +119,7 @@ curve_counts_one NistP384 bytes are = are
 curve_counts_one NistP521 bytes are = are
 
 -- The secret's fields are the counted strings.
-fields_are_strings : (public : PublicKey) (key : SshBasePrivateKey) (bytes : List ℕ) → (fields_of public).piece key bytes
+fields_are_strings : (public : PublicKey) (key : SshBasePrivateKey) (bytes : List ℕ) → (ppk_secret_fields public).piece key bytes
     → AreStrings (mpint_values_count (algorithm_of public)) bytes
 unfolding rsa_fields ec_fields ed_fields
 fields_are_strings (plain.Rsa e n) key bytes (secret, x, y, spells, (is, none), joined) =
@@ -130,7 +130,7 @@ fields_are_strings (plain.Ed public) key bytes (secret, x, y, spells, (is, none)
     whole 1 x y bytes (ed_is_string secret x spells) none joined
 
 fields_counted : (algorithm : PpkKeyAlgorithmValue) (public : PublicKey) (key : SshBasePrivateKey) (front rest : List ℕ)
-    → algorithm ≡ algorithm_of public → (fields_of public).piece key front
+    → algorithm ≡ algorithm_of public → (ppk_secret_fields public).piece key front
     → counted algorithm (front ++ rest) ≡ Ok (length front)
 fields_counted algorithm public key front rest named spells =
     let are = fields_are_strings public key front spells in

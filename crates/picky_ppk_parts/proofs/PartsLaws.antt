@@ -12,7 +12,7 @@ use Rattle.picky_sshpub.proofs.LineLaws.{blob_key_of, blob_key_fits}
 use Rattle.picky_sshkey_blob.specs.declared.key.SshBasePrivateKey.{SshBasePrivateKey}
 use Rattle.picky_ppk_parts.specs.declared.error.PuttyError.TheVariants as errors
 use Rattle.picky_ppk_parts.specs.Algorithm.{ssh_key_of, key_under}
-use Rattle.picky_ppk_parts.specs.Secret.{fields_of}
+use Rattle.picky_ppk_parts.specs.Secret.{ppk_secret_fields}
 use Rattle.picky_ppk_parts.specs.Parts.{StandsForKey}
 use Rattle.picky_ppk_parts.specs.PartsRefusal.{secret_error, key_with_secret, public_key_under, parts_key}
 use Rattle.picky_ppk_parts.proofs.AlgorithmLemmas.{key_is_named, named_is_under}
@@ -26,12 +26,12 @@ parts_sound algorithm blob private key is =
     let found = and_then_ok (map_err errors.SshPublicKey (blob_key blob)) (key_under algorithm) both.0 both.1 in
     let named = key_is_named algorithm found.0 both.0 found.2 in
     let read = map_err_ok errors.SshPublicKey (blob_key blob) found.0 found.1 in
-    let secret = map_err_ok secret_error (read_front (fields_of both.0) private) key both.2 in
+    let secret = map_err_ok secret_error (read_front (ppk_secret_fields both.0) private) key both.2 in
     record {
       public = both.0;
       named = named.named;
       blob_begins = subst (λ k. Begins blob_layout.piece blob k) named.same (blob_key_fits blob found.0 read);
-      private_begins = front_sound (fields_of both.0) private key secret;
+      private_begins = front_sound (ppk_secret_fields both.0) private key secret;
     }
 
 -- What stands there is read.
@@ -46,7 +46,7 @@ parts_complete algorithm blob private key stands =
     ap (λ r. and_then (map_err errors.SshPublicKey r) (key_under algorithm)) read
     ∙ ap (λ a. key_under a (ssh_key_of public)) stands.named ∙ named_is_under public in
     let secret : key_with_secret public private ≡ Ok key =
-    ap (map_err secret_error) (front_complete (fields_of public) private key stands.private_begins) in
+    ap (map_err secret_error) (front_complete (ppk_secret_fields public) private key stands.private_begins) in
     ap (λ r. and_then r (λ p. key_with_secret p private)) under ∙ secret
 
 -- So the parts stand for one key.

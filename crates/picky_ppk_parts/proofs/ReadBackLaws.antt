@@ -27,7 +27,7 @@ use Rattle.picky_sshkey_blob.proofs.KeyLaws.{public_part_is_key}
 use Rattle.picky_ppk_parts.specs.declared.error.PuttyError.TheVariants as errors
 use Rattle.picky_ppk_parts.specs.declared.key_parts.KeyParts.{KeyParts}
 use Rattle.picky_ppk_parts.specs.Algorithm.{algorithm_of, curve_algorithm, ssh_key_of}
-use Rattle.picky_ppk_parts.specs.Secret.{rsa_secret, ed_secret, rsa_fields, ec_fields, ed_fields, fields_of, secret_bytes}
+use Rattle.picky_ppk_parts.specs.Secret.{rsa_secret, ed_secret, rsa_fields, ec_fields, ed_fields, ppk_secret_fields, secret_bytes}
 use Rattle.picky_ppk_parts.specs.Parts.{StandsForKey}
 use Rattle.picky_ppk_parts.specs.PartsRefusal.{parts_key}
 use Rattle.picky_ppk_parts.specs.KeyParts.{blob_within, parts_under, key_parts}
@@ -100,7 +100,7 @@ parts_are key algorithm parts made =
     ap (parts_with key algorithm) blob.1 ∙ whole.1
 
 stands : (key : SshBasePrivateKey) (public : PublicKey) → ssh_key_of public ≡ public_part key → IsKey (public_part key)
-    → (fields_of public).piece key (secret_bytes key)
+    → (ppk_secret_fields public).piece key (secret_bytes key)
     → StandsForKey (algorithm_of public) (blob_of (public_part key)) (secret_bytes key) key
 stands key public same is spells =
     let bytes = blob_of (public_part key) in
@@ -116,7 +116,7 @@ stands key public same is spells =
 pub record Makes (key : SshBasePrivateKey) (parts : KeyParts) : Type 0 where
   pub public : PublicKey
   pub same : ssh_key_of public ≡ public_part key
-  pub spells : (fields_of public).piece key (secret_bytes key)
+  pub spells : (ppk_secret_fields public).piece key (secret_bytes key)
   pub are : parts_of key (algorithm_of public) ≡ parts
 
 -- Each key that makes parts is of a kind that PuTTY has.

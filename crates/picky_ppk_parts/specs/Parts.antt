@@ -6,7 +6,7 @@ use Rattle.picky_keys.specs.declared.public_key.PublicKey.{PublicKey}
 use Rattle.picky_sshpub.specs.Blob.{blob as blob_layout}
 use Rattle.picky_sshkey_blob.specs.declared.key.SshBasePrivateKey.{SshBasePrivateKey}
 use Rattle.picky_ppk_parts.specs.Algorithm.{algorithm_of, ssh_key_of}
-use Rattle.picky_ppk_parts.specs.Secret.{fields_of}
+use Rattle.picky_ppk_parts.specs.Secret.{ppk_secret_fields}
 
 -- the blob begins with a spelling of a public key that the algorithm names, and the private bytes with one of the key's
 -- secret; what follows either says nothing
@@ -14,4 +14,4 @@ pub record StandsForKey (algorithm : PpkKeyAlgorithmValue) (blob private : List 
   pub public : PublicKey
   pub named : algorithm ≡ algorithm_of public
   pub blob_begins : Begins blob_layout.piece blob (ssh_key_of public)
-  pub private_begins : Begins (fields_of public).piece private key
+  pub private_begins : Begins (ppk_secret_fields public).piece private key

@@ -12,7 +12,7 @@ use Rattle.picky_sshkey_blob.specs.declared.key.SshBasePrivateKey.{SshBasePrivat
 use Rattle.picky_ppk_parts.specs.declared.error.PuttyError.{PuttyError}
 use Rattle.picky_ppk_parts.specs.declared.error.PuttyError.TheVariants as errors
 use Rattle.picky_ppk_parts.specs.Algorithm.{key_under}
-use Rattle.picky_ppk_parts.specs.Secret.{fields_of}
+use Rattle.picky_ppk_parts.specs.Secret.{ppk_secret_fields}
 
 -- the error for what is wrong with a field of the private bytes, which have no text
 abbrev pub flaw_error : Flaw → PuttyError
@@ -33,7 +33,7 @@ secret_error reason = why_error reason.1
 
 -- the key of a public key and the secret that the private bytes begin with
 unfoldable pub key_with_secret : PublicKey → List ℕ → Result SshBasePrivateKey PuttyError
-key_with_secret public private = map_err secret_error (read_front (fields_of public) private)
+key_with_secret public private = map_err secret_error (read_front (ppk_secret_fields public) private)
 
 -- the public key in the blob
 abbrev pub key_in_blob : List ℕ → Result SshBasePublicKey PuttyError

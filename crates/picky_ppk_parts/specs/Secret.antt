@@ -61,10 +61,10 @@ ed_fields public = do
   done (keys.Ed secret public)
 
 -- the public key says which secret follows
-abbrev pub fields_of : PublicKey → Grammar Reason SshBasePrivateKey
-fields_of (plain.Rsa e n) = rsa_fields e n
-fields_of (plain.Ec curve point) = ec_fields curve point
-fields_of (plain.Ed public) = ed_fields public
+abbrev pub ppk_secret_fields : PublicKey → Grammar Reason SshBasePrivateKey
+ppk_secret_fields (plain.Rsa e n) = rsa_fields e n
+ppk_secret_fields (plain.Ec curve point) = ec_fields curve point
+ppk_secret_fields (plain.Ed public) = ed_fields public
 
 -- ---- the one spelling that is written; PuTTY has no key whose secret a device keeps
 

@@ -7,7 +7,7 @@ use picky_wire::{NoMemory, Piece, pieces_len, push_pieces};
 use std::alloc::{AllocError, Global};
 
 /// The fields' bytes. Refuses: `NoMemory`.
-pub fn joined(alloc: Global, fields: &[Piece<'_>]) -> Result<Vec<u8>, NoMemory>
+pub fn joined_pieces(alloc: Global, fields: &[Piece<'_>]) -> Result<Vec<u8>, NoMemory>
     ensures { IfOk result (λ bytes. bytes.items ≡ concat fields.now) }
 {
     match filled(alloc, fields) {

@@ -9,7 +9,7 @@ ghost use Rattle.picky_ppk_parts.specs.KeyParts.{blob_within, parts_under as par
 
 use crate::algorithm::curve_algorithm;
 use crate::error::PuttyError;
-use crate::joined::joined;
+use crate::joined::joined_pieces;
 use crate::names::PpkKeyAlgorithm;
 use crate::unsupported::no_hardware_keys;
 use picky_sshkey_blob::SshBasePrivateKey;
@@ -134,7 +134,7 @@ fn secret_bytes(alloc: Global, key: &SshBasePrivateKey) -> Result<Vec<u8>, NoMem
     ensures { IfOk result (λ bytes. bytes.items ≡ secret_bytes_of key.now) }
 {
     match key {
-        SshBasePrivateKey::Rsa { d, p, q, iqmp, .. } => joined(
+        SshBasePrivateKey::Rsa { d, p, q, iqmp, .. } => joined_pieces(
             alloc,
             &[
                 Piece::mpint(d),
@@ -143,9 +143,9 @@ fn secret_bytes(alloc: Global, key: &SshBasePrivateKey) -> Result<Vec<u8>, NoMem
                 Piece::mpint(iqmp),
             ],
         ),
-        SshBasePrivateKey::Ec { secret, .. } => joined(alloc, &[Piece::mpint(secret)]),
+        SshBasePrivateKey::Ec { secret, .. } => joined_pieces(alloc, &[Piece::mpint(secret)]),
         SshBasePrivateKey::Ed { secret, .. } => match Mpint::from_be(alloc, secret) {
-            Ok(number) => joined(alloc, &[Piece::mpint(&number)]),
+            Ok(number) => joined_pieces(alloc, &[Piece::mpint(&number)]),
             Err(_) => Err(NoMemory),
         },
         SshBasePrivateKey::SkEcdsaSha2NistP256 { .. } | SshBasePrivateKey::SkEd25519 { .. } => {

@@ -6,7 +6,7 @@ ghost use Rattle.picky_ppk_parts.specs.Mac.{input_bytes, mac_of, mac_bytes};
 ghost use Rattle.picky_ppk_parts.specs.Mac.{mac_key_v2 as mac_key_v2_of, plain_mac_key as plain_mac_key_of};
 
 use crate::error::PuttyError;
-use crate::joined::joined;
+use crate::joined::joined_pieces;
 use crate::names::PpkVersion;
 use picky_suite::Suite;
 use picky_wire::{MAX_LEN, NoMemory, Piece};
@@ -91,7 +91,7 @@ pub fn mac_input(
         Piece::string(public),
         Piece::string(private),
     ];
-    match joined(alloc, &fields) {
+    match joined_pieces(alloc, &fields) {
         Ok(input) => Ok(input),
         Err(NoMemory) => Err(PuttyError::NoMemory),
     }

@@ -64,7 +64,7 @@ fn rsa_key(
             Ok(key) => Ok(key),
             Err(NoMemory) => Err(PuttyError::NoMemory),
         },
-        Err(stuck) => Err(refusal(stuck)),
+        Err(stuck) => Err(private_bytes_refusal(stuck)),
     }
 }
 
@@ -87,7 +87,7 @@ fn ec_key(
             }),
             Err(NoMemory) => Err(PuttyError::NoMemory),
         },
-        Err(stuck) => Err(refusal(stuck)),
+        Err(stuck) => Err(private_bytes_refusal(stuck)),
     }
 }
 
@@ -101,7 +101,7 @@ fn ed_key(public: [u8; 32], private: &[u8]) -> Result<SshBasePrivateKey, PuttyEr
             let secret = padded(number.bytes);
             Ok(SshBasePrivateKey::Ed { secret, public })
         }
-        Err(stuck) => Err(refusal(stuck)),
+        Err(stuck) => Err(private_bytes_refusal(stuck)),
     }
 }
 
@@ -184,7 +184,7 @@ fn rsa_copy(
 }
 
 /// The error of private bytes that are stuck at a field.
-fn refusal(stuck: Stuck<'_>) -> PuttyError
+fn private_bytes_refusal(stuck: Stuck<'_>) -> PuttyError
     ensures { result ≡ why_error (why_of stuck.entry) }
 {
     match stuck {

@@ -73,7 +73,7 @@ fn said_of(alloc: Global, words: LineWords<'_>) -> Result<Option<CertRequestLine
     let (Some(after), Some(before)) = (number_of(words.after), number_of(words.before)) else {
         return Ok(None);
     };
-    let Some(key) = key_of(alloc, words.key)? else {
+    let Some(key) = key_of_public_line(alloc, words.key)? else {
         return Ok(None);
     };
     let id = text_of(alloc, words.id)?;
@@ -88,7 +88,7 @@ fn said_of(alloc: Global, words: LineWords<'_>) -> Result<Option<CertRequestLine
 }
 
 /// The key of a public line, where that is one. Refuses: `NoMemory`.
-fn key_of(alloc: Global, line: &str) -> Result<Option<SshPublicKey>, NoMemory>
+fn key_of_public_line(alloc: Global, line: &str) -> Result<Option<SshPublicKey>, NoMemory>
     ensures { IfOk result (λ key. key ≡ result_ok (line_meaning line.now)) }
 {
     match SshPublicKey::from_str(alloc, line) {

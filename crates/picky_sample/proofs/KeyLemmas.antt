@@ -6,7 +6,7 @@ use Rattle.picky_keys.specs.declared.kind.KeyKind.{KeyKind}
 use Rattle.picky_keys.specs.declared.kind.KeyKind.TheVariants as kinds
 use Rattle.picky_sshkey_blob.specs.Key.{IsPrivateKey, public_part}
 use Rattle.picky_putty_public.specs.PuttyRefusal.{is_hardware}
-use Rattle.picky_key_text.specs.Kept.{IsKept}
+use Rattle.picky_key_text.specs.Kept.{IsKeptMeaning}
 use Rattle.picky_sample.specs.Keys.{drawn_key, kind_at, meaning_at, numbers_len, secret_len}
 use Rattle.picky_sample.specs.Texts.{is_on_device}
 use Rattle.picky_sample.proofs.CommentLemmas.{comment_is_text}
@@ -70,5 +70,5 @@ key_is_of_kind (kinds.Ed algorithm) s = refl
 key_is_of_kind kinds.SkEcdsaSha2NistP256 s = refl
 key_is_of_kind kinds.SkEd25519 s = refl
 
-pub meaning_is_kept : (i : ℕ) → i < 2 ^ 16 → IsKept (meaning_at i)
+pub meaning_is_kept : (i : ℕ) → i < 2 ^ 16 → IsKeptMeaning (meaning_at i)
 meaning_is_kept i small = record { key = key_is_private (kind_at i) (i + 1); comment = comment_is_text i small }

@@ -15,7 +15,7 @@ use Rattle.picky_sshkey_blob.specs.declared.key.SshBasePrivateKey.TheVariants as
 use Rattle.picky_sshkey_blob.specs.Blob.{fields_spelled, secret_of}
 use Rattle.picky_sshkey_blob.specs.Key.{kind_of, public_part}
 use Rattle.picky_sshkey.specs.declared.private_key.SshPrivateKey.{SshPrivateKey}
-use Rattle.picky_sshkey.specs.Written.{count_up, envelope_of, fields_of, plain_block, unit_of}
+use Rattle.picky_sshkey.specs.Written.{count_up, envelope_of, unpadded_block, plain_block, unit_of}
 use Rattle.picky_sshkey.proofs.WrittenLemmas.{plain_len}
 use Rattle.picky_ppk_parts.specs.Secret.{secret_bytes}
 use Rattle.picky_target.specs.Drafts.{openssh_key}
@@ -176,8 +176,9 @@ count_size : (from n : ℕ) → length (count_up from n) ≡ n
 count_size from zero = refl
 count_size from (suc n) = ap suc (count_size (from + 1) n)
 
-block_fields_size : (key : SshPrivateKey) → IsSmallSecret key.base_key → length key.comment ≤ 9 → length (fields_of key) ≤ 1800
-unfolding fields_of
+block_fields_size : (key : SshPrivateKey) → IsSmallSecret key.base_key → length key.comment ≤ 9
+    → length (unpadded_block key) ≤ 1800
+unfolding unpadded_block
 block_fields_size key small comment =
     omega (
       arith,
@@ -198,8 +199,8 @@ block_size key small comment plain =
     rw unit
     (omega (
       arith,
-      length-append (fields_of key) (count_up 1 (8 - length (fields_of key) % 8)),
-      count_size 1 (8 - length (fields_of key) % 8),
+      length-append (unpadded_block key) (count_up 1 (8 - length (unpadded_block key) % 8)),
+      count_size 1 (8 - length (unpadded_block key) % 8),
       block_fields_size key small comment,
     ))
 

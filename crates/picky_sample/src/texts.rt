@@ -12,7 +12,7 @@ ghost use Rattle.picky_sample.specs.Texts.{is_on_device as is_on_device_of, text
 ghost use Rattle.picky_sample.specs.inner.Fed.{Feeds, five_targets};
 
 use crate::keys::{kind_of, meaning_of};
-use picky_conversion::{Given, convert_key};
+use picky_conversion::{ConversionGiven, convert_key};
 use picky_keys::KeyKind;
 use picky_ppk::{PpkEncryptionConfig, PpkVersion};
 use picky_suite::Suite;
@@ -159,7 +159,7 @@ fn converted<S: Suite>(
     ensures text { IfOk result (λ text. conversion (without_passphrase (S.meanings suite.old)) target from.now ≡ Ok text) }
     ensures suite { suite.new ≡ suite.old }
 {
-    let given = Given {
+    let given = ConversionGiven {
         pass_in: None,
         pass_out: None,
         fresh: &[],

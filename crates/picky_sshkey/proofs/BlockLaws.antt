@@ -10,9 +10,9 @@ use Rattle.picky_layout.proofs.Strings.{text_spells}
 use Rattle.picky_sshpub.proofs.ByteLaws.{bytes_first, bytes_joined, no_bytes, number_bytes, string_bytes_each}
 use Rattle.picky_sshkey_blob.specs.Blob.{secret_of}
 use Rattle.picky_sshkey.specs.declared.private_key.SshPrivateKey.{SshPrivateKey}
-use Rattle.picky_sshkey.specs.Kept.{IsKept}
+use Rattle.picky_sshkey.specs.Kept.{IsSshPrivateKey}
 use Rattle.picky_sshkey.specs.PrivateBlock.{PrivateBlock, check_numbers, private_block}
-use Rattle.picky_sshkey.specs.Written.{count_up, fields_of, padding_of, plain_block, unit_of}
+use Rattle.picky_sshkey.specs.Written.{count_up, unpadded_block, padding_of, plain_block, unit_of}
 use Rattle.picky_sshkey_blob.specs.carried.Blob.{secret_spells}
 use Rattle.picky_sshkey.proofs.SecretLaws.{secret_is_bytes}
 
@@ -33,8 +33,8 @@ checks_spell n small = (
 )
 
 -- The fields that are written are a piece of the block's layout.
-pub block_spells : (key : SshPrivateKey) → IsKept key → private_block.piece (block_read key) (fields_of key)
-unfolding private_block fields_of
+pub block_spells : (key : SshPrivateKey) → IsSshPrivateKey key → private_block.piece (block_read key) (unpadded_block key)
+unfolding private_block unpadded_block
 block_spells key kept = (
   key.check,
   to_be_bytes w32 key.check ++ (to_be_bytes w32 key.check ++ []),
@@ -62,15 +62,15 @@ unit_small None = omega arith
 unit_small (Some pass) = omega arith
 
 -- The block that is written is bytes.
-pub block_is_bytes : (key : SshPrivateKey) → IsKept key → IsBytes (plain_block key)
-unfolding plain_block fields_of
+pub block_is_bytes : (key : SshPrivateKey) → IsSshPrivateKey key → IsBytes (plain_block key)
+unfolding plain_block unpadded_block
 block_is_bytes key kept =
     let check = number_bytes key.check in
     let small = unit_small key.passphrase in
     let fields : List ℕ = secret_of key.base_key ++ (string_of key.comment ++ []) in
-    bytes_joined (fields_of key) (padding_of (unit_of key.passphrase) (fields_of key))
+    bytes_joined (unpadded_block key) (padding_of (unit_of key.passphrase) (unpadded_block key))
     (bytes_joined (to_be_bytes w32 key.check) (to_be_bytes w32 key.check ++ fields) check
     (bytes_joined (to_be_bytes w32 key.check) fields check
     (bytes_joined _ _ (secret_is_bytes key.base_key kept.base_key)
     (bytes_joined _ [] (string_bytes_each key.comment kept.comment.string.bytes) no_bytes))))
-    (count_bytes 1 (unit_of key.passphrase - length (fields_of key) % unit_of key.passphrase) (omega (arith, small)))
+    (count_bytes 1 (unit_of key.passphrase - length (unpadded_block key) % unit_of key.passphrase) (omega (arith, small)))

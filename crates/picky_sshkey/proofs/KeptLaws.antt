@@ -24,11 +24,11 @@ use Rattle.picky_sshkey_blob.proofs.KeyLaws.{public_part_is_key}
 use Rattle.picky_sshkey.specs.declared.cipher.Cipher.TheVariants.{Aes256Ctr}
 use Rattle.picky_sshkey.specs.declared.kdf.KdfOption.{KdfOption}
 use Rattle.picky_sshkey.specs.declared.private_key.SshPrivateKey.{SshPrivateKey}
-use Rattle.picky_sshkey.specs.Kept.{IsKept, read_again}
+use Rattle.picky_sshkey.specs.Kept.{IsSshPrivateKey, read_again}
 use Rattle.picky_sshkey.specs.Opened.{Lock, opened}
 use Rattle.picky_sshkey.specs.PrivateRefusal.{content_key, text_key}
 use Rattle.picky_sshkey.specs.PrivateText.{IsOpened, IsPrivateContent, IsShortPass}
-use Rattle.picky_sshkey.specs.Written.{content_under, envelope_of, fields_of, key_content, key_text, lock_kept, may_derive}
+use Rattle.picky_sshkey.specs.Written.{content_under, envelope_of, unpadded_block, key_content, key_text, lock_kept, may_derive}
 use Rattle.picky_sshkey.specs.Written.{padding_of, plain_block, sealable, sealed_block, text_len, unit_of}
 use Rattle.picky_sshkey.specs.Written.{written_cipher, written_kdf, written_option}
 use Rattle.picky_sshkey.proofs.LockLaws.{length-opened, opened-opened, opened_bytes}
@@ -83,7 +83,7 @@ sealed_opens m key (Some pass) outer may =
     )
 
 -- What is sealed is bytes.
-sealed_bytes : (m : Meanings) (key : SshPrivateKey) (given : Option (List ℕ)) → IsKept key → IfSome given IsText
+sealed_bytes : (m : Meanings) (key : SshPrivateKey) (given : Option (List ℕ)) → IsSshPrivateKey key → IfSome given IsText
     → IsBytes (sealed_block m (lock_kept given) key)
 sealed_bytes m key None kept pass = block_is_bytes key kept
 sealed_bytes m key (Some text) kept pass =
@@ -127,12 +127,12 @@ written_short m key short =
 
 -- A block is its fields and their padding.
 plain_is : (key : SshPrivateKey)
-    → plain_block key ≡ fields_of key ++ padding_of (unit_of key.passphrase) (fields_of key)
+    → plain_block key ≡ unpadded_block key ++ padding_of (unit_of key.passphrase) (unpadded_block key)
 unfolding plain_block
 plain_is key = refl
 
 -- The content says the key that is read of it, whatever follows.
-pub written_says : (m : Meanings) (key : SshPrivateKey) (more : List ℕ) → IsKept key
+pub written_says : (m : Meanings) (key : SshPrivateKey) (more : List ℕ) → IsSshPrivateKey key
     → may_derive key.passphrase key.kdf.option ≡ true → length (envelope_of key (plain_block key)) < 2 ^ 32
     → IsPrivateContent m key.passphrase (content_under m key (lock_kept key.passphrase) ++ more) (read_again key)
 written_says m key more kept may short =
@@ -145,15 +145,15 @@ written_says m key more kept may short =
       plain = plain_block key;
       opened = sealed_opens m key key.passphrase outer may;
       block = block_read key;
-      padding = padding_of (unit_of key.passphrase) (fields_of key);
-      block_fits = (fields_of key, block_spells key kept, plain_is key);
+      padding = padding_of (unit_of key.passphrase) (unpadded_block key);
+      block_fits = (unpadded_block key, block_spells key kept, plain_is key);
       outer_rest = [];
       outer_fits = (outer, blob_spells (public_part key.base_key) (public_part_is_key key.base_key kept.base_key), sym (append-nil outer));
       key_is = refl;
     }
 
 -- The content that is written is read back, whatever follows it.
-pub content_reads_back : (m : Meanings) (key : SshPrivateKey) (content more : List ℕ) → IsKept key
+pub content_reads_back : (m : Meanings) (key : SshPrivateKey) (content more : List ℕ) → IsSshPrivateKey key
     → key_content m key ≡ Ok content → content_key m key.passphrase (content ++ more) ≡ Ok (read_again key)
 unfolding key_content
 content_reads_back m key content more kept has =
@@ -168,7 +168,7 @@ content_reads_back m key content more kept has =
 -- ---- the text
 
 -- The text of a content that is written is read back, whatever follows it.
-written_reads_back : (m : Meanings) (key : SshPrivateKey) (more : List ℕ) → IsKept key
+written_reads_back : (m : Meanings) (key : SshPrivateKey) (more : List ℕ) → IsSshPrivateKey key
     → may_derive key.passphrase key.kdf.option ≡ true → length (envelope_of key (plain_block key)) < 2 ^ 32
     → text_key m key.passphrase (pem_text (written m key) ++ more) ≡ Ok (read_again key)
 unfolding text_key
@@ -182,7 +182,7 @@ written_reads_back m key more kept may short =
     ∙ ap (content_key m key.passphrase) (sym (append-nil (written m key))) ∙ alone
 
 -- So is the text.
-pub text_reads_back : (m : Meanings) (key : SshPrivateKey) (text more : List ℕ) → IsKept key
+pub text_reads_back : (m : Meanings) (key : SshPrivateKey) (text more : List ℕ) → IsSshPrivateKey key
     → key_text m key ≡ Ok text → text_key m key.passphrase (text ++ more) ≡ Ok (read_again key)
 unfolding key_text
 text_reads_back m key text more kept has =
@@ -204,7 +204,7 @@ written_twice None option = refl
 written_twice (Some pass) option = refl
 
 -- A key that is read again is read again as it is.
-pub read_again-read_again : (key : SshPrivateKey) → IsKept key → read_again (read_again key) ≡ read_again key
+pub read_again-read_again : (key : SshPrivateKey) → IsSshPrivateKey key → read_again (read_again key) ≡ read_again key
 read_again-read_again key kept =
     let once = read_again key in
     ap (λ option. record once {
@@ -226,8 +226,8 @@ trimmed_keeps text is =
     }
 
 -- It keeps what a key does.
-pub IsKept-read_again : (key : SshPrivateKey) → IsKept key → IsKept (read_again key)
-IsKept-read_again key kept = record {
+pub IsSshPrivateKey-read_again : (key : SshPrivateKey) → IsSshPrivateKey key → IsSshPrivateKey (read_again key)
+IsSshPrivateKey-read_again key kept = record {
   base_key = kept.base_key;
   check = kept.check;
   comment = trimmed_keeps key.comment kept.comment;

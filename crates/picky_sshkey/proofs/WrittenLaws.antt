@@ -21,7 +21,7 @@ use Rattle.picky_sshkey.specs.declared.private_key.SshPrivateKey.{SshPrivateKey}
 use Rattle.picky_sshkey.specs.Envelope.{Envelope, envelope, envelope_fields, envelope_parts, magic}
 use Rattle.picky_sshkey.specs.Kdf.{HasRoom, is_no_option, kdf_option_of, no_option, option_fields}
 use Rattle.picky_sshkey.specs.KdfLayout.{IsOption, unwritten}
-use Rattle.picky_sshkey.specs.Kept.{IsKept}
+use Rattle.picky_sshkey.specs.Kept.{IsSshPrivateKey}
 use Rattle.picky_sshkey.specs.Written.{envelope_of, written_cipher, written_kdf, written_option}
 use Rattle.picky_sshkey.specs.carried.Kdf.{option_spells}
 use Rattle.picky_wire.proofs.WriteLemmas.{length-string_of}
@@ -135,7 +135,7 @@ parts_short key block short =
     }
 
 -- What is written after the names is a piece of its layout.
-parts_spell : (key : SshPrivateKey) (block : List ℕ) → IsKept key → IsShort key block
+parts_spell : (key : SshPrivateKey) (block : List ℕ) → IsSshPrivateKey key → IsShort key block
     → (envelope_parts (written_cipher key.passphrase) (written_kdf key.passphrase)).piece (envelope_read key block)
     (concat (kdf_option_of (written_option key.passphrase key.kdf.option) ∷ to_be_bytes w32 1
     ∷ string_of (blob_of (public_part key.base_key)) ∷ string_of block ∷ []))
@@ -166,7 +166,7 @@ parts_spell key block kept short =
     )
 
 -- The envelope that is written is a piece of its layout, where it is short.
-pub envelope_spells : (key : SshPrivateKey) (block : List ℕ) → IsKept key → length (envelope_of key block) < 2 ^ 32
+pub envelope_spells : (key : SshPrivateKey) (block : List ℕ) → IsSshPrivateKey key → length (envelope_of key block) < 2 ^ 32
     → envelope.piece (envelope_read key block) (envelope_of key block)
 unfolding envelope envelope_fields envelope_of
 envelope_spells key block kept short =
@@ -207,7 +207,7 @@ unfolding magic
 magic_bytes = bytes_by_test (codes "openssh-key-v1") refl
 
 -- It is bytes, where its block is.
-pub envelope_is_bytes : (key : SshPrivateKey) (block : List ℕ) → IsKept key → IsBytes block
+pub envelope_is_bytes : (key : SshPrivateKey) (block : List ℕ) → IsSshPrivateKey key → IsBytes block
     → IsBytes (envelope_of key block)
 unfolding envelope_of
 envelope_is_bytes key block kept each =

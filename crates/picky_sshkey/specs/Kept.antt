@@ -9,7 +9,7 @@ use Rattle.picky_sshkey.specs.KdfLayout.{IsOption}
 use Rattle.picky_sshkey.specs.Written.{written_cipher, written_kdf, written_option}
 
 -- what every value of the type keeps, of what is written: its key, its numbers and its texts
-pub record IsKept (key : SshPrivateKey) : Type 0 where
+pub record IsSshPrivateKey (key : SshPrivateKey) : Type 0 where
   pub base_key : IsPrivateKey key.base_key
   pub check : key.check < 2 ^ 32
   pub comment : IsText key.comment

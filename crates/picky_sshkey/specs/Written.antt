@@ -31,8 +31,8 @@ abbrev pub padding_of : ℕ → List ℕ → List ℕ
 padding_of unit block = count_up 1 (unit - length block % unit)
 
 -- the block without its padding
-unfoldable pub fields_of : SshPrivateKey → List ℕ
-fields_of key = concat (
+unfoldable pub unpadded_block : SshPrivateKey → List ℕ
+unpadded_block key = concat (
     to_be_bytes w32 key.check ∷ to_be_bytes w32 key.check ∷ secret_of key.base_key ∷ string_of key.comment ∷ [])
 
 -- what the padding fills: 16 bytes where the block is sealed, and else 8
@@ -42,7 +42,7 @@ unit_of (Some pass) = 16
 
 -- the block that is written or sealed
 unfoldable pub plain_block : SshPrivateKey → List ℕ
-plain_block key = fields_of key ++ padding_of (unit_of key.passphrase) (fields_of key)
+plain_block key = unpadded_block key ++ padding_of (unit_of key.passphrase) (unpadded_block key)
 
 -- the names and options that are written, whatever those are that the key has
 abbrev pub written_cipher : Option (List ℕ) → List ℕ

@@ -10,7 +10,7 @@ ghost use Rattle.picky_sshkey_blob.specs.View.{key_seen};
 ghost use Rattle.picky_sshkey.specs.PrivateBlock.{check_numbers, flaw_error, private_block};
 ghost use Rattle.picky_sshkey.specs.View.{block_seen};
 
-use picky_sshkey_blob::{PrivateView, SshPrivateKeyError, private_at, refusal};
+use picky_sshkey_blob::{PrivateView, SshPrivateKeyError, private_at, private_view_refusal};
 use picky_wire::{IoKind, Stuck, uint32_at, word_at};
 use std::alloc::Global;
 
@@ -40,7 +40,7 @@ pub fn block_in(alloc: Global, block: &[u8]) -> Result<BlockView<'_>, SshPrivate
     };
     let (key, next) = match private_at(block, next) {
         Ok(found) => found,
-        Err(stopped) => return Err(refusal(alloc, &stopped)),
+        Err(stopped) => return Err(private_view_refusal(alloc, &stopped)),
     };
     match word_at(block, next) {
         Ok((comment, _)) => Ok(BlockView {

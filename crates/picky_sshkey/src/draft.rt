@@ -20,7 +20,7 @@ const PADDING: [u8; 16] = [1, 2, 3, 4, 5, 6, 7, 8, 9, 10, 11, 12, 13, 14, 15, 16
 
 /// What is written of a key, before its block is sealed.
 #[derive(Drop)]
-pub struct Draft {
+pub struct PrivateKeyDraft {
     pub outer: Bytes,
     pub block: Vec<u8>,
     pub len: usize,
@@ -47,7 +47,7 @@ fn may_derive(key: &SshPrivateKey) -> bool
 /// The public key's blob and the block of a key, where its passphrase may be derived from and its envelope is short.
 /// Refuses, in order: `HashingError`, `TooLong`.
 #[tactic(auto, using(crate::proofs::WrittenLemmas::lengths))]
-pub fn draft_of(alloc: Global, key: &SshPrivateKey) -> Result<Draft, SshPrivateKeyError>
+pub fn private_key_draft(alloc: Global, key: &SshPrivateKey) -> Result<PrivateKeyDraft, SshPrivateKeyError>
     ensures ok { IfOk result (λ draft. IsDraft key.now draft) }
     ensures err { IfErr result (λ e. (e ≡ SshPrivateKeyError.NoMemory)
         ⊎ ((e ≡ SshPrivateKeyError.HashingError) × (may_derive_of key.now.passphrase key.now.kdf.option ≡ false))
@@ -69,7 +69,7 @@ pub fn draft_of(alloc: Global, key: &SshPrivateKey) -> Result<Draft, SshPrivateK
     if len > MAX_LEN {
         return Err(SshPrivateKeyError::TooLong);
     }
-    Ok(Draft { outer, block, len })
+    Ok(PrivateKeyDraft { outer, block, len })
 }
 
 /// The blob of the key's public part. Refuses, in order: `TooLong`, where it has 2^32 bytes or more.
@@ -102,7 +102,7 @@ fn outer_of(alloc: Global, base: &SshBasePrivateKey) -> Result<Bytes, SshPrivate
 }
 
 /// The block with its padding.
-#[tactic(auto, unfolding(crate::specs::Written::plain_block, crate::specs::Written::fields_of))]
+#[tactic(auto, unfolding(crate::specs::Written::plain_block, crate::specs::Written::unpadded_block))]
 fn block_of(alloc: Global, key: &SshPrivateKey) -> Result<Vec<u8>, AllocError>
     ensures block { IfOk result (λ block. block.items ≡ plain_block key.now) }
     ensures check { key.now.check < 2 ^ 32 }

@@ -46,7 +46,7 @@ pub fn envelope_in(content: &[u8]) -> Result<EnvelopeView<'_>, SshPrivateKeyErro
     };
     match fields_at(content, next) {
         Ok((seen, _)) => Ok(seen),
-        Err(stuck) => Err(refusal(stuck)),
+        Err(stuck) => Err(envelope_field_refusal(stuck)),
     }
 }
 
@@ -69,7 +69,7 @@ fn magic_at(content: &[u8]) -> Result<usize, SshPrivateKeyError>
 }
 
 /// The error for a field that is stuck.
-fn refusal(stuck: Stuck<'_>) -> SshPrivateKeyError
+fn envelope_field_refusal(stuck: Stuck<'_>) -> SshPrivateKeyError
     ensures { result ≡ envelope_why (why_of stuck.entry) }
 {
     match stuck {

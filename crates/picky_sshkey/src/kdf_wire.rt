@@ -113,12 +113,12 @@ fn option_said(alloc: Global, block: &[u8]) -> Result<KdfOption, WireError>
             Ok(option) => Ok(option),
             Err(NoMemory) => Err(WireError::NoMemory),
         },
-        Err(stuck) => Err(refusal(stuck)),
+        Err(stuck) => Err(kdf_option_refusal(stuck)),
     }
 }
 
 /// The error for a string or a number that is stuck.
-fn refusal(stuck: Stuck<'_>) -> WireError
+fn kdf_option_refusal(stuck: Stuck<'_>) -> WireError
     ensures says { (flaw : Flaw) → why_of stuck.entry ≡ Flawed flaw → result ≡ wire_error flaw }
     ensures no_fault { result ≢ WireError.ReadFault }
 {

@@ -9,7 +9,7 @@ ghost use Rattle.picky_wire.specs.Equality.{IsEquality, IsEqualityOf};
 ghost use Rattle.picky_sshkey_blob.specs.declared.error.SshPrivateKeyError.TheVariants as errors;
 ghost use Rattle.picky_sshkey.specs.declared.kdf.KdfOption.{KdfOption as Salted};
 ghost use Rattle.picky_sshkey.specs.declared.private_key.SshPrivateKey.{SshPrivateKey as Key};
-ghost use Rattle.picky_sshkey.specs.Kept.{IsKept, read_again};
+ghost use Rattle.picky_sshkey.specs.Kept.{IsSshPrivateKey, read_again};
 ghost use Rattle.picky_sshkey.specs.Made.{made_of, private_shown};
 ghost use Rattle.picky_sshpub.specs.Key.{IsString, IsText};
 ghost use Rattle.picky_sshkey_blob.specs.Key.{IsPrivateKey};
@@ -40,22 +40,22 @@ pub fn private_key_means_what_it_says()
 /// What is written of a key is read back, whatever follows it, sealed or not, under the key's own passphrase: with the
 /// names and options that are written, and without the white space at the comment's end. A key so read stays as it is.
 pub fn private_key_is_read_back()
-    ensures content { (m : Meanings) (key : Key) (content more : List ℕ) → IsKept key → key_content m key ≡ Ok content
+    ensures content { (m : Meanings) (key : Key) (content more : List ℕ) → IsSshPrivateKey key → key_content m key ≡ Ok content
         → content_key m key.passphrase (content ++ more) ≡ Ok (read_again key) }
-    ensures text { (m : Meanings) (key : Key) (text more : List ℕ) → IsKept key → key_text m key ≡ Ok text
+    ensures text { (m : Meanings) (key : Key) (text more : List ℕ) → IsSshPrivateKey key → key_text m key ≡ Ok text
         → text_key m key.passphrase (text ++ more) ≡ Ok (read_again key) }
-    ensures kept { (key : Key) → IsKept key → IsKept (read_again key) }
-    ensures again { (key : Key) → IsKept key → read_again (read_again key) ≡ read_again key }
+    ensures kept { (key : Key) → IsSshPrivateKey key → IsSshPrivateKey (read_again key) }
+    ensures again { (key : Key) → IsSshPrivateKey key → read_again (read_again key) ≡ read_again key }
 {}
 
 /// A key that is read under a passphrase, or made of its parts, keeps what a key keeps; so what is written of it is read back.
 pub fn key_keeps_its_ranges()
     ensures content { (m : Meanings) (given : Option (List ℕ)) (content : List ℕ) (key : Key) → IsBytes content
-        → IfSome given IsText → content_key m given content ≡ Ok key → IsKept key }
+        → IfSome given IsText → content_key m given content ≡ Ok key → IsSshPrivateKey key }
     ensures text { (m : Meanings) (given : Option (List ℕ)) (text : List ℕ) (key : Key) → IsBytes text
-        → IfSome given IsText → text_key m given text ≡ Ok key → IsKept key }
+        → IfSome given IsText → text_key m given text ≡ Ok key → IsSshPrivateKey key }
     ensures made { (base : BaseKey) (given : Option (List ℕ)) (comment salt : List ℕ) → IsPrivateKey base
-        → IfSome given IsText → IsText comment → IsString salt → IsKept (made_of base given comment salt) }
+        → IfSome given IsText → IsText comment → IsString salt → IsSshPrivateKey (made_of base given comment salt) }
 {}
 
 /// Sealing a block changes no length of its envelope.

@@ -13,7 +13,7 @@ ghost use Rattle.picky_sshpub.specs.Key.{IsString, IsText};
 ghost use Rattle.picky_sshkey_blob.specs.Key.{IsPrivateKey, public_part};
 ghost use Rattle.picky_sshkey.specs.Encodes.{Encodes};
 ghost use Rattle.picky_sshkey.specs.Kdf.{HasRoom, kdf_option_of};
-ghost use Rattle.picky_sshkey.specs.Kept.{IsKept, read_again};
+ghost use Rattle.picky_sshkey.specs.Kept.{IsSshPrivateKey, read_again};
 ghost use Rattle.picky_sshkey.specs.PrivateRefusal.{content_key, text_key};
 ghost use Rattle.picky_sshkey.specs.Written.{content_under, envelope_of, key_content, key_text, lock_kept, padding_of, plain_block};
 ghost use Rattle.picky_sshkey.specs.Written.{text_writing_asks, writing_asks, written_cipher, written_kdf, written_option};
@@ -21,7 +21,7 @@ ghost use Rattle.picky_sshkey.specs.Written.{may_derive as may_derive_of};
 ghost use Rattle.picky_sshkey.specs.inner.Draft.{IsDraft};
 
 use crate::cipher::Cipher;
-use crate::draft::{Draft, draft_of};
+use crate::draft::{PrivateKeyDraft, private_key_draft};
 use crate::kdf::{BCRYPT, KdfOption, NONE, kdf_pieces};
 use crate::private_key::SshPrivateKey;
 use crate::sealing::open;
@@ -111,9 +111,9 @@ fn content_of_key<S: Suite>(
         (key_content (S.meanings suite.old) key.now) (writing_asks key.now) (Rose (S.faults suite.old) (S.faults suite.new)) }
     ensures suite { LeavesSuite S.meanings S.faults SshPrivateKeyError.SuiteFault (writing_asks key.now) result
         suite.old suite.new }
-    ensures kept { OnOk result (IsKept key.now) }
+    ensures kept { OnOk result (IsSshPrivateKey key.now) }
 {
-    match draft_of(alloc, key) {
+    match private_key_draft(alloc, key) {
         Ok(draft) => match sealed_content(alloc, suite, key, draft) {
             Ok(content) => Ok(Bytes::from_vec(content)),
             Err(e) => Err(e),
@@ -133,9 +133,9 @@ fn text_of_key<S: Suite>(
         (key_text (S.meanings suite.old) key.now) (text_writing_asks key.now) (Rose (S.faults suite.old) (S.faults suite.new)) }
     ensures suite { LeavesSuite S.meanings S.faults SshPrivateKeyError.SuiteFault (text_writing_asks key.now) result
         suite.old suite.new }
-    ensures kept { OnOk result (IsKept key.now) }
+    ensures kept { OnOk result (IsSshPrivateKey key.now) }
 {
-    match draft_of(alloc, key) {
+    match private_key_draft(alloc, key) {
         Ok(draft) => {
             if pem_text_len(draft.len) > MAX_LEN {
                 drop(draft);
@@ -155,7 +155,7 @@ fn sealed_content<S: Suite>(
     alloc: Global,
     suite: &mut S,
     key: &SshPrivateKey,
-    draft: Draft,
+    draft: PrivateKeyDraft,
 ) -> Result<Vec<u8>, SshPrivateKeyError>
     requires { IsDraft key.now draft }
     ensures gives { GivesAsked SshPrivateKeyError.NoMemory SshPrivateKeyError.SuiteFault (λ content. content.items) result
@@ -165,7 +165,7 @@ fn sealed_content<S: Suite>(
         suite.old suite.new }
     ensures len { IfOk result (λ content. vec_len content ≡ draft.len) }
 {
-    let Draft { outer, block, .. } = draft;
+    let PrivateKeyDraft { outer, block, .. } = draft;
     match &key.passphrase {
         Some(pass) => {
             let mut block = block;

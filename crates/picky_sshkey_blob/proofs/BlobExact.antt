@@ -18,7 +18,7 @@ use Rattle.picky_sshpub.proofs.BlobExact.{number_exact, any_text, ed_exact, join
 use Rattle.picky_sshkey_blob.specs.declared.key.SshBasePrivateKey.{SshBasePrivateKey}
 use Rattle.picky_sshkey_blob.specs.Key.{kind_of}
 use Rattle.picky_sshkey_blob.specs.Blob.{ed_secret, rsa_fields, ec_fields, ed_fields, sk_ecdsa_fields, sk_ed_fields}
-use Rattle.picky_sshkey_blob.specs.Blob.{fields_of, secret}
+use Rattle.picky_sshkey_blob.specs.Blob.{private_key_fields, secret}
 use Rattle.picky_sshkey_blob.specs.SecretSpelled.{AnyString, FieldsSpelled, SecretSpelled}
 
 any_string : (v bytes : List ℕ) → IsBytes bytes → string.piece v bytes → AnyString bytes
@@ -164,7 +164,8 @@ sk_ed_exact key bytes each (public, x1, y1, public_is, (application, x2, y2, app
       refl,
     )
 
-fields_exact : (kind : KeyKind) (key : SshBasePrivateKey) (bytes : List ℕ) → IsBytes bytes → (fields_of kind).piece key bytes
+fields_exact : (kind : KeyKind) (key : SshBasePrivateKey) (bytes : List ℕ) → IsBytes bytes
+    → (private_key_fields kind).piece key bytes
     → Spells kind key bytes
 fields_exact kinds.Rsa key bytes each spells = rsa_exact key bytes each spells
 fields_exact (kinds.Ec curve) key bytes each spells = ec_exact curve key bytes each spells

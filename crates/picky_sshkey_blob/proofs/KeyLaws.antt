@@ -12,7 +12,7 @@ use Rattle.picky_sshkey_blob.specs.declared.key.SshBasePrivateKey.{SshBasePrivat
 use Rattle.picky_sshkey_blob.specs.declared.key.SshBasePrivateKey.TheVariants as keys
 use Rattle.picky_sshkey_blob.specs.Key.{IsPrivateKey, public_part}
 use Rattle.picky_sshkey_blob.specs.Blob.{ed_secret, rsa_fields, ec_fields, ed_fields, sk_ecdsa_fields, sk_ed_fields}
-use Rattle.picky_sshkey_blob.specs.Blob.{fields_of, secret}
+use Rattle.picky_sshkey_blob.specs.Blob.{private_key_fields, secret}
 
 -- the secret before a copy of the public key
 secret_keeps : (public v bytes : List ℕ) → IsBytes bytes → (ed_secret public).piece v bytes → IsEdKey v
@@ -88,7 +88,8 @@ sk_ed_keeps key bytes each (public, x1, y1, public_is, (application, x2, y2, app
       string_keeps handle x4 (bytes_in_front x4 y4 b4) handle_is,
     )
 
-fields_keep : (kind : KeyKind) (key : SshBasePrivateKey) (bytes : List ℕ) → IsBytes bytes → (fields_of kind).piece key bytes
+fields_keep : (kind : KeyKind) (key : SshBasePrivateKey) (bytes : List ℕ) → IsBytes bytes
+    → (private_key_fields kind).piece key bytes
     → IsPrivateKey key
 fields_keep kinds.Rsa key bytes each spells = rsa_keeps key bytes each spells
 fields_keep (kinds.Ec curve) key bytes each spells = ec_keeps curve key bytes each spells

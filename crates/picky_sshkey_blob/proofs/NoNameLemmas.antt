@@ -13,7 +13,7 @@ use Rattle.picky_keys.specs.declared.curve.EcCurve.{EcCurve}
 use Rattle.picky_sshpub.specs.Blob.{ed_key}
 use Rattle.picky_sshkey_blob.specs.Copy.{before_copy}
 use Rattle.picky_sshkey_blob.specs.Blob.{ed_secret, rsa_fields, ec_fields, ed_fields, sk_ecdsa_fields, sk_ed_fields}
-use Rattle.picky_sshkey_blob.specs.Blob.{fields_of}
+use Rattle.picky_sshkey_blob.specs.Blob.{private_key_fields}
 use Rattle.picky_sshkey_blob.proofs.RefusedLemmas.{RefusesAs, NotName, done_refuses, both_refuses, narrow_refuses}
 use Rattle.picky_sshkey_blob.proofs.RefusedLemmas.{at_refuses, test_refused}
 
@@ -75,7 +75,7 @@ sk_ed_no_name =
     both_refuses NotName (at 5 string).read _ (field 5 string) (λ reserved. done_refuses NotName _)))))
 
 -- No kind's fields are.
-pub fields_no_name : (kind : KeyKind) → RefusesAs NotName (fields_of kind).read
+pub fields_no_name : (kind : KeyKind) → RefusesAs NotName (private_key_fields kind).read
 fields_no_name kinds.Rsa = rsa_no_name
 fields_no_name (kinds.Ec curve) = ec_no_name curve
 fields_no_name (kinds.Ed algorithm) = ed_no_name

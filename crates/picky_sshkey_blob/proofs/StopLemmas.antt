@@ -21,7 +21,7 @@ use Rattle.picky_wire.proofs.CauseLemmas.{mpint_is_too_long, first_is_too_long}
 use Rattle.picky_sshpub.specs.Blob.{key_type, ed_key}
 use Rattle.picky_sshkey_blob.specs.declared.error.SshPrivateKeyError.TheVariants as errors
 use Rattle.picky_sshkey_blob.specs.FromWire.{private_key_error}
-use Rattle.picky_sshkey_blob.specs.Blob.{secret, fields_of, rsa_fields, ed_fields, ed_secret}
+use Rattle.picky_sshkey_blob.specs.Blob.{secret, private_key_fields, rsa_fields, ed_fields, ed_secret}
 use Rattle.picky_sshkey_blob.specs.BlobRefusal.{read_secret, private_error, stop_error}
 use Rattle.picky_sshkey_blob.specs.inner.Stop.{secret_stop}
 use Rattle.picky_sshkey_blob.proofs.RefusedLemmas.{NotName}
@@ -79,12 +79,12 @@ unfolding read_secret secret key_type text string uint32 byte_array is_utf8 char
 name_is_no_text = (0 ∷ 0 ∷ 0 ∷ 1 ∷ 255 ∷ [], refl)
 
 -- after its name a blob is refused as its fields are
-after_name : (kind : KeyKind) (rest : List ℕ) (r : Reason) → (fields_of kind).read rest ≡ Err r
+after_name : (kind : KeyKind) (rest : List ℕ) (r : Reason) → (private_key_fields kind).read rest ≡ Err r
     → Refuses read_secret (private_error r)
 unfolding read_secret secret key_type
 after_name kind rest r refused = (
   string_of (kind_name kind) ++ rest,
-  ap (λ found. map_err private_error (and_then found (λ first. (fields_of first.0).read first.1)))
+  ap (λ found. map_err private_error (and_then found (λ first. (private_key_fields first.0).read first.1)))
       (key_type.complete kind (string_of (kind_name kind)) rest (kind_name_spells 0 kind))
       ∙ ap (map_err private_error) refused,
 )
@@ -123,5 +123,5 @@ unfolding read_secret secret key_type
 name_has_cause name fault short utf8 none =
     inr (inr (
       string_of name ++ [],
-      ap (map_err private_error) (name_alone_is_refused key_types fields_of name short utf8 none),
+      ap (map_err private_error) (name_alone_is_refused key_types private_key_fields name short utf8 none),
     ))

@@ -28,7 +28,7 @@ use Rattle.picky_sshkey_blob.specs.Key.{IsPrivateKey}
 use Rattle.picky_sshkey_blob.specs.Copy.{before_copy}
 use Rattle.picky_sshkey_blob.specs.carried.Before.{before_complete}
 use Rattle.picky_sshkey_blob.specs.Blob.{ed_secret}
-use Rattle.picky_sshkey_blob.specs.Blob.{fields_of, secret}
+use Rattle.picky_sshkey_blob.specs.Blob.{private_key_fields, secret}
 use Rattle.picky_sshkey_blob.specs.View.{key_seen, PartsLie, SeenAt, NamesText, IsRefusal}
 use Rattle.picky_sshkey_blob.proofs.KeyLaws.{spelled_is_key}
 use Rattle.picky_sshkey_blob.proofs.NoNameLemmas.{fields_no_name}
@@ -156,7 +156,7 @@ key_type_name bytes i n each refused =
 refused_name : (bytes : List ℕ) (i : ℕ) (n : List ℕ) → IsBytes bytes → secret.read bytes ≡ Err (i, Name n) → IsText n
 unfolding secret
 refused_name bytes i n each refused =
-    elim (and_then_err (key_type.read bytes) (λ first. (fields_of first.0).read first.1) (i, Name n) refused) [
+    elim (and_then_err (key_type.read bytes) (λ first. (private_key_fields first.0).read first.1) (i, Name n) refused) [
       | inl early ↦ key_type_name bytes i n each early
       | inr (found, was, late) ↦ absurd (fields_no_name found.0 found.1 (i, Name n) late)
     ]

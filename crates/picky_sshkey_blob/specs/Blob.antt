@@ -88,18 +88,18 @@ sk_ed_fields = do
   done (keys.SkEd25519 key application flags handle)
 
 -- the fields of each kind
-abbrev pub fields_of : KeyKind → Grammar Reason SshBasePrivateKey
-fields_of kinds.Rsa = rsa_fields
-fields_of (kinds.Ec curve) = ec_fields curve
-fields_of (kinds.Ed algorithm) = ed_fields
-fields_of kinds.SkEcdsaSha2NistP256 = sk_ecdsa_fields
-fields_of kinds.SkEd25519 = sk_ed_fields
+abbrev pub private_key_fields : KeyKind → Grammar Reason SshBasePrivateKey
+private_key_fields kinds.Rsa = rsa_fields
+private_key_fields (kinds.Ec curve) = ec_fields curve
+private_key_fields (kinds.Ed algorithm) = ed_fields
+private_key_fields kinds.SkEcdsaSha2NistP256 = sk_ecdsa_fields
+private_key_fields kinds.SkEd25519 = sk_ed_fields
 
 -- string name, of a key type, which decides the rest
 unfoldable pub secret : Grammar Reason SshBasePrivateKey
 secret = do
   kind ← key_type
-  fields_of kind
+  private_key_fields kind
 
 -- ---- the one spelling that is written, whose reserved string is empty
 

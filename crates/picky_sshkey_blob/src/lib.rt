@@ -15,6 +15,6 @@ mod view_read;
 pub use error::SshPrivateKeyError;
 pub use key::SshBasePrivateKey;
 pub use pieces::secret_pieces;
-pub use refuse::refusal;
+pub use refuse::private_view_refusal;
 pub use view::{PrivateView, Stopped};
 pub use view_read::private_at;

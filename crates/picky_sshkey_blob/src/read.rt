@@ -3,7 +3,7 @@
 ghost use Rattle.std.specs.Prelude.{◌≡◌, ◌==◌, ◌&&◌, nat_le, length, take, drop, bytes_eq, Some, None, if◌then◌else◌};
 ghost use Rattle.picky_wire.specs.Flaws.{TakesLayout};
 ghost use Rattle.picky_sshpub.specs.Blob.{ed_key};
-ghost use Rattle.picky_sshkey_blob.specs.Blob.{ed_secret, rsa_fields, ec_fields, ed_fields, sk_ecdsa_fields, sk_ed_fields, fields_of};
+ghost use Rattle.picky_sshkey_blob.specs.Blob.{ed_secret, rsa_fields, ec_fields, ed_fields, sk_ecdsa_fields, sk_ed_fields, private_key_fields};
 ghost use Rattle.picky_sshkey_blob.specs.inner.Stop.{secret_stop};
 
 use crate::key::SshBasePrivateKey;
@@ -21,7 +21,7 @@ pub fn take_fields<S: Source>(
     stream: &mut S,
     kind: KeyKind,
 ) -> Result<SshBasePrivateKey, Stop>
-    ensures { TakesLayout S.tells S.left S.known S.faults secret_stop (fields_of kind) result stream.old stream.new }
+    ensures { TakesLayout S.tells S.left S.known S.faults secret_stop (private_key_fields kind) result stream.old stream.new }
 {
     match kind {
         KeyKind::Rsa => take_rsa(alloc, stream),
@@ -120,7 +120,7 @@ fn take_ed_key<S: Source>(alloc: Global, stream: &mut S) -> Result<[u8; 32], Sto
     ensures { TakesLayout S.tells S.left S.known S.faults secret_stop (ed_key 1) result stream.old stream.new }
 {
     let bytes = take_bytes(alloc, stream)?;
-    match key_of(bytes.as_slice()) {
+    match ed25519_key_of(bytes.as_slice()) {
         Some(key) => Ok(key),
         None => Err(Stop::Length),
     }
@@ -143,7 +143,7 @@ fn take_ed_secret<S: Source>(
 }
 
 /// The bytes as a key, where they are 32.
-fn key_of(bytes: &[u8]) -> Option<[u8; 32]>
+fn ed25519_key_of(bytes: &[u8]) -> Option<[u8; 32]>
     ensures { result ≡ (if length bytes.now == 32 then Some bytes.now else None) }
 {
     <[u8; 32]>::try_from(bytes).ok()
@@ -160,5 +160,5 @@ fn secret_before(both: &[u8], public: &[u8]) -> Option<[u8; 32]>
     if copy != public {
         return None;
     }
-    key_of(secret)
+    ed25519_key_of(secret)
 }

@@ -10,7 +10,7 @@ use picky_wire::{IoKind, NoMemory, Stuck};
 use std::alloc::Global;
 
 /// The error of the reader where a view is stopped, with a copy of a refused name, or `NoMemory`.
-pub fn refusal(alloc: Global, stopped: &Stopped<'_>) -> SshPrivateKeyError
+pub fn private_view_refusal(alloc: Global, stopped: &Stopped<'_>) -> SshPrivateKeyError
     requires { IsRefusal stopped.now }
     ensures { (result ≡ private_error (reason_of stopped.now)) ⊎ (result ≡ SshPrivateKeyError.NoMemory) }
 {

@@ -73,8 +73,8 @@ pub fn text_in<'a>(
     }
 }
 
-/// A number of one byte. Refuses at the field: `Short`.
-pub fn byte_in<'a>(blob: &'a [u8], from: usize, field: usize) -> Result<(u8, usize), Stopped<'a>>
+/// The flags of a hardware key, one byte. Refuses at the field: `Short`.
+pub fn flags_in<'a>(blob: &'a [u8], from: usize, field: usize) -> Result<(u8, usize), Stopped<'a>>
     ensures { SeenAt (λ n. n) (λ _. ⊤) (at field byte) blob.now from result }
 {
     match byte_at(blob, from) {

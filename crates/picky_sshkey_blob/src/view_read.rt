@@ -4,11 +4,11 @@ ghost use Rattle.std.specs.Prelude.{◌^◌, ◌<◌, length, IfOk, IfErr};
 ghost use Rattle.picky_wire.specs.View.{end_of};
 ghost use Rattle.picky_sshpub.specs.Blob.{key_type};
 ghost use Rattle.picky_sshkey_blob.specs.Key.{IsPrivateKey};
-ghost use Rattle.picky_sshkey_blob.specs.Blob.{rsa_fields, ec_fields, ed_fields, sk_ecdsa_fields, sk_ed_fields, fields_of, secret as secret_layout};
+ghost use Rattle.picky_sshkey_blob.specs.Blob.{rsa_fields, ec_fields, ed_fields, sk_ecdsa_fields, sk_ed_fields, private_key_fields, secret as secret_layout};
 ghost use Rattle.picky_sshkey_blob.specs.View.{key_seen, PartsLie, SeenAt, IsRefusal};
 
 use crate::view::{PrivateView, Stopped};
-use crate::view_fields::{byte_in, ed_key_in, ed_secret_in, kind_in, mpint_in, string_in, text_in};
+use crate::view_fields::{ed_key_in, ed_secret_in, flags_in, kind_in, mpint_in, string_in, text_in};
 use picky_keys::{EcCurve, KeyKind};
 
 /// The view of the private key's blob that stands at a place, and the place after it.
@@ -39,7 +39,7 @@ fn fields_at<'a>(
     kind: KeyKind,
 ) -> Result<(PrivateView<'a>, usize), Stopped<'a>>
     requires { length blob.now < 2 ^ 32 }
-    ensures { SeenAt key_seen (PartsLie blob.now from) (fields_of kind) blob.now from result }
+    ensures { SeenAt key_seen (PartsLie blob.now from) (private_key_fields kind) blob.now from result }
 {
     match kind {
         KeyKind::Rsa => rsa_at(blob, from),
@@ -112,7 +112,7 @@ fn sk_ecdsa_at<'a>(blob: &'a [u8], from: usize) -> Result<(PrivateView<'a>, usiz
     let (_, next) = text_in(blob, from, 1)?;
     let (point, next) = string_in(blob, next, 2)?;
     let (application, next) = text_in(blob, next, 3)?;
-    let (flags, next) = byte_in(blob, next, 4)?;
+    let (flags, next) = flags_in(blob, next, 4)?;
     let (handle, next) = string_in(blob, next, 5)?;
     let (_, next) = string_in(blob, next, 6)?;
     Ok((
@@ -132,7 +132,7 @@ fn sk_ed_at<'a>(blob: &'a [u8], from: usize) -> Result<(PrivateView<'a>, usize),
 {
     let (key, next) = ed_key_in(blob, from)?;
     let (application, next) = text_in(blob, next, 2)?;
-    let (flags, next) = byte_in(blob, next, 3)?;
+    let (flags, next) = flags_in(blob, next, 3)?;
     let (handle, next) = string_in(blob, next, 4)?;
     let (_, next) = string_in(blob, next, 5)?;
     Ok((

@@ -19,7 +19,7 @@ use Rattle.picky_sshpub.specs.declared.key.SshBasePublicKey.{SshBasePublicKey}
 use Rattle.picky_sshpub.specs.declared.key.SshBasePublicKey.TheVariants as keys
 use Rattle.picky_sshpub.specs.Key.{kind_of}
 use Rattle.picky_sshpub.specs.Blob.{key_type, ed_key, rsa_fields, ec_fields, ed_fields, sk_ecdsa_fields}
-use Rattle.picky_sshpub.specs.Blob.{sk_ed_fields, fields_of, blob}
+use Rattle.picky_sshpub.specs.Blob.{sk_ed_fields, public_key_fields, blob}
 use Rattle.picky_sshpub.specs.BlobSpelled.{NumberSpelled, AnyText, FieldsSpelled, BlobSpelled}
 
 pub number_exact : (v bytes : List ℕ) → IsBytes bytes → mpint.piece v bytes → NumberSpelled v bytes
@@ -115,7 +115,8 @@ sk_ed_exact key bytes each (v, x, y, v_is, (app, z, w, app_is, (is, none), inner
       refl,
     )
 
-fields_exact : (kind : KeyKind) (key : SshBasePublicKey) (bytes : List ℕ) → IsBytes bytes → (fields_of kind).piece key bytes
+fields_exact : (kind : KeyKind) (key : SshBasePublicKey) (bytes : List ℕ) → IsBytes bytes
+    → (public_key_fields kind).piece key bytes
     → FieldsSpelled key bytes × (kind_of key ≡ kind)
 fields_exact kinds.Rsa key bytes each spells = rsa_exact key bytes each spells
 fields_exact (kinds.Ec curve) key bytes each spells = ec_exact curve key bytes each spells

@@ -14,7 +14,7 @@ use Rattle.picky_sshpub.specs.declared.key.SshPublicKey.{SshPublicKey}
 use Rattle.picky_sshpub.specs.Blob.{blob_of}
 use Rattle.picky_sshpub.specs.BlobRefusal.{read_blob}
 use Rattle.picky_sshpub.proofs.BlobLayout.{blob_is_read_back}
-use Rattle.picky_sshpub.specs.Line.{line_of, IsKept}
+use Rattle.picky_sshpub.specs.Line.{line_of, IsReadBackPublicKey}
 use Rattle.picky_sshpub.specs.FromWire.{public_key_error}
 use Rattle.picky_sshpub.specs.LineRefusal.{is_short, line_meaning, line_text}
 use Rattle.picky_sshpub.specs.SourceLine.{read_line, source_meaning}
@@ -41,7 +41,7 @@ text_is_line key line is =
 
 -- A key read from a line is one whose line is read back.
 pub text_is_kept : (text : List ℕ) (key : SshPublicKey) → IsBytes text → line_meaning text ≡ Ok key
-    → length (line_of key) < 2 ^ 32 → IsKept key
+    → length (line_of key) < 2 ^ 32 → IsReadBackPublicKey key
 text_is_kept text key each means short =
     let line = line_meaning_says text key each means in
     let front = bytes_in_front line.fits.0 line.rest (subst IsBytes line.fits.2 line.are_bytes) in
@@ -57,7 +57,7 @@ text_is_kept text key each means short =
 
 -- So is a key read from a source.
 pub source_is_kept : (bytes : List ℕ) (key : SshPublicKey) (rest : List ℕ) → IsBytes bytes
-    → source_meaning bytes ≡ Ok (key, rest) → length (line_of key) < 2 ^ 32 → IsKept key
+    → source_meaning bytes ≡ Ok (key, rest) → length (line_of key) < 2 ^ 32 → IsReadBackPublicKey key
 unfolding source_meaning read_line
 source_is_kept bytes key rest each means short =
     let taken = and_then_ok (read_line public_key_error bytes) _ (key, rest) means in

@@ -15,7 +15,7 @@ use Rattle.picky_keys.specs.declared.curve.EcCurve.{EcCurve}
 use Rattle.picky_sshpub.specs.declared.key.SshBasePublicKey.{SshBasePublicKey}
 use Rattle.picky_sshpub.specs.Key.{IsNumber, IsString, IsText, IsEdKey, IsKey}
 use Rattle.picky_sshpub.specs.Blob.{ed_key, rsa_fields, ec_fields, ed_fields, sk_ecdsa_fields, sk_ed_fields}
-use Rattle.picky_sshpub.specs.Blob.{fields_of, blob}
+use Rattle.picky_sshpub.specs.Blob.{public_key_fields, blob}
 use Rattle.picky_sshpub.specs.BlobRefusal.{read_blob}
 use Rattle.picky_sshpub.proofs.BlobLayout.{blob_sound}
 
@@ -98,7 +98,8 @@ sk_ed_keeps key bytes each (v, x, y, v_is, (app, z, w, app_is, (is, none), inner
     )
 
 -- So do its fields.
-pub fields_keep : (kind : KeyKind) (key : SshBasePublicKey) (bytes : List ℕ) → IsBytes bytes → (fields_of kind).piece key bytes
+pub fields_keep : (kind : KeyKind) (key : SshBasePublicKey) (bytes : List ℕ) → IsBytes bytes
+    → (public_key_fields kind).piece key bytes
     → IsKey key
 fields_keep kinds.Rsa key bytes each spells = rsa_keeps key bytes each spells
 fields_keep (kinds.Ec curve) key bytes each spells = ec_keeps curve key bytes each spells

@@ -30,7 +30,7 @@ use Rattle.picky_sshpub.specs.Key.{IsKey, kind_of}
 use Rattle.picky_sshpub.specs.Blob.{blob, blob_of, fields_spelled}
 use Rattle.picky_sshpub.specs.BlobRefusal.{blob_error, read_blob}
 use Rattle.picky_sshpub.specs.carried.Blob.{blob_spells}
-use Rattle.picky_sshpub.specs.Line.{IsPublicLine, line_of, line_name, line_body, IsKept}
+use Rattle.picky_sshpub.specs.Line.{IsPublicLine, line_of, line_name, line_body, IsReadBackPublicKey}
 use Rattle.picky_sshpub.specs.LineRefusal.{blob_key, body_key, is_key_type, is_short, line_meaning}
 use Rattle.picky_sshpub.specs.LineRefusal.{words_meaning, is_short_text, comment_text}
 use Rattle.picky_sshpub.proofs.ByteLaws.{bytes_joined, string_bytes_each, mpint_bytes_each, no_bytes}
@@ -191,7 +191,7 @@ part_lengths key =
 abbrev pub line_front : SshPublicKey → List ℕ
 line_front key = line_name key ++ 32 ∷ line_body key ++ 32 ∷ key.comment
 
-line_parts : (key : SshPublicKey) → IsKept key
+line_parts : (key : SshPublicKey) → IsReadBackPublicKey key
     → AreParts (line_name key) (line_body key) key.comment
 line_parts key kept = record {
   name_word = name_is_word (kind_of key.inner_key);
@@ -202,7 +202,7 @@ line_parts key kept = record {
 }
 
 -- a line of a key's parts says the key
-parts_say : (key : SshPublicKey) (line : List ℕ) → IsKept key
+parts_say : (key : SshPublicKey) (line : List ℕ) → IsReadBackPublicKey key
     → HasParts line (line_name key) (line_body key) key.comment → IsPublicLine line key
 parts_say key line kept is =
     let len = part_lengths key in
@@ -221,7 +221,7 @@ parts_say key line kept is =
     }
 
 -- The line that is written says the key, whatever follows it.
-pub line_says : (key : SshPublicKey) (more : List ℕ) → IsKept key
+pub line_says : (key : SshPublicKey) (more : List ℕ) → IsReadBackPublicKey key
     → IsPublicLine (line_of key ++ more) key
 unfolding line_of
 line_says key more kept =
@@ -230,12 +230,12 @@ line_says key more kept =
     rw (append_assoc (line_front key) (13 ∷ 10 ∷ []) more) (parts_say key _ kept is)
 
 -- It is read back whatever follows.
-pub line_reads_back : (key : SshPublicKey) (more : List ℕ) → IsKept key
+pub line_reads_back : (key : SshPublicKey) (more : List ℕ) → IsReadBackPublicKey key
     → line_meaning (line_of key ++ more) ≡ Ok key
 line_reads_back key more kept = line_meaning_of (line_of key ++ more) key (line_says key more kept)
 
 -- It is so without its end.
-pub front_reads_back : (key : SshPublicKey) → IsKept key → line_meaning (line_front key) ≡ Ok key
+pub front_reads_back : (key : SshPublicKey) → IsReadBackPublicKey key → line_meaning (line_front key) ≡ Ok key
 front_reads_back key kept =
     let is = key_line_alone (line_name key) (line_body key) key.comment (line_parts key kept) in
     line_meaning_of (line_front key) key (parts_say key (line_front key) kept is)

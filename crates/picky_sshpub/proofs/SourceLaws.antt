@@ -11,7 +11,7 @@ use Rattle.picky_text.proofs.WordLaws.{base64_is_word, stays_line}
 use Rattle.picky_sshpub.specs.declared.key.SshPublicKey.{SshPublicKey}
 use Rattle.picky_sshpub.specs.Key.{kind_of}
 use Rattle.picky_sshpub.specs.Blob.{blob_of}
-use Rattle.picky_sshpub.specs.Line.{line_of, line_name, line_body, IsKept}
+use Rattle.picky_sshpub.specs.Line.{line_of, line_name, line_body, IsReadBackPublicKey}
 use Rattle.picky_sshpub.specs.LineRefusal.{line_meaning}
 use Rattle.picky_sshpub.specs.SourceLine.{after_line, read_line, source_meaning, Stays}
 use Rattle.picky_sshpub.proofs.ByteLaws.{name_is_word}
@@ -23,7 +23,7 @@ pub source_means : (bytes : List ℕ) → length (line_in_front bytes) < 2 ^ 32
 unfolding source_meaning read_line
 source_means bytes short = rw (lt-ltb (length (line_in_front bytes)) (2 ^ 32) short) refl
 
-front_stays : (key : SshPublicKey) → IsKept key → Stays (line_front key)
+front_stays : (key : SshPublicKey) → IsReadBackPublicKey key → Stays (line_front key)
 front_stays key kept =
     let goes_on : ℕ → Type 0 = λ b. ends_line b ≡ false in
     let name = name_is_word (kind_of key.inner_key) in
@@ -34,7 +34,7 @@ front_stays key kept =
     (refl, stays_line key.comment kept.no_cr kept.no_lf)
 
 -- A line that is written is read back from a source: CR ends it, and LF and what follows are left.
-pub source_reads_back : (key : SshPublicKey) (more : List ℕ) → IsKept key
+pub source_reads_back : (key : SshPublicKey) (more : List ℕ) → IsReadBackPublicKey key
     → source_meaning (line_of key ++ more) ≡ Ok (key, 10 ∷ more)
 unfolding source_meaning read_line after_line line_of
 source_reads_back key more kept =

@@ -20,7 +20,7 @@ use Rattle.picky_wire.proofs.CauseLemmas.{mpint_is_too_long, first_is_too_long}
 use Rattle.picky_wire.proofs.StopLemmas.{SaysStops}
 use Rattle.picky_sshpub.specs.declared.error.SshPublicKeyError.TheVariants as errors
 use Rattle.picky_sshpub.specs.FromWire.{public_key_error}
-use Rattle.picky_sshpub.specs.Blob.{blob, key_type, fields_of, rsa_fields, ed_fields, ed_key}
+use Rattle.picky_sshpub.specs.Blob.{blob, key_type, public_key_fields, rsa_fields, ed_fields, ed_key}
 use Rattle.picky_sshpub.specs.BlobRefusal.{read_blob, blob_error, stop_error}
 
 -- the errors of a blob say what its readers stop at
@@ -68,12 +68,12 @@ unfolding read_blob blob key_type text string uint32 byte_array is_utf8 chars ke
 name_is_empty = (0 ∷ 0 ∷ 0 ∷ 0 ∷ [], refl)
 
 -- after its name a blob is refused as its fields are
-after_name : (kind : KeyKind) (rest : List ℕ) (r : Reason) → (fields_of kind).read rest ≡ Err r
+after_name : (kind : KeyKind) (rest : List ℕ) (r : Reason) → (public_key_fields kind).read rest ≡ Err r
     → Refuses read_blob (blob_error r)
 unfolding read_blob blob key_type
 after_name kind rest r refused = (
   string_of (kind_name kind) ++ rest,
-  ap (λ found. map_err blob_error (and_then found (λ first. (fields_of first.0).read first.1)))
+  ap (λ found. map_err blob_error (and_then found (λ first. (public_key_fields first.0).read first.1)))
       (key_type.complete kind (string_of (kind_name kind)) rest (kind_name_spells 0 kind))
       ∙ ap (map_err blob_error) refused,
 )

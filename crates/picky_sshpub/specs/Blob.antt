@@ -63,12 +63,12 @@ sk_ed_fields = do
   done (keys.SkEd25519 key application)
 
 -- the fields of each kind
-abbrev pub fields_of : KeyKind → Grammar Reason SshBasePublicKey
-fields_of kinds.Rsa = rsa_fields
-fields_of (kinds.Ec curve) = ec_fields curve
-fields_of (kinds.Ed algorithm) = ed_fields
-fields_of kinds.SkEcdsaSha2NistP256 = sk_ecdsa_fields
-fields_of kinds.SkEd25519 = sk_ed_fields
+abbrev pub public_key_fields : KeyKind → Grammar Reason SshBasePublicKey
+public_key_fields kinds.Rsa = rsa_fields
+public_key_fields (kinds.Ec curve) = ec_fields curve
+public_key_fields (kinds.Ed algorithm) = ed_fields
+public_key_fields kinds.SkEcdsaSha2NistP256 = sk_ecdsa_fields
+public_key_fields kinds.SkEd25519 = sk_ed_fields
 
 -- string name, of a key type
 unfoldable pub key_type : Grammar Reason KeyKind
@@ -78,7 +78,7 @@ key_type = named 0 key_types
 unfoldable pub blob : Grammar Reason SshBasePublicKey
 blob = do
   kind ← key_type
-  fields_of kind
+  public_key_fields kind
 
 -- ---- the one spelling that is written
 

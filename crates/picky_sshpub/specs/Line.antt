@@ -42,7 +42,7 @@ line_of key = line_name key ++ 32 ∷ line_body key ++ 32 ∷ key.comment ++ 13 
 -- ---- what is written is read back
 
 -- a key whose line is read back: its comment is text with no CR, LF and white space at its end
-pub record IsKept (key : SshPublicKey) : Type 0 where
+pub record IsReadBackPublicKey (key : SshPublicKey) : Type 0 where
   pub is_key : IsKey key.inner_key
   pub no_cr : HasNo 13 key.comment
   pub no_lf : HasNo 10 key.comment

@@ -15,7 +15,7 @@ ghost use Rattle.picky_sshpub.specs.BlobSpelled.{BlobSpelled};
 ghost use Rattle.picky_sshpub.specs.BlobRefusal.{read_blob};
 ghost use Rattle.picky_sshpub.specs.Line.{IsPublicLine, line_of};
 ghost use Rattle.picky_sshpub.specs.LineRefusal.{line_meaning, line_text};
-ghost use Rattle.picky_sshpub.specs.Line.{IsKept};
+ghost use Rattle.picky_sshpub.specs.Line.{IsReadBackPublicKey};
 ghost use Rattle.picky_sshpub.specs.SourceLine.{after_line, source_meaning};
 
 use crate::error::SshPublicKeyError;
@@ -49,8 +49,9 @@ pub fn line_means_what_it_says()
 /// A line that is written is read back: as a text, and from a source, where LF and what follows are left.
 #[tactic(auto, using(crate::proofs::LawLemmas::line_laws))]
 pub fn line_is_read_back()
-    ensures text { (key : Key) (more : List ℕ) → IsKept key → line_meaning (line_of key ++ more) ≡ Ok key }
-    ensures source { (key : Key) (more : List ℕ) → IsKept key → source_meaning (line_of key ++ more) ≡ Ok (key, 10 ∷ more) }
+    ensures text { (key : Key) (more : List ℕ) → IsReadBackPublicKey key → line_meaning (line_of key ++ more) ≡ Ok key }
+    ensures source { (key : Key) (more : List ℕ) → IsReadBackPublicKey key
+        → source_meaning (line_of key ++ more) ≡ Ok (key, 10 ∷ more) }
 {}
 
 /// A blob that was read, however it was spelled, is written in its one spelling, which is read back as the same key.

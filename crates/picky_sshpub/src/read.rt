@@ -27,14 +27,14 @@ pub fn take_ed_key<S: Source>(alloc: Global, stream: &mut S) -> Result<[u8; 32],
     ensures { TakesLayout S.tells S.left S.known S.faults stop_of (ed_key 1) result stream.old stream.new }
 {
     let bytes = take_bytes(alloc, stream)?;
-    match key_of(bytes.as_slice()) {
+    match ed25519_public_key_of(bytes.as_slice()) {
         Some(key) => Ok(key),
         None => Err(Stop::Length),
     }
 }
 
 /// The bytes as a key, where they are 32.
-fn key_of(bytes: &[u8]) -> Option<[u8; 32]>
+fn ed25519_public_key_of(bytes: &[u8]) -> Option<[u8; 32]>
     ensures { result ≡ (if length bytes.now == 32 then Some bytes.now else None) }
 {
     <[u8; 32]>::try_from(bytes).ok()

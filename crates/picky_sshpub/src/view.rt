@@ -2,7 +2,7 @@
 
 ghost use Rattle.std.specs.Prelude.{◌≡◌, ◌^◌, ◌<◌, ⊤, length, IfOk};
 ghost use Rattle.picky_wire.specs.View.{Seen, Lies, end_of, part_bytes, why_in};
-ghost use Rattle.picky_sshpub.specs.Blob.{key_type, ed_key, rsa_fields, ec_fields, ed_fields, sk_ecdsa_fields, sk_ed_fields, fields_of, blob as blob_layout};
+ghost use Rattle.picky_sshpub.specs.Blob.{key_type, ed_key, rsa_fields, ec_fields, ed_fields, sk_ecdsa_fields, sk_ed_fields, public_key_fields, blob as blob_layout};
 ghost use Rattle.picky_sshpub.specs.Key.{IsEdKey, IsKey};
 ghost use Rattle.picky_sshpub.specs.View.{key_seen, PartsLie};
 
@@ -129,7 +129,7 @@ pub fn fields_at<'a>(
     kind: KeyKind,
 ) -> Result<(PublicView<'a>, usize), Stuck<'a>>
     requires { length blob.now < 2 ^ 32 }
-    ensures { Seen key_seen (PartsLie blob.now from) why_in (fields_of kind) blob.now from result }
+    ensures { Seen key_seen (PartsLie blob.now from) why_in (public_key_fields kind) blob.now from result }
 {
     match kind {
         KeyKind::Rsa => rsa_at(blob, from),

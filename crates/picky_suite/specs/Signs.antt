@@ -33,16 +33,16 @@ pub record SignsAsListed (result : Result (List ℕ) SignError) (old new : Calls
   pub counts : result ≡ Err errors.Failed → new ≡ failed old
 
 -- the signature that was handed in, and how many calls failed
-pub record Handed : Type 0 where
+pub record HandedSignerState : Type 0 where
   pub signature : Option (List ℕ)
   pub faults : ℕ
 
 -- that signature alone is good, of each message
-abbrev pub SignsAsHanded : Handed → Relation
+abbrev pub SignsAsHanded : HandedSignerState → Relation
 SignsAsHanded signer key algorithm message signature = signer.signature ≡ Some signature
 
 -- a call of the signer that hands it out fails exactly where there is none, and is counted
-pub record HandsOut (result : Result (List ℕ) SignError) (old new : Handed) : Type 0 where
+pub record HandsOut (result : Result (List ℕ) SignError) (old new : HandedSignerState) : Type 0 where
   pub fails : (result ≡ Err errors.Failed) ↔ (old.signature ≡ None)
   pub stays : OnOk result (new ≡ old)
   pub counts : result ≡ Err errors.Failed → new ≡ record old { faults = count_one old.faults }

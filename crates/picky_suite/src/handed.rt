@@ -5,7 +5,7 @@ ghost use Rattle.std.proofs.Common.{arith};
 ghost use Rattle.picky_keys.specs.PrivateKey.{issuer_key};
 ghost use Rattle.picky_keys.specs.declared.public_key.PublicKey.{PublicKey};
 ghost use Rattle.picky_keys.specs.declared.algorithm.SignatureAlgorithm.{SignatureAlgorithm as Algorithm};
-ghost use Rattle.picky_suite.specs.Signs.{Signs, SignsAsHanded, Handed, HandsOut};
+ghost use Rattle.picky_suite.specs.Signs.{Signs, SignsAsHanded, HandedSignerState, HandsOut};
 
 use crate::signer::{SignError, Signer};
 use picky_keys::{Issuer, SignatureAlgorithm};
@@ -21,7 +21,7 @@ pub struct HandedSigner {
 }
 
 impl Model for HandedSigner {
-    ghost Value = { Handed };
+    ghost Value = { HandedSignerState };
 
     ghost view = { λ s. record { signature = s.signature; faults = s.faults } };
 }

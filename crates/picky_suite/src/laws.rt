@@ -9,7 +9,7 @@ ghost use Rattle.picky_suite.specs.Failures.{IsAskedFault};
 ghost use Rattle.picky_keys.specs.PrivateKey.{issuer_key};
 ghost use Rattle.picky_suite.specs.Ranges.{BcryptOk, Argon2Ok, bcrypt_fits, argon2_fits, IsCipherKey, IsWhole};
 ghost use Rattle.picky_suite.specs.Fills.{Fills};
-ghost use Rattle.picky_suite.specs.inner.Parts.{key_of, iv_of};
+ghost use Rattle.picky_suite.specs.inner.Parts.{derived_key, iv_of};
 
 use crate::flavour::Flavour;
 use crate::plain::PlainSuite;
@@ -136,13 +136,13 @@ fn seal_under<S: Suite>(
     requires whole { IsWhole block.old }
     ensures { Fills S.meanings S.faults
         ((S.meanings suite.old).cbc_seal
-        (key_of ((S.meanings suite.old).bcrypt pass.now salt.now rounds 48))
+        (derived_key ((S.meanings suite.old).bcrypt pass.now salt.now rounds 48))
         (iv_of ((S.meanings suite.old).bcrypt pass.now salt.now rounds 48)) block.old)
         result block.old block.new suite.old suite.new }
 {
     let mut derived = [0; 48];
     suite.bcrypt(pass, salt, rounds, &mut derived)?;
-    suite.cbc_seal(&key_of(&derived), &iv_of(&derived), block)
+    suite.cbc_seal(&derived_key(&derived), &iv_of(&derived), block)
 }
 
 // Opens under the key and the iv that bcrypt gives.
@@ -157,19 +157,19 @@ fn open_under<S: Suite>(
     requires whole { IsWhole block.old }
     ensures { Fills S.meanings S.faults
         ((S.meanings suite.old).cbc_open
-        (key_of ((S.meanings suite.old).bcrypt pass.now salt.now rounds 48))
+        (derived_key ((S.meanings suite.old).bcrypt pass.now salt.now rounds 48))
         (iv_of ((S.meanings suite.old).bcrypt pass.now salt.now rounds 48)) block.old)
         result block.old block.new suite.old suite.new }
 {
     let mut derived = [0; 48];
     suite.bcrypt(pass, salt, rounds, &mut derived)?;
-    suite.cbc_open(&key_of(&derived), &iv_of(&derived), block)
+    suite.cbc_open(&derived_key(&derived), &iv_of(&derived), block)
 }
 
 // The key in front of what was derived.
-#[tactic(auto, unfolding(crate::specs::inner::Parts::key_of))]
-fn key_of(derived: &[u8; 48]) -> [u8; 32]
-    ensures { result ≡ key_of derived.now }
+#[tactic(auto, unfolding(crate::specs::inner::Parts::derived_key))]
+fn derived_key(derived: &[u8; 48]) -> [u8; 32]
+    ensures { result ≡ derived_key derived.now }
 {
     let mut key = [0; 32];
     key.copy_from_slice(&derived[..32]);

@@ -16,19 +16,19 @@ use Rattle.picky_sshkey_blob.specs.Blob.{secret_of}
 use Rattle.picky_sshkey_blob.specs.declared.key.SshBasePrivateKey.{SshBasePrivateKey}
 use Rattle.picky_sshkey.specs.declared.private_key.SshPrivateKey.{SshPrivateKey}
 use Rattle.picky_sshkey.specs.Made.{key_made, made_of}
-use Rattle.picky_sshkey.specs.Written.{envelope_of, fields_of, key_text, padding_of, plain_block, sealable, text_writing_asks, unit_of}
+use Rattle.picky_sshkey.specs.Written.{envelope_of, unpadded_block, key_text, padding_of, plain_block, sealable, text_writing_asks, unit_of}
 use Rattle.picky_sshkey.proofs.WrittenLemmas.{block_within}
 use Rattle.picky_key_text.specs.Key.{private_meaning}
 use Rattle.picky_target.specs.declared.target.KeyTarget.TheVariants as targets
 use Rattle.picky_target.specs.Output.{Output}
-use Rattle.picky_target.specs.Judged.{is_short_envelope, is_trimmed, judged}
+use Rattle.picky_target.specs.Judged.{is_short_envelope, is_trimmed, judged_meaning}
 use Rattle.picky_target.specs.Written.{written, writing_asks}
 use Rattle.picky_target.specs.inner.Envelope.{envelope_written, envelope_asks}
 
 -- ---- a text is longer than the comment in it
 
-fields_len : (key : SshPrivateKey) → length key.comment ≤ length (fields_of key)
-unfolding fields_of
+fields_len : (key : SshPrivateKey) → length key.comment ≤ length (unpadded_block key)
+unfolding unpadded_block
 fields_len key =
     let check = to_be_bytes w32 key.check in
     let secret = secret_of key.base_key in
@@ -42,9 +42,9 @@ fields_len key =
       length-string_of key.comment,
     )
 
-block_len : (key : SshPrivateKey) → length (fields_of key) ≤ length (plain_block key)
+block_len : (key : SshPrivateKey) → length (unpadded_block key) ≤ length (plain_block key)
 unfolding plain_block
-block_len key = omega (arith, length-append (fields_of key) (padding_of (unit_of key.passphrase) (fields_of key)))
+block_len key = omega (arith, length-append (unpadded_block key) (padding_of (unit_of key.passphrase) (unpadded_block key)))
 
 comment_within : (key : SshPrivateKey) → length key.comment ≤ length (pem_text (envelope_of key (plain_block key)))
 comment_within key =
@@ -71,7 +71,7 @@ AreWritten m out key comment =
 
 plain_is_written : (m : Meanings) (fresh : List ℕ) (key : SshBasePrivateKey) (comment : List ℕ)
     → AreWritten m (record { pass = None; fresh = fresh }) key comment
-unfolding written writing_asks judged key_made key_text text_writing_asks sealable
+unfolding written writing_asks judged_meaning key_made key_text text_writing_asks sealable
 plain_is_written m fresh key comment =
     let k = made_of key None comment (take 16 fresh) in
     let enough : nat_le 0 (length fresh) ≡ true = le-leb 0 (length fresh) (omega arith) in
@@ -88,7 +88,7 @@ plain_is_written m fresh key comment =
 
 sealed_is_written : (m : Meanings) (pass fresh : List ℕ) (key : SshBasePrivateKey) (comment : List ℕ)
     → AreWritten m (record { pass = Some pass; fresh = fresh }) key comment
-unfolding written writing_asks judged key_made key_text text_writing_asks sealable
+unfolding written writing_asks judged_meaning key_made key_text text_writing_asks sealable
 sealed_is_written m pass fresh key comment =
     let k = made_of key (Some pass) comment (take 16 fresh) in
     elim (cases_Bool (is_trimmed comment)) [

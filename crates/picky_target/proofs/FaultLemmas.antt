@@ -19,7 +19,7 @@ use Rattle.picky_putty_public.specs.PuttyRefusal.{is_hardware}
 use Rattle.picky_ppk_file.specs.declared.file.PpkFile.{PpkFile}
 use Rattle.picky_ppk_file.specs.Written.{file_text, fits_block, written}
 use Rattle.picky_ppk.specs.Changed.{file_of_parts, of_base_key}
-use Rattle.picky_ppk.specs.Sealed.{draft_of}
+use Rattle.picky_ppk.specs.Sealed.{file_to_seal}
 use Rattle.picky_target.specs.declared.error.ConvertError.{ConvertError}
 use Rattle.picky_target.specs.declared.error.ConvertError.TheVariants as errors
 use Rattle.picky_target.specs.declared.target.KeyTarget.TheVariants as targets
@@ -95,7 +95,7 @@ measured_no_fault : (config : PpkEncryptionConfig) (salt padding : List ℕ) (f 
     → measured config salt padding f ≡ Err e → IsNoFault e
 measured_no_fault config salt padding f e is =
     refuses IsNoFault (is_short (f.private_bytes ++ padding)) _ errors.TooLong e
-    (λ g more. judged_no_fault (zeroed (draft_of config salt padding f)) g more) (λ same. cc same) is
+    (λ g more. judged_no_fault (zeroed (file_to_seal config salt padding f)) g more) (λ same. cc same) is
 
 pub plain_no_fault : (m : Meanings) (version : PpkVersionKey) (config : PpkEncryptionConfig) (key : SshBasePrivateKey)
     (comment salt padding : List ℕ) (e : ConvertError)

@@ -24,7 +24,7 @@ use Rattle.picky_ppk.specs.Changed.{of_base_key}
 use Rattle.picky_ppk.specs.Fresh.{can_derive_by}
 use Rattle.picky_ppk.specs.Keyed.{keys_under}
 use Rattle.picky_ppk.specs.Mac.{mac_under, own_mac}
-use Rattle.picky_ppk.specs.Sealed.{draft_of, encrypted, sealing_under}
+use Rattle.picky_ppk.specs.Sealed.{encrypted, file_to_seal, sealing_under}
 use Rattle.picky_ppk.proofs.SealedLemmas.{draft_fits}
 use Rattle.picky_key_text.specs.Key.{private_meaning}
 use Rattle.picky_target.specs.declared.error.ConvertError.{ConvertError}
@@ -32,7 +32,7 @@ use Rattle.picky_target.specs.declared.error.ConvertError.TheVariants as errors
 use Rattle.picky_target.specs.declared.target.KeyTarget.TheVariants as targets
 use Rattle.picky_target.specs.Output.{Output}
 use Rattle.picky_target.specs.Drafts.{plain_file, parts_of, salt_len, padding_len, sealed_file, private_bytes}
-use Rattle.picky_target.specs.Judged.{carries_comment, derives_under, judged, mac_len, measured_file}
+use Rattle.picky_target.specs.Judged.{carries_comment, derives_under, judged_meaning, mac_len, measured_file}
 use Rattle.picky_target.specs.Written.{goes_on, written, writing_asks}
 use Rattle.picky_target.specs.inner.File.{plain_written, Sealable}
 use Rattle.picky_target.specs.inner.File.{sealable, sealed_text, ppk_written, ppk_asks}
@@ -77,7 +77,7 @@ sealed_len m pass fresh version config key comment =
     let padding = take (padding_len key) (drop (salt_len version config) fresh) in
     let sealing = sealing_under version config salt in
     let keys = keys_under m sealing pass in
-    let draft = draft_of config salt padding (plain_file m version key comment) in
+    let draft = file_to_seal config salt padding (plain_file m version key comment) in
     let covered = mac_of_len m (version_of sealing) keys.mac_key _ ∙ ap mac_len (sealing_version version config salt) in
     file_len sealing (parts_of key).algorithm comment (blob_of (public_part key)) (secret_bytes key ++ padding)
     (m.cbc_seal keys.key keys.iv (secret_bytes key ++ padding)) (replicate (mac_len version) 0) (mac_under m keys.mac_key draft draft.private_bytes)
@@ -240,7 +240,7 @@ first : (m : Meanings) (out : Output) (version : PpkVersionKey) (config : PpkEnc
     → (is_hardware (public_part key) ≡ false → carries_comment (targets.Ppk version config) comment ≡ true
     → AreWritten m out version config key comment)
     → AreWritten m out version config key comment
-unfolding written writing_asks judged
+unfolding written writing_asks judged_meaning
 first m out version config key comment rest =
     elim (cases_Bool (is_hardware (public_part key))) [
       | inl hardware ↦ rw hardware (refl, sym (and_false (is_some out.pass)))
@@ -258,7 +258,7 @@ plain_is_written : (m : Meanings) (fresh : List ℕ) (version : PpkVersionKey) (
     (key : SshBasePrivateKey) (comment : List ℕ) → is_hardware (public_part key) ≡ false
     → carries_comment (targets.Ppk version config) comment ≡ true
     → AreWritten m (record { pass = None; fresh = fresh }) version config key comment
-unfolding written writing_asks judged
+unfolding written writing_asks judged_meaning
 plain_is_written m fresh version config key comment plain carries =
     let enough : nat_le 0 (length fresh) ≡ true = le-leb 0 (length fresh) (omega arith) in
     rw (plain, carries, enough) (plain_is m fresh version config key comment plain, refl)
@@ -267,7 +267,7 @@ sealed_is_written : (m : Meanings) (pass fresh : List ℕ) (version : PpkVersion
     (key : SshBasePrivateKey) (comment : List ℕ) → is_hardware (public_part key) ≡ false
     → carries_comment (targets.Ppk version config) comment ≡ true
     → AreWritten m (record { pass = Some pass; fresh = fresh }) version config key comment
-unfolding written writing_asks judged
+unfolding written writing_asks judged_meaning
 sealed_is_written m pass fresh version config key comment plain carries =
     let is = sealable_is m pass fresh version config key comment plain in
     let judged = sealed_rest pass fresh version config key comment in

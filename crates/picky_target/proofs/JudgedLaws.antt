@@ -6,7 +6,7 @@ use Rattle.picky_target.specs.declared.target.KeyTarget.{KeyTarget}
 use Rattle.picky_target.specs.Output.{Output}
 use Rattle.picky_target.specs.Carried.{Carries, Holds, Place, places}
 use Rattle.picky_target.specs.Carried.{PrivateKey, Kind, Comment, Derivation, Fresh, Length, Lines}
-use Rattle.picky_target.specs.Judged.{first_failing, judged, passes, refusal}
+use Rattle.picky_target.specs.Judged.{first_failing, judged_meaning, passes, place_refusal}
 use Rattle.picky_target.proofs.PlaceLemmas.{holds_from_test, test_from_holds}
 use Rattle.picky_target.proofs.TestLemmas.{passes as passes_first}
 
@@ -56,23 +56,23 @@ all_pass test each =
 
 -- ---- the judgement
 
-pub judged_carries : (out : Output) (target : KeyTarget) (meaning : Meaning) → judged out target meaning ≡ Ok (tt {0})
+pub judged_carries : (out : Output) (target : KeyTarget) (meaning : Meaning) → judged_meaning out target meaning ≡ Ok (tt {0})
     → Carries out target meaning
-unfolding judged
+unfolding judged_meaning
 judged_carries out target meaning is =
-    let each = passes_from (passes out target meaning) (refusal target) places is in
+    let each = passes_from (passes out target meaning) (place_refusal target) places is in
     record { holds = λ place. holds_from_test out target meaning place (at_each (passes out target meaning) each place) }
 
 pub carried_is_judged : (out : Output) (target : KeyTarget) (meaning : Meaning) → Carries out target meaning
-    → judged out target meaning ≡ Ok (tt {0})
-unfolding judged
+    → judged_meaning out target meaning ≡ Ok (tt {0})
+unfolding judged_meaning
 carried_is_judged out target meaning carries =
-    passes_to (passes out target meaning) (refusal target) places
+    passes_to (passes out target meaning) (place_refusal target) places
     (all_pass (passes out target meaning) (λ place. test_from_holds out target meaning place (carries.holds place)))
 
-pub refused_place : (out : Output) (target : KeyTarget) (meaning : Meaning) (e : ConvertError) → judged out target meaning ≡ Err e
-    → (place : Place) × (e ≡ refusal target place) × (Holds out target meaning place → ⊥)
-unfolding judged
+pub refused_place : (out : Output) (target : KeyTarget) (meaning : Meaning) (e : ConvertError) → judged_meaning out target meaning ≡ Err e
+    → (place : Place) × (e ≡ place_refusal target place) × (Holds out target meaning place → ⊥)
+unfolding judged_meaning
 refused_place out target meaning e is =
-    let found = failing (passes out target meaning) (refusal target) places e is in
+    let found = failing (passes out target meaning) (place_refusal target) places e is in
     (found.0, found.1, λ holds. cc (found.2, test_from_holds out target meaning found.0 holds))

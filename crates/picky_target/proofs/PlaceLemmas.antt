@@ -35,15 +35,15 @@ use Rattle.picky_target.specs.declared.target.KeyTarget.TheVariants as targets
 use Rattle.picky_target.specs.Output.{Output}
 use Rattle.picky_target.specs.Drafts.{openssh_key, ppk_file, private_bytes}
 use Rattle.picky_target.specs.Texts.{envelope_text}
-use Rattle.picky_target.specs.Carried.{CarriesComment, Derives, HasFileLines, HasFileRoom, HasKind, HasLines, HasRoom, HasSecret, HasSecretRoom, Holds, Place, need}
+use Rattle.picky_target.specs.Carried.{CarriesComment, Derives, HasFileLines, HasFileRoom, HasKind, HasLines, HasRoom, HasNeededSecret, HasSecretRoom, Holds, Place, need}
 use Rattle.picky_target.specs.Carried.{PrivateKey, Kind, Comment, Derivation, Fresh, Length, Lines}
-use Rattle.picky_target.specs.Judged.{carries_comment, derives, ends_in_cr, file_has_lines, has_kind, has_lf, has_lines, has_room, has_secret, is_trimmed, measured_file, passes, secret_has_room}
+use Rattle.picky_target.specs.Judged.{carries_comment, derives, ends_in_cr, file_has_lines, has_kind, has_lf, has_lines, has_room, has_needed_secret, is_trimmed, measured_file, passes, secret_has_room}
 use Rattle.picky_target.proofs.FileWritten.{plain_len, sealed_len}
 use Rattle.picky_target.proofs.TestLemmas.{not_true, test_from_has_no, no_end_from_test, test_from_no_end}
 
 -- ---- a private key
 
-secret_holds : (target : KeyTarget) (key : Key) → has_secret target key ≡ true → HasSecret target key
+secret_holds : (target : KeyTarget) (key : Key) → has_needed_secret target key ≡ true → HasNeededSecret target key
 secret_holds targets.OpenSsh (keys.Private key) test = tt
 secret_holds targets.OpenSsh (keys.Public key) test = cc test
 secret_holds (targets.Ppk version config) (keys.Private key) test = tt
@@ -51,7 +51,7 @@ secret_holds (targets.Ppk version config) (keys.Public key) test = cc test
 secret_holds targets.OpenSshPublic key test = tt
 secret_holds targets.PuttyPublic key test = tt
 
-secret_test : (target : KeyTarget) (key : Key) → HasSecret target key → has_secret target key ≡ true
+secret_test : (target : KeyTarget) (key : Key) → HasNeededSecret target key → has_needed_secret target key ≡ true
 secret_test targets.OpenSsh (keys.Private key) holds = refl
 secret_test targets.OpenSsh (keys.Public key) holds = absurd holds
 secret_test (targets.Ppk version config) (keys.Private key) holds = refl

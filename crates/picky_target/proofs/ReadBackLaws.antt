@@ -17,7 +17,7 @@ use Rattle.picky_putty_public.proofs.PuttyLaws.{putty_public_means}
 use Rattle.picky_key_text.specs.declared.meaning.Key.{Key}
 use Rattle.picky_key_text.specs.declared.meaning.Key.TheVariants as keys
 use Rattle.picky_key_text.specs.declared.meaning.Meaning.{Meaning}
-use Rattle.picky_key_text.specs.Kept.{IsKept, IsKeptKey}
+use Rattle.picky_key_text.specs.Kept.{IsKeptMeaning, IsKeptKey}
 use Rattle.picky_key_text.specs.Key.{public_key, public_meaning, public_part}
 use Rattle.picky_key_text.specs.Reads.{Means, Reads}
 use Rattle.picky_target.specs.declared.target.KeyTarget.{KeyTarget}
@@ -37,7 +37,7 @@ part_is_key (keys.Public key) is = is
 
 -- ---- public targets
 
-pub line_is_read_back : (m : Meanings) (out : Output) (meaning : Meaning) → IsKept meaning
+pub line_is_read_back : (m : Meanings) (out : Output) (meaning : Meaning) → IsKeptMeaning meaning
     → Carries out targets.OpenSshPublic meaning
     → Reads (under m out.pass) (line_of (public_key meaning)) (public_meaning (public_key meaning))
 line_is_read_back m out meaning is carries =
@@ -54,7 +54,7 @@ line_is_read_back m out meaning is carries =
     subst (λ f. Means f (under m out.pass) (line_of key) (public_meaning key)) (sym (line_form key))
     (subst (λ t. IsPublicLine t key) (append-nil (line_of key)) line, refl)
 
-pub putty_is_read_back : (m : Meanings) (out : Output) (meaning : Meaning) → IsKept meaning
+pub putty_is_read_back : (m : Meanings) (out : Output) (meaning : Meaning) → IsKeptMeaning meaning
     → Carries out targets.PuttyPublic meaning
     → Reads (under m out.pass) (putty_public (blob_of (public_part meaning.key)) meaning.comment) (public_meaning (public_key meaning))
 putty_is_read_back m out meaning is carries =
@@ -66,7 +66,7 @@ putty_is_read_back m out meaning is carries =
 
 -- ---- private ones
 
-openssh_is_read_back : (m : Meanings) (out : Output) (key : Key) (comment : List ℕ) → IsKept (record { key = key; comment = comment })
+openssh_is_read_back : (m : Meanings) (out : Output) (key : Key) (comment : List ℕ) → IsKeptMeaning (record { key = key; comment = comment })
     → IsBytes out.fresh → IfSome out.pass IsUtf8 → Carries out targets.OpenSsh (record { key = key; comment = comment })
     → Reads (under m out.pass) (text_for m out targets.OpenSsh (record { key = key; comment = comment })) (record { key = key; comment = comment })
 openssh_is_read_back m out (keys.Private key) comment is fresh pass carries =
@@ -74,7 +74,7 @@ openssh_is_read_back m out (keys.Private key) comment is fresh pass carries =
 openssh_is_read_back m out (keys.Public key) comment is fresh pass carries = absurd (carries.holds PrivateKey)
 
 ppk_is_read_back : (m : Meanings) (out : Output) (version : PpkVersionKey) (config : PpkEncryptionConfig) (key : Key)
-    (comment : List ℕ) → IsConfig config → IsKept (record { key = key; comment = comment }) → IsBytes out.fresh
+    (comment : List ℕ) → IsConfig config → IsKeptMeaning (record { key = key; comment = comment }) → IsBytes out.fresh
     → IfSome out.pass IsUtf8 → Carries out (targets.Ppk version config) (record { key = key; comment = comment })
     → Reads (under m out.pass) (text_for m out (targets.Ppk version config) (record { key = key; comment = comment })) (record { key = key; comment = comment })
 ppk_is_read_back m out version config (keys.Private key) comment ranges is fresh pass carries =
@@ -83,7 +83,8 @@ ppk_is_read_back m out version config (keys.Public key) comment ranges is fresh 
 
 -- ---- each target
 
-text_for_is_read_back : (m : Meanings) (out : Output) (target : KeyTarget) (meaning : Meaning) → IsTarget target → IsKept meaning
+text_for_is_read_back : (m : Meanings) (out : Output) (target : KeyTarget) (meaning : Meaning) → IsTarget target
+    → IsKeptMeaning meaning
     → IsBytes out.fresh → IfSome out.pass IsUtf8 → Carries out target meaning
     → Reads (under m out.pass) (text_for m out target meaning) (kept target meaning)
 text_for_is_read_back m out targets.OpenSsh meaning ranges is fresh pass carries =
@@ -95,7 +96,8 @@ text_for_is_read_back m out targets.PuttyPublic meaning ranges is fresh pass car
 
 -- A text that spells what its target carries is read back.
 pub spelled_is_read_back : (m : Meanings) (out : Output) (target : KeyTarget) (meaning : Meaning) (text : List ℕ) → IsTarget target
-    → IsKept meaning → IsBytes out.fresh → IfSome out.pass IsUtf8 → Carries out target meaning → Spells m out target meaning text
+    → IsKeptMeaning meaning → IsBytes out.fresh → IfSome out.pass IsUtf8 → Carries out target meaning
+    → Spells m out target meaning text
     → Reads (under m out.pass) text (kept target meaning)
 spelled_is_read_back m out target meaning text ranges is fresh pass carries spells =
     subst (λ t. Reads (under m out.pass) t (kept target meaning)) (sym (text_only m out target meaning text spells))

@@ -27,7 +27,7 @@ use Rattle.picky_target.specs.declared.target.KeyTarget.{KeyTarget}
 use Rattle.picky_target.specs.declared.target.KeyTarget.TheVariants as targets
 use Rattle.picky_target.specs.Output.{Output}
 use Rattle.picky_target.specs.Carried.{need_under}
-use Rattle.picky_target.specs.Judged.{carries_comment, derives, judged}
+use Rattle.picky_target.specs.Judged.{carries_comment, derives, judged_meaning}
 use Rattle.picky_target.specs.Written.{fault_of, written, writing_asks}
 use Rattle.picky_target.specs.inner.Envelope.{envelope_written, envelope_asks}
 use Rattle.picky_target.specs.inner.File.{ppk_written, ppk_asks}
@@ -117,13 +117,13 @@ written_ppk m pass fresh target version config meaning key comment target_is key
 
 pub openssh_wants_private : (m : Meanings) (out : Output) (target : KeyTarget) (meaning : Meaning) (key : SshBasePublicKey)
     → target ≡ targets.OpenSsh → meaning.key ≡ keys.Public key → written m out target meaning ≡ Err errors.NoPrivateKey
-unfolding written judged
+unfolding written judged_meaning
 openssh_wants_private m out target meaning key target_is key_is = rw (target_is, key_is) refl
 
 pub ppk_wants_private : (m : Meanings) (out : Output) (target : KeyTarget) (version : PpkVersionKey) (config : PpkEncryptionConfig)
     (meaning : Meaning) (key : SshBasePublicKey) → target ≡ targets.Ppk version config → meaning.key ≡ keys.Public key
     → written m out target meaning ≡ Err errors.NoPrivateKey
-unfolding written judged
+unfolding written judged_meaning
 ppk_wants_private m out target version config meaning key target_is key_is = rw (target_is, key_is) refl
 
 -- ---- public targets
@@ -151,7 +151,7 @@ putty_needs (Some pass) (keys.Public key) = refl
 
 pub line_is_written : (m : Meanings) (out : Output) (target : KeyTarget) (meaning : Meaning) (key : SshPublicKey)
     → target ≡ targets.OpenSshPublic → key ≡ public_key meaning → line_written key ≡ written m out target meaning
-unfolding written judged
+unfolding written judged_meaning
 line_is_written m out target meaning key target_is key_is =
     rw (target_is, key_is, line_derives out.pass, line_needs out.pass meaning.key, nothing_needed out.fresh)
     (elim (cases_Bool (carries_comment targets.OpenSshPublic meaning.comment)) [
@@ -164,7 +164,7 @@ line_is_written m out target meaning key target_is key_is =
 
 pub putty_is_written : (m : Meanings) (out : Output) (target : KeyTarget) (meaning : Meaning) (key : SshPublicKey)
     → target ≡ targets.PuttyPublic → key ≡ public_key meaning → putty_written key ≡ written m out target meaning
-unfolding written judged
+unfolding written judged_meaning
 putty_is_written m out target meaning key target_is key_is =
     let blob = blob_of (public_part meaning.key) in
     rw (target_is, key_is, putty_derives out.pass, putty_needs out.pass meaning.key, nothing_needed out.fresh)

@@ -46,11 +46,11 @@ IsPrivate (keys.Private key) = Unit {0}
 IsPrivate (keys.Public key) = ⊥
 
 -- the target keeps the secret
-abbrev pub HasSecret : KeyTarget → Key → Type 0
-HasSecret targets.OpenSsh key = IsPrivate key
-HasSecret (targets.Ppk version config) key = IsPrivate key
-HasSecret targets.OpenSshPublic key = Unit {0}
-HasSecret targets.PuttyPublic key = Unit {0}
+abbrev pub HasNeededSecret : KeyTarget → Key → Type 0
+HasNeededSecret targets.OpenSsh key = IsPrivate key
+HasNeededSecret (targets.Ppk version config) key = IsPrivate key
+HasNeededSecret targets.OpenSshPublic key = Unit {0}
+HasNeededSecret targets.PuttyPublic key = Unit {0}
 
 -- ---- the kind: PuTTY has no key whose secret a device keeps
 
@@ -144,7 +144,7 @@ HasLines out targets.PuttyPublic key = Unit {0}
 -- ---- all
 
 abbrev pub Holds : Output → KeyTarget → Meaning → Place → Type 0
-Holds out target meaning PrivateKey = HasSecret target meaning.key
+Holds out target meaning PrivateKey = HasNeededSecret target meaning.key
 Holds out target meaning Kind = HasKind target meaning.key
 Holds out target meaning Comment = CarriesComment target meaning.comment
 Holds out target meaning Derivation = Derives target out.pass

@@ -16,7 +16,7 @@ use Rattle.picky_ppk_parts.specs.Secret.{secret_bytes}
 use Rattle.picky_ppk_file.specs.declared.file.PpkFile.{PpkFile}
 use Rattle.picky_ppk.specs.Changed.{file_of_parts}
 use Rattle.picky_ppk.specs.Keyed.{keys_under}
-use Rattle.picky_ppk.specs.Sealed.{draft_of, lacking, seal_draft}
+use Rattle.picky_ppk.specs.Sealed.{file_to_seal, lacking, seal_draft}
 use Rattle.picky_target.specs.Output.{Output}
 
 -- OpenSSH's key, with the check number 0 and, where there is a passphrase, a salt of 16 fresh bytes and 16 rounds
@@ -64,7 +64,7 @@ plain_file m version key comment = file_of_parts m version comment (parts_of key
 abbrev pub sealed_file : Meanings → Output → PpkVersionKey → PpkEncryptionConfig → (pass : List ℕ) → PpkFile
     → SshBasePrivateKey → PpkFile
 sealed_file m out version config pass plain key =
-    let draft = draft_of config (salt_of out version config) (padding_of out version config key) plain in
+    let draft = file_to_seal config (salt_of out version config) (padding_of out version config key) plain in
     seal_draft m (keys_under m draft.sealing pass) draft
 
 abbrev pub file_under : Meanings → Output → PpkVersionKey → PpkEncryptionConfig → Option (List ℕ) → SshBasePrivateKey

@@ -45,11 +45,11 @@ abbrev pub is_private : Key → Bool
 is_private (keys.Private key) = true
 is_private (keys.Public key) = false
 
-abbrev pub has_secret : KeyTarget → Key → Bool
-has_secret targets.OpenSsh key = is_private key
-has_secret (targets.Ppk version config) key = is_private key
-has_secret targets.OpenSshPublic key = true
-has_secret targets.PuttyPublic key = true
+abbrev pub has_needed_secret : KeyTarget → Key → Bool
+has_needed_secret targets.OpenSsh key = is_private key
+has_needed_secret (targets.Ppk version config) key = is_private key
+has_needed_secret targets.OpenSshPublic key = true
+has_needed_secret targets.PuttyPublic key = true
 
 abbrev pub has_kind : KeyTarget → Key → Bool
 has_kind targets.OpenSsh key = true
@@ -138,7 +138,7 @@ has_lines out targets.OpenSshPublic key = true
 has_lines out targets.PuttyPublic key = true
 
 abbrev pub passes : Output → KeyTarget → Meaning → Place → Bool
-passes out target meaning PrivateKey = has_secret target meaning.key
+passes out target meaning PrivateKey = has_needed_secret target meaning.key
 passes out target meaning Kind = has_kind target meaning.key
 passes out target meaning Comment = carries_comment target meaning.comment
 passes out target meaning Derivation = derives target out.pass
@@ -153,18 +153,18 @@ abbrev pub not_derived : KeyTarget → ConvertError
 not_derived targets.OpenSsh = errors.Private private.HashingError
 not_derived target = errors.Putty putty.Argon2
 
-abbrev pub refusal : KeyTarget → Place → ConvertError
-refusal target PrivateKey = errors.NoPrivateKey
-refusal target Kind = errors.Putty no_hardware_keys
-refusal target Comment = errors.CommentNotCarried
-refusal target Derivation = not_derived target
-refusal target Fresh = errors.FreshTooShort
-refusal target Length = errors.TooLong
-refusal target Lines = errors.TooManyLines
+abbrev pub place_refusal : KeyTarget → Place → ConvertError
+place_refusal target PrivateKey = errors.NoPrivateKey
+place_refusal target Kind = errors.Putty no_hardware_keys
+place_refusal target Comment = errors.CommentNotCarried
+place_refusal target Derivation = not_derived target
+place_refusal target Fresh = errors.FreshTooShort
+place_refusal target Length = errors.TooLong
+place_refusal target Lines = errors.TooManyLines
 
 abbrev pub first_failing : (Place → Bool) → (Place → ConvertError) → List Place → Result (Unit {0}) ConvertError
 first_failing test error [] = Ok tt
 first_failing test error (place ∷ more) = if test place then first_failing test error more else Err (error place)
 
-unfoldable pub judged : Output → KeyTarget → Meaning → Result (Unit {0}) ConvertError
-judged out target meaning = first_failing (passes out target meaning) (refusal target) places
+unfoldable pub judged_meaning : Output → KeyTarget → Meaning → Result (Unit {0}) ConvertError
+judged_meaning out target meaning = first_failing (passes out target meaning) (place_refusal target) places

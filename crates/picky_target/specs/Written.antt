@@ -10,12 +10,12 @@ use Rattle.picky_target.specs.declared.error.ConvertError.TheVariants as errors
 use Rattle.picky_target.specs.declared.target.KeyTarget.{KeyTarget}
 use Rattle.picky_target.specs.declared.target.KeyTarget.TheVariants as targets
 use Rattle.picky_target.specs.Output.{Output}
-use Rattle.picky_target.specs.Judged.{judged}
+use Rattle.picky_target.specs.Judged.{judged_meaning}
 use Rattle.picky_target.specs.Texts.{text_for}
 
 -- the text, or the first reason why there is none
 unfoldable pub written : Meanings → Output → KeyTarget → Meaning → Result (List ℕ) ConvertError
-written m out target meaning = and_then (judged out target meaning) (λ _. Ok (text_for m out target meaning))
+written m out target meaning = and_then (judged_meaning out target meaning) (λ _. Ok (text_for m out target meaning))
 
 -- the target keeps the secret; what it writes is sealed where there is a passphrase
 abbrev pub keeps_secret : KeyTarget → Bool
@@ -33,7 +33,7 @@ goes_on (Ok _) = true
 goes_on (Err e) = false
 
 unfoldable pub writing_asks : Output → KeyTarget → Meaning → Bool
-writing_asks out target meaning = is_sealed out target && goes_on (judged out target meaning)
+writing_asks out target meaning = is_sealed out target && goes_on (judged_meaning out target meaning)
 
 -- the suite's fault, in the words of the target; public targets ask none
 abbrev pub fault_of : KeyTarget → ConvertError

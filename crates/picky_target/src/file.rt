@@ -11,7 +11,7 @@ ghost use Rattle.picky_sshkey_blob.specs.Key.{public_part};
 ghost use Rattle.picky_ppk_parts.specs.Secret.{secret_bytes};
 ghost use Rattle.picky_ppk_file.specs.File.{version_of};
 ghost use Rattle.picky_putty_public.specs.PuttyRefusal.{is_hardware as is_hardware_of};
-ghost use Rattle.picky_ppk.specs.Sealed.{draft_of, is_sealable, padding_len as missing_len};
+ghost use Rattle.picky_ppk.specs.Sealed.{file_to_seal, is_sealable, padding_len as missing_len};
 ghost use Rattle.picky_target.specs.Drafts.{padding_len as padding_len_of, plain_file as plain_file_of, salt_len as salt_len_of};
 ghost use Rattle.picky_target.specs.Judged.{mac_len};
 ghost use Rattle.picky_target.specs.inner.File.{drawn, judged_text, measured, plain_drafted, plain_written, sealed_text as sealed_text_of};
@@ -154,10 +154,10 @@ fn sealed_text<S: Suite>(
     ensures gives { GivesAsked ConvertError.NoMemory (ConvertError.Putty PuttyError.SuiteFault) (λ text. text) result
         (sealed_text_of (S.meanings suite.old) pass.now config
         (record { salt = fresh.now.salt.now; padding = fresh.now.padding.now; plain = ppk.now }))
-        (is_sealable pass.now ppk.now (draft_of config fresh.now.salt.now fresh.now.padding.now ppk.now))
+        (is_sealable pass.now ppk.now (file_to_seal config fresh.now.salt.now fresh.now.padding.now ppk.now))
         (Rose (S.faults suite.old) (S.faults suite.new)) }
     ensures suite { LeavesSuite S.meanings S.faults (ConvertError.Putty PuttyError.SuiteFault)
-        (is_sealable pass.now ppk.now (draft_of config fresh.now.salt.now fresh.now.padding.now ppk.now)) result
+        (is_sealable pass.now ppk.now (file_to_seal config fresh.now.salt.now fresh.now.padding.now ppk.now)) result
         suite.old suite.new }
 {
     match ppk.encrypt(alloc, suite, pass, config, fresh.salt, fresh.padding) {

@@ -7,12 +7,12 @@ ghost use Rattle.picky_layout.specs.Numbers.{IsBytes};
 ghost use Rattle.picky_suite.specs.Meanings.{Meanings};
 ghost use Rattle.picky_wire.specs.Equality.{IsEquality};
 ghost use Rattle.picky_key_text.specs.declared.meaning.Meaning.{Meaning as Meant};
-ghost use Rattle.picky_key_text.specs.Kept.{IsKept};
+ghost use Rattle.picky_key_text.specs.Kept.{IsKeptMeaning};
 ghost use Rattle.picky_key_text.specs.Reads.{Reads};
 ghost use Rattle.picky_target.specs.declared.error.ConvertError.{ConvertError as Refused};
 ghost use Rattle.picky_target.specs.declared.target.KeyTarget.{KeyTarget as To};
 ghost use Rattle.picky_target.specs.Carried.{Carries, Holds, Place};
-ghost use Rattle.picky_target.specs.Judged.{judged, refusal};
+ghost use Rattle.picky_target.specs.Judged.{judged_meaning, place_refusal};
 ghost use Rattle.picky_target.specs.Output.{Output};
 ghost use Rattle.picky_target.specs.ReadBack.{IsTarget, kept, under};
 ghost use Rattle.picky_target.specs.Texts.{Spells, text_for};
@@ -22,10 +22,10 @@ use crate::target::KeyTarget;
 
 /// A target takes a meaning exactly where it carries it, and its refusal is that of a place that doesn't hold.
 pub fn targets_take_what_they_carry()
-    ensures carries { (out : Output) (to : To) (m : Meant) → judged out to m ≡ Ok tt → Carries out to m }
-    ensures takes { (out : Output) (to : To) (m : Meant) → Carries out to m → judged out to m ≡ Ok tt }
-    ensures refuses { (out : Output) (to : To) (m : Meant) (e : Refused) → judged out to m ≡ Err e
-        → (place : Place) × (e ≡ refusal to place) × (Holds out to m place → ⊥) }
+    ensures carries { (out : Output) (to : To) (m : Meant) → judged_meaning out to m ≡ Ok tt → Carries out to m }
+    ensures takes { (out : Output) (to : To) (m : Meant) → Carries out to m → judged_meaning out to m ≡ Ok tt }
+    ensures refuses { (out : Output) (to : To) (m : Meant) (e : Refused) → judged_meaning out to m ≡ Err e
+        → (place : Place) × (e ≡ place_refusal to place) × (Holds out to m place → ⊥) }
 {}
 
 /// A meaning that a target carries has one text there.
@@ -38,7 +38,7 @@ pub fn text_is_the_one_spelling()
 /// A text that spells what its target carries means, under the passphrase that it is sealed with, what the target keeps of it:
 /// the key or its public part, and the comment. Every value of `KeyTarget` has numbers as `IsTarget` says.
 pub fn text_is_read_back()
-    ensures { (s : Meanings) (out : Output) (to : To) (m : Meant) (text : List ℕ) → IsTarget to → IsKept m
+    ensures { (s : Meanings) (out : Output) (to : To) (m : Meant) (text : List ℕ) → IsTarget to → IsKeptMeaning m
         → IsBytes out.fresh → IfSome out.pass IsUtf8 → Carries out to m → Spells s out to m text
         → Reads (under s out.pass) text (kept to m) }
 {}

@@ -1,6 +1,6 @@
 //! Why a public key line is refused.
 
-use picky_conversion::{Given, convert_key};
+use picky_conversion::{ConversionGiven, convert_key};
 use picky_key_text::{ReadError, read_text};
 use picky_sshpub::{SshPublicKey, SshPublicKeyError};
 use picky_suite::PlainSuite;
@@ -152,7 +152,7 @@ fn is_of_input(why: &ConvertError, wanted: &SshPublicKeyError) -> bool {
 }
 
 fn is_unwritten(alloc: Global, line: &str, target: KeyTarget, wanted: &SshPublicKeyError) -> bool {
-    let given = Given {
+    let given = ConversionGiven {
         pass_in: None,
         pass_out: None,
         fresh: &[],

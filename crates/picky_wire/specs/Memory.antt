@@ -3,17 +3,17 @@ use Rattle.std.specs.Prelude.{ℕ, ◌++◌, ◌-◌, List, length, take, drop, 
 use Rattle.picky_wire.specs.Count.{Calls, next_fails, passed}
 
 -- the bytes to come, how many a call gives at most, and the calls that fail
-pub record Given : Type 0 where
+pub record MemorySourceState : Type 0 where
   pub left : List ℕ
   pub step : ℕ
   pub calls : Calls
 
 -- what a call gives of the bytes for a buffer of so many
-abbrev pub given : Given → ℕ → List ℕ
+abbrev pub given : MemorySourceState → ℕ → List ℕ
 given s room = take (min s.step room) s.left
 
 -- the source after a call that gives them
-abbrev pub after_given : Given → ℕ → Given
+abbrev pub after_given : MemorySourceState → ℕ → MemorySourceState
 after_given s room = record s { left = drop (min s.step room) s.left; calls = passed s.calls }
 
 -- the bytes that were taken, how many there can be, how many a call takes at most, and the calls that fail

@@ -4,7 +4,7 @@ ghost use Rattle.std.specs.Prelude.{◌≡◌, ◌^◌, ◌<◌, ◌≤◌, ◌-
 ghost use Rattle.std.proofs.Common.{arith, lit<};
 ghost use Rattle.picky_layout.specs.Numbers.{IsBytes};
 ghost use Rattle.picky_wire.specs.Count.{Keeps, next_fails, failed};
-ghost use Rattle.picky_wire.specs.Memory.{Given, given, after_given};
+ghost use Rattle.picky_wire.specs.Memory.{MemorySourceState, given, after_given};
 
 use crate::calls::FailingCalls;
 use crate::error::{Failed, NoMemory};
@@ -129,7 +129,7 @@ pub struct MemorySource {
 }
 
 impl Model for MemorySource {
-    ghost Value = { Given };
+    ghost Value = { MemorySourceState };
 
     ghost view = { λ s. record { left = drop s.at s.content.items; step = s.step; calls = s.calls } };
 

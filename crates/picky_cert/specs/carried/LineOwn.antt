@@ -29,26 +29,27 @@ use Rattle.picky_cert.specs.LineRefusal.{blob_certificate, body_certificate, lin
 use Rattle.picky_cert.specs.Want.{IsReadFault, WantsMemory}
 
 -- the error is the bytes' own
-pub record IsOwn (e : SshCertificateError) : Type 0 where
+pub record IsErrorOfCertificate (e : SshCertificateError) : Type 0 where
   pub no_fault : IsReadFault e → ⊥
   pub no_want : WantsMemory e → ⊥
 
-pub own_is_no_fault : (e : SshCertificateError) → IsOwn e → e ≢ certificate_error wire.ReadFault
+pub own_is_no_fault : (e : SshCertificateError) → IsErrorOfCertificate e → e ≢ certificate_error wire.ReadFault
 own_is_no_fault e own is = own.no_fault (subst IsReadFault (sym is) refl)
 
 -- ---- parts
 
-either_own : (b : Bool) (d e : SshCertificateError) → IsOwn d → IsOwn e → IsOwn (if b then d else e)
+either_own : (b : Bool) (d e : SshCertificateError) → IsErrorOfCertificate d → IsErrorOfCertificate e
+    → IsErrorOfCertificate (if b then d else e)
 either_own true d e first second = first
 either_own false d e first second = second
 
-name_own : (name : List ℕ) → IsOwn (name_error name)
+name_own : (name : List ℕ) → IsErrorOfCertificate (name_error name)
 name_own name =
     either_own (bytes_eq name (cert_key_type_name key_types.SshDssV01)) (errors.UnsupportedCertificateType name)
     (errors.InvalidCertificateKeyType name) (record { no_fault = λ is. cc is; no_want = λ is. cc is })
     (record { no_fault = λ is. cc is; no_want = λ is. cc is })
 
-own_own : (why : Why) → IsOwn (own_error why)
+own_own : (why : Why) → IsErrorOfCertificate (own_error why)
 own_own (Flawed Short) = record { no_fault = λ is. cc is; no_want = λ is. cc is }
 own_own (Flawed NotUtf8) = record { no_fault = λ is. cc is; no_want = λ is. cc is }
 own_own (Flawed Big) = record { no_fault = λ is. cc is; no_want = λ is. cc is }
@@ -57,7 +58,7 @@ own_own Magic = record { no_fault = λ is. cc is; no_want = λ is. cc is }
 own_own (Name name) = name_own name
 own_own (Number n) = record { no_fault = λ is. cc is; no_want = λ is. cc is }
 
-type_own : (why : Why) → IsOwn (type_error why)
+type_own : (why : Why) → IsErrorOfCertificate (type_error why)
 type_own (Flawed Short) = record { no_fault = λ is. cc is; no_want = λ is. cc is }
 type_own (Flawed NotUtf8) = record { no_fault = λ is. cc is; no_want = λ is. cc is }
 type_own (Flawed Big) = record { no_fault = λ is. cc is; no_want = λ is. cc is }
@@ -66,7 +67,7 @@ type_own Magic = own_own Magic
 type_own (Name name) = own_own (Name name)
 type_own (Number n) = own_own (Number n)
 
-options_own : (why : Why) → IsOwn (options_error why)
+options_own : (why : Why) → IsErrorOfCertificate (options_error why)
 options_own (Flawed Short) = record { no_fault = λ is. cc is; no_want = λ is. cc is }
 options_own (Flawed NotUtf8) = record { no_fault = λ is. cc is; no_want = λ is. cc is }
 options_own (Flawed Big) = record { no_fault = λ is. cc is; no_want = λ is. cc is }
@@ -75,7 +76,7 @@ options_own Magic = own_own Magic
 options_own (Name name) = record { no_fault = λ is. cc is; no_want = λ is. cc is }
 options_own (Number n) = own_own (Number n)
 
-extensions_own : (why : Why) → IsOwn (extensions_error why)
+extensions_own : (why : Why) → IsErrorOfCertificate (extensions_error why)
 extensions_own (Flawed Short) = record { no_fault = λ is. cc is; no_want = λ is. cc is }
 extensions_own (Flawed NotUtf8) = record { no_fault = λ is. cc is; no_want = λ is. cc is }
 extensions_own (Flawed Big) = record { no_fault = λ is. cc is; no_want = λ is. cc is }
@@ -84,7 +85,7 @@ extensions_own Magic = own_own Magic
 extensions_own (Name name) = own_own (Name name)
 extensions_own (Number n) = own_own (Number n)
 
-issuer_own : (why : Why) → IsOwn (issuer_error why)
+issuer_own : (why : Why) → IsErrorOfCertificate (issuer_error why)
 issuer_own (Flawed Short) = record { no_fault = λ is. cc is; no_want = λ is. cc is }
 issuer_own (Flawed NotUtf8) = record { no_fault = λ is. cc is; no_want = λ is. cc is }
 issuer_own (Flawed Big) = record { no_fault = λ is. cc is; no_want = λ is. cc is }
@@ -93,7 +94,7 @@ issuer_own Magic = record { no_fault = λ is. cc is; no_want = λ is. cc is }
 issuer_own (Name name) = record { no_fault = λ is. cc is; no_want = λ is. cc is }
 issuer_own (Number n) = record { no_fault = λ is. cc is; no_want = λ is. cc is }
 
-signature_own : (why : Why) → IsOwn (signature_part_error why)
+signature_own : (why : Why) → IsErrorOfCertificate (signature_part_error why)
 signature_own (Flawed Short) = record { no_fault = λ is. cc is; no_want = λ is. cc is }
 signature_own (Flawed NotUtf8) = record { no_fault = λ is. cc is; no_want = λ is. cc is }
 signature_own (Flawed Big) = record { no_fault = λ is. cc is; no_want = λ is. cc is }
@@ -102,7 +103,7 @@ signature_own Magic = own_own Magic
 signature_own (Name name) = record { no_fault = λ is. cc is; no_want = λ is. cc is }
 signature_own (Number n) = own_own (Number n)
 
-pub cert_is_own : (reason : CertReason) → IsOwn (cert_error reason)
+pub cert_is_own : (reason : CertReason) → IsErrorOfCertificate (cert_error reason)
 cert_is_own (parts.Name, why) = own_own why
 cert_is_own (parts.Nonce, why) = own_own why
 cert_is_own (parts.Subject, why) = own_own why
@@ -122,12 +123,13 @@ cert_is_own (parts.Signature, why) = signature_own why
 -- ---- lines
 
 abbrev pub RefusesOwn : {A : Type 0} → Result A SshCertificateError → Type 0
-RefusesOwn r = (e : SshCertificateError) → r ≡ Err e → IsOwn e
+RefusesOwn r = (e : SshCertificateError) → r ≡ Err e → IsErrorOfCertificate e
 
-own_err : {A : Type 0} (r : Result A SshCertificateError) (f : SshCertificateError) → r ≡ Err f → IsOwn f → RefusesOwn r
+own_err : {A : Type 0} (r : Result A SshCertificateError) (f : SshCertificateError) → r ≡ Err f → IsErrorOfCertificate f
+    → RefusesOwn r
 own_err r f refused own e is =
     let same : f ≡ e = cc (refused, is) in
-    subst IsOwn same own
+    subst IsErrorOfCertificate same own
 
 own_ok : {A : Type 0} (v : A) → RefusesOwn (Ok v)
 own_ok v e is = cc is
@@ -137,16 +139,17 @@ pub own_then : {A B : Type 0} (r : Result A SshCertificateError) (next : A → R
 own_then (Ok v) next first second = second v
 own_then (Err f) next first second = own_err _ f refl (first f refl)
 
-pub own_if : {A : Type 0} (b : Bool) (r : Result A SshCertificateError) (f : SshCertificateError) → RefusesOwn r → IsOwn f
+pub own_if : {A : Type 0} (b : Bool) (r : Result A SshCertificateError) (f : SshCertificateError) → RefusesOwn r
+    → IsErrorOfCertificate f
     → RefusesOwn (if b then r else Err f)
 own_if true r f whole own = whole
 own_if false r f whole own = own_err _ f refl own
 
-own_or : {A : Type 0} (o : Option A) (f : SshCertificateError) → IsOwn f → RefusesOwn (ok_or o f)
+own_or : {A : Type 0} (o : Option A) (f : SshCertificateError) → IsErrorOfCertificate f → RefusesOwn (ok_or o f)
 own_or (Some v) f own = own_ok v
 own_or None f own = own_err _ f refl own
 
-pub too_long : IsOwn errors.TooLong
+pub too_long : IsErrorOfCertificate errors.TooLong
 too_long = record { no_fault = λ is. cc is; no_want = λ is. cc is }
 
 tagged_own : {A : Type 0} (r : Result A CertReason) → RefusesOwn (map_err cert_error r)

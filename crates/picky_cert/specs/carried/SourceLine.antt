@@ -2,15 +2,15 @@
 use Rattle.std.specs.Prelude.{◌≡◌, ◌≢◌, List, ℕ, Err}
 use Rattle.std.proofs.Common.{refl, sym, subst}
 use Rattle.picky_wire.specs.declared.error.WireError.TheVariants as wire
-use Rattle.picky_sshpub.specs.carried.SourceLine.{IsOwn as IsLineOwn, line_in_front_own}
+use Rattle.picky_sshpub.specs.carried.SourceLine.{IsErrorOfLine, line_in_front_own}
 use Rattle.picky_cert_names.specs.declared.error.SshCertificateError.{SshCertificateError}
 use Rattle.picky_cert_names.specs.FromWire.{certificate_error}
 use Rattle.picky_cert.specs.LineRefusal.{line_meaning}
 use Rattle.picky_cert.specs.SourceLine.{source_meaning}
 use Rattle.picky_cert.specs.Want.{WantsMemory}
-use Rattle.picky_cert.specs.carried.LineOwn.{IsOwn, line_own, own_is_no_fault, too_long}
+use Rattle.picky_cert.specs.carried.LineOwn.{IsErrorOfCertificate, line_own, own_is_no_fault, too_long}
 
-as_line_own : (e : SshCertificateError) → IsOwn e → IsLineOwn certificate_error e
+as_line_own : (e : SshCertificateError) → IsErrorOfCertificate e → IsErrorOfLine certificate_error e
 as_line_own e own =
     (own_is_no_fault e own, λ is. own.no_want (subst WantsMemory (sym is) refl))
 

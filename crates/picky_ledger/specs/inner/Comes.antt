@@ -7,7 +7,7 @@ use Rattle.picky_ledger.specs.declared.apply.LedgerError.{LedgerError}
 use Rattle.picky_ledger.specs.declared.apply.LedgerError.TheVariants as errors
 use Rattle.picky_ledger.specs.declared.reply.Reply.{Reply}
 use Rattle.picky_ledger.specs.declared.status.LedgerStatus.{LedgerStatus}
-use Rattle.picky_ledger.specs.Apply.{Applies, Asked as Request, Terms, judged}
+use Rattle.picky_ledger.specs.Apply.{Applies, Asked as Request, Terms, judged_request_line}
 use Rattle.picky_ledger.specs.Replies.{id_in, replies_text, reply_line}
 use Rattle.picky_ledger.specs.Run.{Gives, Stops, extent_of}
 use Rattle.picky_ledger.specs.Runs.{FailsAt, Runs}
@@ -17,9 +17,9 @@ use Rattle.picky_ledger.specs.State.{State}
 abbrev pub AnswersLine : {A : Type 0} → Relation → Terms → (old : State) (line : List ℕ) (rose : Type 0) (before after : List ℕ)
     → Result A LedgerError → State → Type 0
 AnswersLine signs t old line rose before after (Ok done) new =
-    (reply : Reply) × Applies signs old line (judged t old line) ⊥ (Ok reply) new × (after ≡ before ++ reply_line (id_in line) reply)
+    (reply : Reply) × Applies signs old line (judged_request_line t old line) ⊥ (Ok reply) new × (after ≡ before ++ reply_line (id_in line) reply)
 AnswersLine signs t old line rose before after (Err errors.SignerFault) new =
-    (request : Request) × (judged t old line ≡ Ok request) × rose
+    (request : Request) × (judged_request_line t old line ≡ Ok request) × rose
 AnswersLine signs t old line rose before after (Err errors.NoMemory) new = Unit {0}
 
 -- the requests of these lines were answered, and these bytes are the lines of the replies; or memory was wanting, or the device

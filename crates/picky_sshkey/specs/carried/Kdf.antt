@@ -45,16 +45,16 @@ said : {B : Type 0} (s : Result B Flaw) (rest : List ℕ)
 said (Ok v) rest = refl
 said (Err flaw) rest = refl
 
-judged : {B : Type 0} (r : Result (List ℕ × List ℕ) Flaw) (M : Narrowing Flaw (List ℕ) B)
+judged_narrowing : {B : Type 0} (r : Result (List ℕ × List ℕ) Flaw) (M : Narrowing Flaw (List ℕ) B)
     → and_then (map_err wire_error r) (λ found. and_then (map_err wire_error (M.decide found.0)) (beside found.1))
     ≡ map_err wire_error (and_then (map_err (λ flaw. flaw) r) (meant M))
-judged (Err flaw) M = refl
-judged (Ok found) M = said (M.decide found.0) found.1
+judged_narrowing (Err flaw) M = refl
+judged_narrowing (Ok found) M = said (M.decide found.0) found.1
 
 -- They are read by their layout.
 pub option_reads_layout : (bytes : List ℕ) → read_option bytes ≡ kdf_layout.read bytes
 unfolding read_option kdf_option
-option_reads_layout bytes = judged (string.read bytes) option_inside
+option_reads_layout bytes = judged_narrowing (string.read bytes) option_inside
 
 -- No bytes are refused for a fault or for want of memory.
 pub option_own : (bytes : List ℕ) (e : WireError) → read_option bytes ≡ Err e

@@ -3,14 +3,14 @@ use Rattle.std.specs.Prelude.{◌≡◌, ◌<◌, ◌^◌, length, true}
 use Rattle.picky_sshpub.specs.Blob.{blob_of}
 use Rattle.picky_sshkey_blob.specs.Key.{public_part}
 use Rattle.picky_sshkey.specs.declared.private_key.SshPrivateKey.{SshPrivateKey}
-use Rattle.picky_sshkey.specs.declared.draft.Draft.{Draft}
+use Rattle.picky_sshkey.specs.declared.draft.PrivateKeyDraft.{PrivateKeyDraft}
 use Rattle.picky_sshkey.specs.Kdf.{HasRoom}
-use Rattle.picky_sshkey.specs.Kept.{IsKept}
+use Rattle.picky_sshkey.specs.Kept.{IsSshPrivateKey}
 use Rattle.picky_sshkey.specs.Written.{envelope_of, may_derive, plain_block, written_option}
 
-pub record IsDraft (key : SshPrivateKey) (draft : Draft) : Type 0 where
+pub record IsDraft (key : SshPrivateKey) (draft : PrivateKeyDraft) : Type 0 where
   pub range : may_derive key.passphrase key.kdf.option ≡ true
-  pub kept : IsKept key
+  pub kept : IsSshPrivateKey key
   pub outer : draft.outer ≡ blob_of (public_part key.base_key)
   pub block : draft.block.items ≡ plain_block key
   pub block_short : length (plain_block key) < 2 ^ 32

@@ -14,11 +14,11 @@ use Rattle.picky_sshkey_blob.specs.declared.key.SshBasePrivateKey.{SshBasePrivat
 use Rattle.picky_sshkey_blob.specs.declared.key.SshBasePrivateKey.TheVariants as keys
 use Rattle.picky_sshkey_blob.specs.Key.{IsPrivateKey, kind_of}
 use Rattle.picky_sshkey_blob.specs.Blob.{ed_secret, rsa_fields, ec_fields, ed_fields, sk_ecdsa_fields, sk_ed_fields}
-use Rattle.picky_sshkey_blob.specs.Blob.{fields_of, secret, fields_spelled, secret_of}
+use Rattle.picky_sshkey_blob.specs.Blob.{private_key_fields, secret, fields_spelled, secret_of}
 
 -- The canonical fields are a piece of the kind's layout.
 pub fields_spell : (key : SshBasePrivateKey) → IsPrivateKey key
-    → (fields_of (kind_of key)).piece key (fields_spelled key)
+    → (private_key_fields (kind_of key)).piece key (fields_spelled key)
 unfolding rsa_fields ec_fields ed_fields sk_ecdsa_fields sk_ed_fields ed_key ed_secret fields_spelled
 fields_spell (keys.Rsa n e d iqmp p q) is = (
   n,

@@ -10,11 +10,11 @@ use Rattle.picky_sshpub.specs.declared.key.SshBasePublicKey.{SshBasePublicKey}
 use Rattle.picky_sshpub.specs.declared.key.SshBasePublicKey.TheVariants as keys
 use Rattle.picky_sshpub.specs.Key.{IsKey, kind_of}
 use Rattle.picky_sshpub.specs.Blob.{key_type, ed_key, rsa_fields, ec_fields, ed_fields, sk_ecdsa_fields}
-use Rattle.picky_sshpub.specs.Blob.{sk_ed_fields, fields_of, blob, fields_spelled, blob_of}
+use Rattle.picky_sshpub.specs.Blob.{sk_ed_fields, public_key_fields, blob, fields_spelled, blob_of}
 
 -- The canonical fields are a piece of the kind's layout.
 pub fields_spell : (key : SshBasePublicKey) → IsKey key
-    → (fields_of (kind_of key)).piece key (fields_spelled key)
+    → (public_key_fields (kind_of key)).piece key (fields_spelled key)
 unfolding rsa_fields ec_fields ed_fields sk_ecdsa_fields sk_ed_fields ed_key fields_spelled
 fields_spell (keys.Rsa e n) is =
     (e, _, _, mpint_spells e is.0.mpint, (n, _, _, mpint_spells n is.1.mpint, (refl, refl), refl), refl)

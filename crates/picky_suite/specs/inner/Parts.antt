@@ -2,8 +2,8 @@
 use Rattle.std.specs.Prelude.{ℕ, List, take, drop}
 
 -- a key of 32 bytes
-unfoldable pub key_of : List ℕ → List ℕ
-key_of derived = take 32 derived
+unfoldable pub derived_key : List ℕ → List ℕ
+derived_key derived = take 32 derived
 
 -- and an iv of 16
 unfoldable pub iv_of : List ℕ → List ℕ

@@ -15,7 +15,7 @@ use Rattle.picky_ppk_file.specs.File.{version_of}
 use Rattle.picky_ppk_file.specs.Written.{written as file_written}
 use Rattle.picky_putty_public.specs.PuttyRefusal.{is_hardware}
 use Rattle.picky_ppk.specs.Changed.{of_base_key}
-use Rattle.picky_ppk.specs.Sealed.{draft_of, encrypted}
+use Rattle.picky_ppk.specs.Sealed.{encrypted, file_to_seal}
 use Rattle.picky_target.specs.declared.error.ConvertError.{ConvertError}
 use Rattle.picky_target.specs.declared.error.ConvertError.TheVariants as errors
 use Rattle.picky_target.specs.declared.target.KeyTarget.TheVariants as targets
@@ -55,7 +55,7 @@ zeroed f = record f { mac = replicate (mac_len (version_of f.sealing)) 0 }
 
 abbrev pub measured : PpkEncryptionConfig → (salt padding : List ℕ) → PpkFile → Result (Unit {0}) ConvertError
 measured config salt padding f =
-    if is_short (f.private_bytes ++ padding) then judged_text (zeroed (draft_of config salt padding f)) else Err errors.TooLong
+    if is_short (f.private_bytes ++ padding) then judged_text (zeroed (file_to_seal config salt padding f)) else Err errors.TooLong
 
 -- the file before it is sealed, where the sealed one has room
 abbrev pub plain_drafted : Meanings → PpkVersionKey → PpkEncryptionConfig → SshBasePrivateKey → (comment salt padding : List ℕ)

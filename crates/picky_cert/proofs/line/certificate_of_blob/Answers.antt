@@ -8,4 +8,6 @@ returns-in-Ok-to_certificate-clause-gives c =
     blob_certificate_seen c.args.blob.now _ _ c.in-Ok.ensures.seen.sees ∙ ap (λ v. Ok v) (sym c.in-Ok-to_certificate.ensures)
 
 pub returns-in-Err-clause-gives : goal.returns-in-Err-clause-gives
-returns-in-Err-clause-gives c = refused_as c.args.blob.now _ c.refusal.result c.in-Err.ensures.seen.sees c.refusal.ensures
+returns-in-Err-clause-gives c =
+    refused_as c.args.blob.now _ c.certificate_view_refusal.result c.in-Err.ensures.seen.sees
+    c.certificate_view_refusal.ensures

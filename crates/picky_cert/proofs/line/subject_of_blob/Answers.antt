@@ -11,4 +11,6 @@ returns-in-Ok-to_key c =
 
 pub returns-in-Err : goal.returns-in-Err
 returns-in-Err c =
-    no_subject c.args.blob.now c.refusal.result (refused_as c.args.blob.now _ c.refusal.result c.in-Err.ensures.seen.sees c.refusal.ensures)
+    no_subject c.args.blob.now c.certificate_view_refusal.result
+    (refused_as c.args.blob.now _ c.certificate_view_refusal.result c.in-Err.ensures.seen.sees
+    c.certificate_view_refusal.ensures)

@@ -1,7 +1,7 @@
 -- One request more.
 use Rattle.std.proofs.Common.{◌≡◌, ◌∙◌, ◌==◌, List, ◌∷◌, ℕ, false, ap, arith, length, string_bytes, subst}
 use Rattle.std.proofs.lemmas.Bool.Decides.{nat_tests}
-use Rattle.picky_ledger.specs.Apply.{judged}
+use Rattle.picky_ledger.specs.Apply.{judged_request_line}
 use Rattle.picky_ledger.specs.Run.{filled_lines, requests_in}
 use Rattle.picky_ledger.specs.Runs.{NoneAsks}
 use Rattle.picky_ledger.proofs.RequestLemmas.{Answered, answered_more, applies_for, filled_more, none_more}
@@ -29,7 +29,7 @@ lines-preserved-in-Ok g c =
           (string_bytes c.lines.replies)) is c.lines.invariant.answered)
           c.split_at.ensures.front c.split_at.ensures.back
           (applies_for (g.G.Signer.signs c.lines.signer) signs c.lines.ledger c.answer_request.new.ledger line
-          (judged (record { issuer = issuer; nonce = nonce }) c.lines.ledger line) ⊥ reply
+          (judged_request_line (record { issuer = issuer; nonce = nonce }) c.lines.ledger line) ⊥ reply
           (λ k a m s. (c.lines.invariant.signs k a m s).0) applies)
           c.in-Ok.ensures.answers.2;
       enough = omega (arith, ap length is, c.lines.invariant.enough, c.split_at.ensures.back_len);

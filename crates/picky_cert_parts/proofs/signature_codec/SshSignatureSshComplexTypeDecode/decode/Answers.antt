@@ -13,8 +13,8 @@ returns-in-Err-take_format-clause-cause g c =
     (counted_later (causes_of signature_error) signature_format.read c.in-Err-take_format.e _ _ _
     c.in-Ok.ensures.takes.calm c.in-Err-take_format.ensures.cause)
 
-pub returns-in-Err-take_rest-clause-cause : goal.returns-in-Err-take_rest-clause-cause
-returns-in-Err-take_rest-clause-cause g c =
-    rest_cause c.in-Ok-take_format.format c.in-Err-take_rest.e _
-    (counted_later (causes_of signature_error) (signature_rest c.in-Ok-take_format.format).read c.in-Err-take_rest.e _ _ _
-    (c.in-Ok-take_format.ensures.takes.calm ∙ c.in-Ok.ensures.takes.calm) c.in-Err-take_rest.ensures.cause)
+pub returns-in-Err-take_signature_rest-clause-cause : goal.returns-in-Err-take_signature_rest-clause-cause
+returns-in-Err-take_signature_rest-clause-cause g c =
+    rest_cause c.in-Ok-take_format.format c.in-Err-take_signature_rest.e _
+    (counted_later (causes_of signature_error) (signature_rest c.in-Ok-take_format.format).read c.in-Err-take_signature_rest.e _ _ _
+    (c.in-Ok-take_format.ensures.takes.calm ∙ c.in-Ok.ensures.takes.calm) c.in-Err-take_signature_rest.ensures.cause)

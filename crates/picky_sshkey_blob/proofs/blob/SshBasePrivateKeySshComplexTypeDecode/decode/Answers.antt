@@ -6,7 +6,7 @@ use Rattle.picky_wire.specs.Count.{Rose}
 use Rattle.picky_wire.specs.Takes.{causes_of}
 use Rattle.picky_sshpub.specs.Blob.{key_type}
 use Rattle.picky_sshkey_blob.specs.FromWire.{private_key_error}
-use Rattle.picky_sshkey_blob.specs.Blob.{secret, fields_of}
+use Rattle.picky_sshkey_blob.specs.Blob.{secret, private_key_fields}
 use Rattle.picky_sshkey_blob.specs.BlobRefusal.{read_secret, private_error, stop_error}
 use Rattle.picky_sshkey_blob.specs.inner.Stop.{secret_stop}
 use Rattle.picky_sshkey_blob.proofs.NamedLemmas.{name_then_fields, name_is_unknown, name_stops, fields_stop, fields_read}
@@ -19,7 +19,7 @@ unfolding read_secret secret key_type
 returns-in-Err-clause-takes g c =
     rw c.from.ensures
     (name_stops g.S.Source.tells g.S.Source.left g.S.Source.known g.S.Source.faults private_key_error secret_stop stop_error
-    private_error key_types fields_of c.in-Err.stop _ _ says_stops c.in-Err.ensures.takes)
+    private_error key_types private_key_fields c.in-Err.stop _ _ says_stops c.in-Err.ensures.takes)
 
 pub returns-in-Err-clause-cause : goal.returns-in-Err-clause-cause
 returns-in-Err-clause-cause g c =
@@ -30,9 +30,9 @@ unfolding read_secret secret key_type
 returns-in-Ok-take_fields-clause-takes g c =
     let found = ap (find_entry key_types) (sym c.as_str.ensures.bytes) ∙ sym c.in-Some.ensures in
     name_then_fields g.S.Source.tells g.S.Source.left g.S.Source.known g.S.Source.faults (causes_of private_key_error) private_error
-    key_types fields_of c.in-Ok.name c.in-Some.kind (Ok c.in-Ok-take_fields.key) _ _ _ c.in-Ok.ensures.takes found
+    key_types private_key_fields c.in-Ok.name c.in-Some.kind (Ok c.in-Ok-take_fields.key) _ _ _ c.in-Ok.ensures.takes found
     (fields_read g.S.Source.tells g.S.Source.left g.S.Source.known g.S.Source.faults private_key_error secret_stop private_error
-    (fields_of c.in-Some.kind) c.in-Ok-take_fields.key _ _ c.in-Ok-take_fields.ensures)
+    (private_key_fields c.in-Some.kind) c.in-Ok-take_fields.key _ _ c.in-Ok-take_fields.ensures)
 
 pub returns-in-Some-clause-takes : goal.returns-in-Some-clause-takes
 unfolding read_secret secret key_type
@@ -40,9 +40,10 @@ returns-in-Some-clause-takes g c =
     let found = ap (find_entry key_types) (sym c.as_str.ensures.bytes) ∙ sym c.in-Some.ensures in
     rw c.from-in-Err-take_fields.ensures
     (name_then_fields g.S.Source.tells g.S.Source.left g.S.Source.known g.S.Source.faults (causes_of private_key_error) private_error
-    key_types fields_of c.in-Ok.name c.in-Some.kind (Err (stop_error c.in-Err-take_fields.stop)) _ _ _ c.in-Ok.ensures.takes found
+    key_types private_key_fields c.in-Ok.name c.in-Some.kind (Err (stop_error c.in-Err-take_fields.stop)) _ _ _
+    c.in-Ok.ensures.takes found
     (fields_stop g.S.Source.tells g.S.Source.left g.S.Source.known g.S.Source.faults private_key_error secret_stop stop_error
-    private_error (fields_of c.in-Some.kind) c.in-Err-take_fields.stop _ _ says_stops (fields_no_name c.in-Some.kind)
+    private_error (private_key_fields c.in-Some.kind) c.in-Err-take_fields.stop _ _ says_stops (fields_no_name c.in-Some.kind)
     c.in-Err-take_fields.ensures))
 
 pub returns-in-Some-clause-cause : goal.returns-in-Some-clause-cause
@@ -57,7 +58,7 @@ unfolding read_secret secret key_type
 returns-clause-takes g c =
     let none = ap (find_entry key_types) (sym c.as_str.ensures.bytes) ∙ sym c.in-None.ensures in
     name_is_unknown g.S.Source.tells g.S.Source.left g.S.Source.known g.S.Source.faults private_key_error private_error key_types
-    fields_of c.in-Ok.name _ _ c.in-Ok.ensures.takes none (λ is. cc is)
+    private_key_fields c.in-Ok.name _ _ c.in-Ok.ensures.takes none (λ is. cc is)
 
 pub returns-clause-cause : goal.returns-clause-cause
 returns-clause-cause g c =

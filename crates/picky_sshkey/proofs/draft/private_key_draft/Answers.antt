@@ -2,7 +2,7 @@
 use Rattle.std.proofs.Common.{ap, arith, length, refl, sym, ◌∙◌}
 use Rattle.picky_sshkey.specs.Written.{plain_block}
 use Rattle.picky_sshkey.proofs.WrittenLemmas.{block_within, envelope_room}
-use Rattle.picky_sshkey.proofs.draft.draft_of.Goals as goal
+use Rattle.picky_sshkey.proofs.draft.private_key_draft.Goals as goal
 
 pub returns-clause-ok : goal.returns-clause-ok
 returns-clause-ok c =

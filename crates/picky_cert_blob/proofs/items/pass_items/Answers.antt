@@ -1,7 +1,7 @@
 -- The items are passed one after another.
 use Rattle.std.proofs.Common.{arith}
 use Rattle.picky_cert_blob.proofs.RowLemmas.{passing_begins, passing_more, passing_stops, passing_ends}
-use Rattle.picky_cert_blob.proofs.items.pass_all.Goals as goal
+use Rattle.picky_cert_blob.proofs.items.pass_items.Goals as goal
 
 pub items-init : goal.items-init
 items-init g c = passing_begins g.I.Item.item c.args.bytes.now c.args.from c.requires

@@ -1,7 +1,7 @@
 -- The text is written piece by piece.
 use Rattle.std.proofs.Common.{◌∙◌, ◌++◌, ap, codes}
 use Rattle.picky_pem.proofs.WrittenLemmas.{lines_written}
-use Rattle.picky_pem.proofs.pem.lines_within.Goals as goal
+use Rattle.picky_pem.proofs.pem.armoured_lines.Goals as goal
 
 pub returns : goal.returns
 returns c =
