@@ -46,8 +46,8 @@ pub use Rattle.picky_wire.specs.View as WireView
 pub use Rattle.picky_input.specs.Extent
 pub use Rattle.picky_input.specs.Input
 pub use Rattle.picky_input.specs.SourceText
-pub use Rattle.picky_keys.specs.NameTables as KeyNameTables
-pub use Rattle.picky_keys.specs.Names as KeyNames
+pub use Rattle.picky_keys.specs.KeyNameTables as KeyNameTables
+pub use Rattle.picky_keys.specs.KeyNames as KeyNames
 pub use Rattle.picky_keys.specs.PrivateKey
 pub use Rattle.picky_keys.specs.PublicKey
 pub use Rattle.picky_suite.specs.Asked as SuiteAsked
@@ -61,24 +61,24 @@ pub use Rattle.picky_suite.specs.Ranges
 pub use Rattle.picky_suite.specs.Signs
 pub use Rattle.picky_suite.specs.Toy
 pub use Rattle.picky_suite.specs.Zeros as SuiteZeros
-pub use Rattle.picky_sshpub.specs.Blob as SshPublicBlob
-pub use Rattle.picky_sshpub.specs.BlobLayout as SshPublicBlobLayout
-pub use Rattle.picky_sshpub.specs.BlobRefusal as SshPublicBlobRefusal
-pub use Rattle.picky_sshpub.specs.BlobSpelled
-pub use Rattle.picky_sshpub.specs.FromWire as SshPublicFromWire
-pub use Rattle.picky_sshpub.specs.Key as SshPublicKey
-pub use Rattle.picky_sshpub.specs.Line as SshPublicLine
-pub use Rattle.picky_sshpub.specs.LineRefusal as SshPublicLineRefusal
-pub use Rattle.picky_sshpub.specs.SourceLine as SshPublicSourceLine
-pub use Rattle.picky_sshpub.specs.View as SshPublicView
+pub use Rattle.picky_keys.specs.Blob as SshPublicBlob
+pub use Rattle.picky_keys.specs.BlobLayout as SshPublicBlobLayout
+pub use Rattle.picky_keys.specs.BlobRefusal as SshPublicBlobRefusal
+pub use Rattle.picky_keys.specs.BlobSpelled
+pub use Rattle.picky_keys.specs.FromWire as SshPublicFromWire
+pub use Rattle.picky_keys.specs.Key as SshPublicKey
+pub use Rattle.picky_keys.specs.Line as SshPublicLine
+pub use Rattle.picky_keys.specs.LineRefusal as SshPublicLineRefusal
+pub use Rattle.picky_keys.specs.SourceLine as SshPublicSourceLine
+pub use Rattle.picky_keys.specs.View as SshPublicView
 pub use Rattle.picky_authorized.specs.Entries
 pub use Rattle.picky_authorized.specs.KnownOptions
 pub use Rattle.picky_authorized.specs.Lines as AuthorizedLines
 pub use Rattle.picky_authorized.specs.OptionText
 pub use Rattle.picky_authorized.specs.Options as AuthorizedOptions
 pub use Rattle.picky_authorized.specs.Quotes
-pub use Rattle.picky_pem.specs.Pem
-pub use Rattle.picky_pem.specs.PemRefusal
+pub use Rattle.picky_sshkey_blob.specs.Pem
+pub use Rattle.picky_sshkey_blob.specs.PemRefusal
 pub use Rattle.picky_sshkey_blob.specs.Before
 pub use Rattle.picky_sshkey_blob.specs.Blob as SshPrivateBlob
 pub use Rattle.picky_sshkey_blob.specs.BlobLayout as SshPrivateBlobLayout
@@ -101,11 +101,11 @@ pub use Rattle.picky_sshkey.specs.PrivateBlock
 pub use Rattle.picky_sshkey.specs.PrivateRefusal
 pub use Rattle.picky_sshkey.specs.PrivateText
 pub use Rattle.picky_sshkey.specs.Written as SshPrivateWritten
-pub use Rattle.picky_cert_names.specs.ExtensionType
-pub use Rattle.picky_cert_names.specs.FromWire as CertFromWire
-pub use Rattle.picky_cert_names.specs.NameTables as CertNameTables
-pub use Rattle.picky_cert_names.specs.Named as CertNamed
-pub use Rattle.picky_cert_names.specs.Names as CertNames
+pub use Rattle.picky_cert_parts.specs.ExtensionType
+pub use Rattle.picky_cert_parts.specs.CertFromWire as CertFromWire
+pub use Rattle.picky_cert_parts.specs.CertNameTables as CertNameTables
+pub use Rattle.picky_cert_parts.specs.CertNamed as CertNamed
+pub use Rattle.picky_cert_parts.specs.CertNames as CertNames
 pub use Rattle.picky_cert_parts.specs.CertNumber
 pub use Rattle.picky_cert_parts.specs.CertType
 pub use Rattle.picky_cert_parts.specs.CriticalOption
@@ -147,18 +147,18 @@ pub use Rattle.picky_cert_builder.specs.Permits
 pub use Rattle.picky_cert_builder.specs.RefusalName
 pub use Rattle.picky_cert_builder.specs.Request as BuilderRequest
 pub use Rattle.picky_cert_builder.specs.Terms
-pub use Rattle.picky_block.specs.Block
-pub use Rattle.picky_block.specs.BlockRefusal
-pub use Rattle.picky_block.specs.Joined as BlockJoined
+pub use Rattle.picky_kv.specs.Block
+pub use Rattle.picky_kv.specs.BlockRefusal
+pub use Rattle.picky_kv.specs.Joined as BlockJoined
 pub use Rattle.picky_kv_words.specs.Argon2Keys
 pub use Rattle.picky_kv_words.specs.ChoiceFields
 pub use Rattle.picky_kv_words.specs.Choices
 pub use Rattle.picky_kv_words.specs.Field as KvField
 pub use Rattle.picky_kv_words.specs.Keys as KvKeys
 pub use Rattle.picky_kv_words.specs.Literal
-pub use Rattle.picky_kv_values.specs.Blocks
-pub use Rattle.picky_kv_values.specs.ValueFields
-pub use Rattle.picky_kv_values.specs.Values
+pub use Rattle.picky_kv_words.specs.Blocks
+pub use Rattle.picky_kv_words.specs.ValueFields
+pub use Rattle.picky_kv_words.specs.Values
 pub use Rattle.picky_kv.specs.Algorithm as KvAlgorithm
 pub use Rattle.picky_kv.specs.AlgorithmField
 pub use Rattle.picky_kv.specs.Context
@@ -188,8 +188,8 @@ pub use Rattle.picky_ppk_file.specs.File
 pub use Rattle.picky_ppk_file.specs.FileRefusal
 pub use Rattle.picky_ppk_file.specs.FileText
 pub use Rattle.picky_ppk_file.specs.Written as PpkFileWritten
-pub use Rattle.picky_putty_public.specs.PuttyPublic
-pub use Rattle.picky_putty_public.specs.PuttyRefusal
+pub use Rattle.picky_ppk_file.specs.PuttyPublic
+pub use Rattle.picky_ppk_file.specs.PuttyRefusal
 pub use Rattle.picky_ppk.specs.Accepted
 pub use Rattle.picky_ppk.specs.Changed
 pub use Rattle.picky_ppk.specs.Checked
@@ -221,9 +221,9 @@ pub use Rattle.picky_issuing.specs.Options as IssuingOptions
 pub use Rattle.picky_issuing.specs.Parts as IssuingParts
 pub use Rattle.picky_issuing.specs.Steps
 pub use Rattle.picky_issuing.specs.Value
-pub use Rattle.picky_cert_target.specs.Certified
-pub use Rattle.picky_cert_target.specs.Drafted as CertTargetDrafted
-pub use Rattle.picky_cert_target.specs.Request as CertTargetRequest
+pub use Rattle.picky_conversion.specs.Certified
+pub use Rattle.picky_conversion.specs.Drafted as CertTargetDrafted
+pub use Rattle.picky_conversion.specs.Request as CertTargetRequest
 pub use Rattle.picky_conversion.specs.AnyChain
 pub use Rattle.picky_conversion.specs.Binds
 pub use Rattle.picky_conversion.specs.Certify
@@ -235,11 +235,11 @@ pub use Rattle.picky_conversion.specs.Outside
 pub use Rattle.picky_conversion.specs.Refusal
 pub use Rattle.picky_conversion.specs.To
 pub use Rattle.picky_conversion.specs.Want as ConversionWant
-pub use Rattle.picky_sample.specs.Chain as SampleChain
-pub use Rattle.picky_sample.specs.Generator
-pub use Rattle.picky_sample.specs.Keys as SampleKeys
-pub use Rattle.picky_sample.specs.Sample
-pub use Rattle.picky_sample.specs.Texts as SampleTexts
+pub use Rattle.picky_convert.specs.SampleChain as SampleChain
+pub use Rattle.picky_convert.specs.Generator
+pub use Rattle.picky_convert.specs.SampleKeys as SampleKeys
+pub use Rattle.picky_convert.specs.Sample
+pub use Rattle.picky_convert.specs.SampleTexts as SampleTexts
 pub use Rattle.picky_convert.specs.Command
 pub use Rattle.picky_convert.specs.Fingerprint
 pub use Rattle.picky_convert.specs.Report
@@ -286,7 +286,7 @@ pub use Rattle.picky_ledger.specs.Replies
 pub use Rattle.picky_ledger.specs.Run as LedgerRun
 pub use Rattle.picky_ledger.specs.Runs
 pub use Rattle.picky_ledger.specs.State
-pub use Rattle.picky_cert_names.specs.declared.known_extension.KnownExtension as KnownExtensionType
+pub use Rattle.picky_cert_parts.specs.declared.known_extension.KnownExtension as KnownExtensionType
 pub use Rattle.picky_convert.specs.declared.command.Command as CommandType
 pub use Rattle.picky_issuing.specs.declared.option_word.OptionWord as OptionWordType
 pub use Rattle.picky_sshkey.specs.declared.cipher.Cipher as CipherType

@@ -15,7 +15,7 @@ pub use picky_suite::{
 };
 
 // Public keys: lines, blobs and fingerprints (RFC 4253, section 6.6; sshd(8)).
-pub use picky_sshpub::{PublicView, SshBasePublicKey, SshPublicKey, SshPublicKeyError};
+pub use picky_keys::{PublicView, SshBasePublicKey, SshPublicKey, SshPublicKeyError};
 
 // Private keys (OpenSSH's PROTOCOL.key).
 pub use picky_sshkey::{

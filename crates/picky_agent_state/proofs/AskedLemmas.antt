@@ -9,8 +9,8 @@ use Rattle.picky_layout.specs.Outcome.{and_then, map_err}
 use Rattle.picky_layout.specs.Wire.{string}
 use Rattle.picky_wire.specs.declared.view.Stuck.{Stuck}
 use Rattle.picky_wire.specs.View.{Sees, why_in, why_of}
-use Rattle.picky_sshpub.specs.declared.key.SshBasePublicKey.{SshBasePublicKey}
-use Rattle.picky_sshpub.specs.Blob.{blob}
+use Rattle.picky_keys.specs.declared.key.SshBasePublicKey.{SshBasePublicKey}
+use Rattle.picky_keys.specs.Blob.{blob}
 use Rattle.picky_agent_state.specs.declared.asked.Asked.{Asked}
 use Rattle.picky_agent_state.specs.Request.{Request, Unfit, key_string, request_read}
 use Rattle.picky_agent_state.specs.inner.Asked.{asked_found, asked_seen}

@@ -18,11 +18,11 @@ use Rattle.picky_keys.specs.declared.curve.EcCurve.TheVariants.{NistP256, NistP3
 use Rattle.picky_keys.specs.declared.curve.EdAlgorithm.TheVariants.{Ed25519}
 use Rattle.picky_keys.specs.declared.kind.KeyKind.{KeyKind}
 use Rattle.picky_keys.specs.declared.kind.KeyKind.TheVariants as kinds
-use Rattle.picky_keys.specs.Names.{curve_identifier, curve_key_type, ed_key_type, kind_name}
-use Rattle.picky_sshpub.specs.declared.key.SshBasePublicKey.{SshBasePublicKey}
-use Rattle.picky_sshpub.specs.declared.key.SshBasePublicKey.TheVariants as keys
-use Rattle.picky_sshpub.specs.Key.{kind_of}
-use Rattle.picky_sshpub.specs.Blob.{blob_of, fields_spelled}
+use Rattle.picky_keys.specs.KeyNames.{curve_identifier, curve_key_type, ed_key_type, kind_name}
+use Rattle.picky_keys.specs.declared.key.SshBasePublicKey.{SshBasePublicKey}
+use Rattle.picky_keys.specs.declared.key.SshBasePublicKey.TheVariants as keys
+use Rattle.picky_keys.specs.Key.{kind_of}
+use Rattle.picky_keys.specs.Blob.{blob_of, fields_spelled}
 use Rattle.picky_sshkey_blob.specs.declared.view.PrivateView.{PrivateView}
 use Rattle.picky_sshkey_blob.specs.declared.view.PrivateView.TheVariants as views
 use Rattle.picky_sshkey_blob.specs.Key.{IsPrivateKey, public_part}

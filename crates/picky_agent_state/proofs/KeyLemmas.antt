@@ -1,7 +1,7 @@
 -- Lemmas on an identity's key.
 use Rattle.std.proofs.Common.{◌≡◌, refl}
 use Rattle.picky_keys.specs.PrivateKey.{issuer_key}
-use Rattle.picky_sshpub.specs.Key.{kind_of, public_key_of}
+use Rattle.picky_keys.specs.Key.{kind_of, public_key_of}
 use Rattle.picky_sshkey_blob.specs.declared.key.SshBasePrivateKey.{SshBasePrivateKey}
 use Rattle.picky_sshkey_blob.specs.declared.key.SshBasePrivateKey.TheVariants as keys
 use Rattle.picky_sshkey_blob.specs.Key.{kind_of as private_kind, public_part}

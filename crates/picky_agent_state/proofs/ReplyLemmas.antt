@@ -9,8 +9,8 @@ use Rattle.std.proofs.lemmas.List.Folds.{concat-append}
 use Rattle.std.specs.List.{concat}
 use Rattle.picky_layout.specs.Wire.{string_of}
 use Rattle.picky_wire.proofs.WriteLemmas.{length-string_of}
-use Rattle.picky_cert_names.specs.declared.signature_format.SshSignatureFormat.{SshSignatureFormat}
-use Rattle.picky_cert_names.specs.Names.{format_name}
+use Rattle.picky_cert_parts.specs.declared.signature_format.SshSignatureFormat.{SshSignatureFormat}
+use Rattle.picky_cert_parts.specs.CertNames.{format_name}
 use Rattle.picky_agent_state.specs.declared.identity.Identity.{Identity}
 use Rattle.picky_agent_state.specs.Kept.{Kept, is_locked}
 use Rattle.picky_agent_state.specs.Rows.{Lists}

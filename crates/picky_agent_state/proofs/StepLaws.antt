@@ -4,7 +4,7 @@ use Rattle.std.specs.Prelude.{◌⊎◌, ℕ, List, Bool, true, false, MatchBool
 use Rattle.picky_keys.specs.declared.public_key.PublicKey.{PublicKey}
 use Rattle.picky_keys.specs.declared.algorithm.SignatureAlgorithm.{SignatureAlgorithm}
 use Rattle.picky_suite.specs.Signs.{Relation}
-use Rattle.picky_sshpub.specs.Key.{kind_of}
+use Rattle.picky_keys.specs.Key.{kind_of}
 use Rattle.picky_agent_state.specs.Kept.{Machine, is_locked}
 use Rattle.picky_agent_state.specs.Request.{Request, SignRequest, Identities, Sign, Add, Remove, RemoveAll, Lock, Unlock, Unfit, request_of}
 use Rattle.picky_agent_state.specs.Signing.{Way, way_for}

@@ -1,6 +1,6 @@
 -- Which identity has a key.
 use Rattle.std.specs.Prelude.{◌≡◌, ℕ, List, take, Some, slice_get, All}
-use Rattle.picky_sshpub.specs.declared.key.SshBasePublicKey.{SshBasePublicKey}
+use Rattle.picky_keys.specs.declared.key.SshBasePublicKey.{SshBasePublicKey}
 use Rattle.picky_sshkey_blob.specs.Key.{public_part}
 use Rattle.picky_agent_state.specs.declared.identity.Identity.{Identity}
 

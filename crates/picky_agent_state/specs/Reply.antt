@@ -2,10 +2,10 @@
 use Rattle.std.specs.Prelude.{ℕ, List, [], ◌∷◌, ◌++◌, ◌^◌, length, nat_lt, if◌then◌else◌, flat_map}
 use Rattle.std.specs.Int.{w32, to_be_bytes}
 use Rattle.picky_layout.specs.Wire.{string_of}
-use Rattle.picky_sshpub.specs.Blob.{blob_of}
+use Rattle.picky_keys.specs.Blob.{blob_of}
 use Rattle.picky_sshkey_blob.specs.Key.{public_part}
-use Rattle.picky_cert_names.specs.declared.signature_format.SshSignatureFormat.{SshSignatureFormat}
-use Rattle.picky_cert_names.specs.Names.{format_name}
+use Rattle.picky_cert_parts.specs.declared.signature_format.SshSignatureFormat.{SshSignatureFormat}
+use Rattle.picky_cert_parts.specs.CertNames.{format_name}
 use Rattle.picky_agent_state.specs.declared.identity.Identity.{Identity}
 
 -- SSH_AGENT_FAILURE

@@ -5,8 +5,8 @@ use Rattle.picky_layout.specs.Grammar.{Grammar}
 use Rattle.picky_layout.specs.Combine.{at, done, placed, ◌>>=◌}
 use Rattle.picky_layout.specs.Inside.{sub}
 use Rattle.picky_layout.specs.Wire.{string, text, uint32}
-use Rattle.picky_sshpub.specs.declared.key.SshBasePublicKey.{SshBasePublicKey}
-use Rattle.picky_sshpub.specs.Blob.{blob}
+use Rattle.picky_keys.specs.declared.key.SshBasePublicKey.{SshBasePublicKey}
+use Rattle.picky_keys.specs.Blob.{blob}
 use Rattle.picky_sshkey_blob.specs.Blob.{secret}
 use Rattle.picky_agent_state.specs.declared.identity.Identity.{Identity}
 

@@ -8,7 +8,7 @@ use Rattle.picky_keys.specs.declared.algorithm.SignatureAlgorithm.TheVariants as
 use Rattle.picky_keys.specs.declared.curve.EcCurve.TheVariants.{NistP256, NistP384, NistP521}
 use Rattle.picky_keys.specs.declared.kind.KeyKind.{KeyKind}
 use Rattle.picky_keys.specs.declared.kind.KeyKind.TheVariants as kinds
-use Rattle.picky_cert_names.specs.declared.signature_format.SshSignatureFormat.{SshSignatureFormat}
+use Rattle.picky_cert_parts.specs.declared.signature_format.SshSignatureFormat.{SshSignatureFormat}
 use Rattle.picky_cert_builder.specs.Algorithm.{format_of}
 
 abbrev pub is_set : (flags flag : ℕ) → Bool

@@ -2,7 +2,7 @@
 use Rattle.std.specs.Prelude.{◌≡◌, ◌⊎◌, ℕ, false, List, Option, Some, None, MatchBool}
 use Rattle.picky_wire.specs.Count.{Rose}
 use Rattle.picky_suite.specs.Signs.{Relation}
-use Rattle.picky_sshpub.specs.Key.{kind_of, public_key_of}
+use Rattle.picky_keys.specs.Key.{kind_of, public_key_of}
 use Rattle.picky_agent_state.specs.Kept.{Kept, Machine, is_locked}
 use Rattle.picky_agent_state.specs.Held.{HasNone, IsAt}
 use Rattle.picky_agent_state.specs.Request.{Request, SignRequest, Identities, Sign, Add, Remove, RemoveAll, Lock, Unlock, Unfit, request_of}

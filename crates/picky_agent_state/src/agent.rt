@@ -3,7 +3,7 @@
 ghost use Rattle.std.specs.Prelude.{◌≡◌, ◌≤◌, ◌↔◌, ◌∷◌, ◌++◌, [], ℕ, List, length, IfOk, OnErr, MatchBool};
 ghost use Rattle.picky_keys.specs.declared.public_key.PublicKey.{PublicKey};
 ghost use Rattle.picky_keys.specs.declared.algorithm.SignatureAlgorithm.{SignatureAlgorithm as Algorithm};
-ghost use Rattle.picky_sshpub.specs.View.{key_seen};
+ghost use Rattle.picky_keys.specs.View.{key_seen};
 ghost use Rattle.picky_sshkey_blob.specs.Key.{IsPrivateKey};
 ghost use Rattle.picky_sshkey_blob.specs.View.{key_seen as private_seen};
 ghost use Rattle.picky_agent_state.specs.Message.{IsMessage};
@@ -20,7 +20,7 @@ use crate::keyring::Keyring;
 use crate::reply::{failure, listing_of, success};
 use crate::signing::sign_with;
 use picky_sshkey_blob::PrivateView;
-use picky_sshpub::PublicView;
+use picky_keys::PublicView;
 use picky_suite::Signer;
 use picky_wire::{Bytes, NoMemory, Text};
 use std::alloc::Global;

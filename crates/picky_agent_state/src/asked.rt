@@ -2,14 +2,14 @@
 
 ghost use Rattle.std.specs.Prelude.{◌≡◌, ◌^◌, ◌<◌, ◌≤◌, length, IfOk};
 ghost use Rattle.picky_wire.specs.View.{Sees, why_in};
-ghost use Rattle.picky_sshpub.specs.View.{key_seen};
+ghost use Rattle.picky_keys.specs.View.{key_seen};
 ghost use Rattle.picky_agent_state.specs.Message.{IsMessage, message_limit};
 ghost use Rattle.picky_agent_state.specs.Request.{add_fields, key_string, lock_fields, remove_fields, request_of, sign_fields, unlock_fields};
 ghost use Rattle.picky_agent_state.specs.inner.Asked.{asked_found, asked_seen, KeepsAsked};
 
 use crate::message_type;
 use picky_sshkey_blob::{PrivateView, private_at};
-use picky_sshpub::PublicView;
+use picky_keys::PublicView;
 use picky_wire::{Stuck, string_at, uint32_at, word_at};
 
 /// A request whose parts are slices of its message.

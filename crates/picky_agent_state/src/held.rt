@@ -1,14 +1,14 @@
 //! Which identity has a key.
 
 ghost use Rattle.std.specs.Prelude.{◌≡◌, true, false, Some, slice_get, MatchBool, MatchOption};
-ghost use Rattle.picky_sshpub.specs.View.{key_seen};
+ghost use Rattle.picky_keys.specs.View.{key_seen};
 ghost use Rattle.picky_sshkey_blob.specs.Key.{public_part};
 ghost use Rattle.picky_sshkey_blob.specs.View.{key_seen as private_seen};
 ghost use Rattle.picky_agent_state.specs.Held.{HasKey, HasNone, IsAt};
 
 use crate::identity::Identity;
 use picky_sshkey_blob::{PrivateView, SshBasePrivateKey};
-use picky_sshpub::PublicView;
+use picky_keys::PublicView;
 
 /// The place of the first identity that has the key, where one has.
 pub(crate) fn place_of(identities: &[Identity], key: &PublicView<'_>) -> Option<usize>

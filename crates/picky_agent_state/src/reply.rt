@@ -4,7 +4,7 @@ ghost use Rattle.std.specs.Prelude.{◌≡◌, ◌∷◌, ◌++◌, [], ◌^◌,
 ghost use Rattle.std.specs.Int.{w32, to_be_bytes};
 ghost use Rattle.std.specs.List.{concat};
 ghost use Rattle.picky_layout.specs.Wire.{string_of};
-ghost use Rattle.picky_sshpub.specs.Blob.{blob_of};
+ghost use Rattle.picky_keys.specs.Blob.{blob_of};
 ghost use Rattle.picky_sshkey_blob.specs.Key.{public_part};
 ghost use Rattle.picky_agent_state.specs.Reply.{entry, failure as failure_reply, fitted, signed_reply, success as success_reply};
 ghost use Rattle.picky_agent_state.specs.Rows.{most_identities};
@@ -12,9 +12,9 @@ ghost use Rattle.picky_agent_state.specs.inner.Entry.{HasEntry};
 
 use crate::identity::Identity;
 use crate::message_type;
-use picky_cert_names::SshSignatureFormat;
+use picky_cert_parts::SshSignatureFormat;
 use picky_sshkey_blob::SshBasePrivateKey;
-use picky_sshpub::bytes_of;
+use picky_keys::bytes_of;
 use picky_wire::{Bytes, NoMemory, Piece, Text, push_pieces};
 use std::alloc::Global;
 

@@ -3,7 +3,7 @@
 ghost use Rattle.std.specs.Prelude.{◌≡◌, ◌≤◌, ◌↔◌, ℕ, List, None, Some, IfOk};
 ghost use Rattle.picky_keys.specs.declared.public_key.PublicKey.{PublicKey};
 ghost use Rattle.picky_keys.specs.declared.algorithm.SignatureAlgorithm.{SignatureAlgorithm as Algorithm};
-ghost use Rattle.picky_sshpub.specs.Key.{kind_of};
+ghost use Rattle.picky_keys.specs.Key.{kind_of};
 ghost use Rattle.picky_sshkey_blob.specs.Key.{public_part};
 ghost use Rattle.picky_agent_state.specs.Kept.{Kept, machine};
 ghost use Rattle.picky_agent_state.specs.Signing.{algorithm_for as algorithm_of, is_set as is_set_in, rsa_hash as rsa_hash_of, way_for as way_of};
@@ -13,7 +13,7 @@ ghost use Rattle.picky_agent_state.specs.Step.{Asks};
 use crate::message_type;
 use crate::reply::{failure, signed_of};
 use picky_cert_builder::{format_of, private_issuer};
-use picky_cert_names::SshSignatureFormat;
+use picky_cert_parts::SshSignatureFormat;
 use picky_keys::{EcCurve, HashAlgorithm, KeyKind, SignatureAlgorithm};
 use picky_sshkey_blob::SshBasePrivateKey;
 use picky_suite::{SignError, Signer};

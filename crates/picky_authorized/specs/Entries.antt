@@ -2,7 +2,7 @@
 use Rattle.std.specs.Prelude.{◌≡◌, ◌+◌, ℕ, true, List, [], ◌∷◌, Option, Some, None, Result, Ok, Err, if◌then◌else◌}
 use Rattle.std.specs.List.{AllByRecursion}
 use Rattle.picky_text.specs.Lines.{lines}
-use Rattle.picky_sshpub.specs.LineRefusal.{is_short}
+use Rattle.picky_keys.specs.LineRefusal.{is_short}
 use Rattle.picky_authorized.specs.declared.entry.AuthContent.{AuthContent}
 use Rattle.picky_authorized.specs.declared.entry.AuthContent.TheVariants as contents
 use Rattle.picky_authorized.specs.declared.entry.AuthEntry.{AuthEntry}

@@ -2,10 +2,10 @@
 use Rattle.std.specs.Prelude.{◌≡◌, ◌⊎◌, ◌==◌, ℕ, Bool, true, false, List, [], ◌∷◌, Option, Some, None, Result, Ok, Err}
 use Rattle.std.specs.Prelude.{if◌then◌else◌}
 use Rattle.picky_text.specs.Words.{first_word}
-use Rattle.picky_sshpub.specs.Line.{IsPublicLine}
-use Rattle.picky_sshpub.specs.LineRefusal.{is_key_type, line_meaning}
-use Rattle.picky_sshpub.specs.declared.error.SshPublicKeyError.{SshPublicKeyError}
-use Rattle.picky_sshpub.specs.declared.key.SshPublicKey.{SshPublicKey}
+use Rattle.picky_keys.specs.Line.{IsPublicLine}
+use Rattle.picky_keys.specs.LineRefusal.{is_key_type, line_meaning}
+use Rattle.picky_keys.specs.declared.error.SshPublicKeyError.{SshPublicKeyError}
+use Rattle.picky_keys.specs.declared.key.SshPublicKey.{SshPublicKey}
 use Rattle.picky_authorized.specs.declared.auth_option.AuthOption.{AuthOption}
 use Rattle.picky_authorized.specs.declared.entry.AuthContent.{AuthContent}
 use Rattle.picky_authorized.specs.declared.entry.AuthContent.TheVariants as contents

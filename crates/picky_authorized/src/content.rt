@@ -1,7 +1,7 @@
 //! What one line says.
 
 ghost use Rattle.std.specs.Prelude.{◌≡◌, ◌≢◌, ◌^◌, ◌<◌, true, false, Some, None, IfOk, IfSome, IfNone, length};
-ghost use Rattle.picky_sshpub.specs.LineRefusal.{line_meaning};
+ghost use Rattle.picky_keys.specs.LineRefusal.{line_meaning};
 ghost use Rattle.picky_authorized.specs.Lines.{begins_with_key as begins_so, content_in, content_of as content_of_line, key_content, optioned_line as optioned_line_of, without_blanks};
 
 use crate::auth_option::AuthOption;
@@ -9,7 +9,7 @@ use crate::entry::AuthContent;
 use crate::known::are_fit;
 use crate::options::options_of;
 use crate::quotes::{PartEnd, split_outside};
-use picky_sshpub::{SshPublicKey, SshPublicKeyError, names_key_type};
+use picky_keys::{SshPublicKey, SshPublicKeyError, names_key_type};
 use picky_text::split_word;
 use picky_wire::{List, NoMemory};
 use std::alloc::Global;

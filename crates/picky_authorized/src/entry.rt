@@ -1,7 +1,7 @@
 //! What the lines of authorized keys say.
 
 use crate::auth_option::AuthOption;
-use picky_sshpub::{SshPublicKey, SshPublicKeyError};
+use picky_keys::{SshPublicKey, SshPublicKeyError};
 use picky_wire::List;
 
 /// What a line says.

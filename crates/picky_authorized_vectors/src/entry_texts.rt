@@ -1,7 +1,7 @@
 //! What the entries of a text say, in short lines that a row can hold.
 
 use picky_authorized::{AuthContent, AuthEntry, AuthOption, read_keys};
-use picky_sshpub::SshBasePublicKey;
+use picky_keys::SshBasePublicKey;
 use std::alloc::{AllocError, Global};
 use std::mem::ManuallyDrop;
 use std::test::Fail;

@@ -2,7 +2,7 @@
 
 use picky_authorized::{AuthContent, AuthEntry, AuthOption, read_keys};
 use picky_key_rows::KEY_ROWS;
-use picky_sshpub::{SshPublicKey, SshPublicKeyError};
+use picky_keys::{SshPublicKey, SshPublicKeyError};
 use std::alloc::Global;
 use std::mem::ManuallyDrop;
 use std::test::Fail;

@@ -6,20 +6,20 @@ use Rattle.std.proofs.Common.{refl, arith}
 use Rattle.picky_layout.specs.Numbers.{IsBytes}
 use Rattle.picky_layout.specs.Wire.{string_of}
 use Rattle.picky_wire.specs.Principals.{IsPrincipal}
-use Rattle.picky_sshpub.proofs.ByteLaws.{bytes_by_test, bytes_joined, no_bytes, number_bytes, string_bytes_each}
-use Rattle.picky_sshpub.proofs.LineLaws.{blob_is_bytes, fields_bytes}
-use Rattle.picky_cert_names.specs.declared.cert_key_type.SshCertKeyType.{SshCertKeyType}
-use Rattle.picky_cert_names.specs.declared.cert_key_type.SshCertKeyType.TheVariants as keytypes
-use Rattle.picky_cert_names.specs.declared.option_type.SshCriticalOptionType.{SshCriticalOptionType}
-use Rattle.picky_cert_names.specs.declared.option_type.SshCriticalOptionType.TheVariants as options
-use Rattle.picky_cert_names.specs.declared.known_extension.KnownExtension.{KnownExtension}
-use Rattle.picky_cert_names.specs.declared.known_extension.KnownExtension.TheVariants as known
-use Rattle.picky_cert_names.specs.declared.extension_type.SshExtensionType.{SshExtensionType}
-use Rattle.picky_cert_names.specs.declared.extension_type.SshExtensionType.TheVariants as extensions
-use Rattle.picky_cert_names.specs.declared.signature_format.SshSignatureFormat.{SshSignatureFormat}
-use Rattle.picky_cert_names.specs.declared.signature_format.SshSignatureFormat.TheVariants as formats
-use Rattle.picky_cert_names.specs.Names.{cert_key_type_name, option_name, known_name, format_name}
-use Rattle.picky_cert_names.specs.ExtensionType.{extension_name, IsExtensionType}
+use Rattle.picky_keys.proofs.ByteLaws.{bytes_by_test, bytes_joined, no_bytes, number_bytes, string_bytes_each}
+use Rattle.picky_keys.proofs.LineLaws.{blob_is_bytes, fields_bytes}
+use Rattle.picky_cert_parts.specs.declared.cert_key_type.SshCertKeyType.{SshCertKeyType}
+use Rattle.picky_cert_parts.specs.declared.cert_key_type.SshCertKeyType.TheVariants as keytypes
+use Rattle.picky_cert_parts.specs.declared.option_type.SshCriticalOptionType.{SshCriticalOptionType}
+use Rattle.picky_cert_parts.specs.declared.option_type.SshCriticalOptionType.TheVariants as options
+use Rattle.picky_cert_parts.specs.declared.known_extension.KnownExtension.{KnownExtension}
+use Rattle.picky_cert_parts.specs.declared.known_extension.KnownExtension.TheVariants as known
+use Rattle.picky_cert_parts.specs.declared.extension_type.SshExtensionType.{SshExtensionType}
+use Rattle.picky_cert_parts.specs.declared.extension_type.SshExtensionType.TheVariants as extensions
+use Rattle.picky_cert_parts.specs.declared.signature_format.SshSignatureFormat.{SshSignatureFormat}
+use Rattle.picky_cert_parts.specs.declared.signature_format.SshSignatureFormat.TheVariants as formats
+use Rattle.picky_cert_parts.specs.CertNames.{cert_key_type_name, option_name, known_name, format_name}
+use Rattle.picky_cert_parts.specs.ExtensionType.{extension_name, IsExtensionType}
 use Rattle.picky_cert_parts.specs.declared.cert_type.SshCertType.{SshCertType}
 use Rattle.picky_cert_parts.specs.declared.critical_option.SshCriticalOption.{SshCriticalOption}
 use Rattle.picky_cert_parts.specs.declared.extension.SshExtension.{SshExtension}

@@ -9,12 +9,12 @@ use Rattle.picky_layout.specs.Numbers.{IsBytes}
 use Rattle.picky_layout.proofs.Numbers.{bytes_behind, bytes_in_front, front_bytes}
 use Rattle.picky_text.specs.Words.{ends_line, line_in_front, after_body, comment_of}
 use Rattle.picky_text.proofs.WordLaws.{rest_has_no_cr, rest_has_no_lf, rest_is_trimmed, rest_of_line_is_text}
-use Rattle.picky_sshpub.specs.LineRefusal.{is_short}
-use Rattle.picky_sshpub.specs.SourceLine.{read_line}
-use Rattle.picky_sshpub.proofs.LineLaws.{chosen}
-use Rattle.picky_cert_names.specs.declared.error.SshCertificateError.TheVariants as errors
-use Rattle.picky_cert_names.specs.declared.error.SshSignatureError.TheVariants as signatures
-use Rattle.picky_cert_names.specs.FromWire.{certificate_error}
+use Rattle.picky_keys.specs.LineRefusal.{is_short}
+use Rattle.picky_keys.specs.SourceLine.{read_line}
+use Rattle.picky_keys.proofs.LineLaws.{chosen}
+use Rattle.picky_cert_parts.specs.declared.error.SshCertificateError.TheVariants as errors
+use Rattle.picky_cert_parts.specs.declared.error.SshSignatureError.TheVariants as signatures
+use Rattle.picky_cert_parts.specs.CertFromWire.{certificate_error}
 use Rattle.picky_cert_parts.specs.declared.signature.SshSignature.{SshSignature}
 use Rattle.picky_cert_parts.specs.Signature.{blob_fits, signature}
 use Rattle.picky_cert_parts.proofs.SpellingLaws.{signature_fits}

@@ -6,11 +6,11 @@ use Rattle.std.proofs.lemmas.Bool.Decides.{Decides-and, Decides-like}
 use Rattle.picky_wire.specs.contracts.view.PartPartialEq.TheImpl as place
 use Rattle.picky_wire.specs.declared.view.Part.{Part}
 use Rattle.picky_wire.specs.View.{part_shown}
-use Rattle.picky_sshpub.specs.contracts.view.PublicViewPartialEq.TheImpl as seen
-use Rattle.picky_sshpub.specs.declared.view.PublicView.{PublicView}
-use Rattle.picky_sshpub.specs.View.{view_shown}
-use Rattle.picky_cert_names.specs.contracts.signature_format.SshSignatureFormatPartialEq.TheImpl as format
-use Rattle.picky_cert_names.specs.declared.signature_format.SshSignatureFormat.{SshSignatureFormat}
+use Rattle.picky_keys.specs.contracts.view.PublicViewPartialEq.TheImpl as seen
+use Rattle.picky_keys.specs.declared.view.PublicView.{PublicView}
+use Rattle.picky_keys.specs.View.{view_shown}
+use Rattle.picky_cert_parts.specs.contracts.signature_format.SshSignatureFormatPartialEq.TheImpl as format
+use Rattle.picky_cert_parts.specs.declared.signature_format.SshSignatureFormat.{SshSignatureFormat}
 use Rattle.picky_cert_parts.specs.contracts.signature.SshSignaturePartialEq.TheImpl as signature
 use Rattle.picky_cert_parts.specs.declared.signature.SshSignature.{SshSignature}
 use Rattle.picky_cert_parts.proofs.EqualityLemmas.{bytes_equal, extensions_equal, key_equal, key_type_equal, moment_equal, number_equal}

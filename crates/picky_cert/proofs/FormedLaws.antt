@@ -3,9 +3,9 @@ use Rattle.std.specs.Prelude.{◌≡◌, ◌<◌, ◌^◌, true, List, ℕ, leng
 use Rattle.std.proofs.Common.{sym, arith, refl}
 use Rattle.std.proofs.lemmas.Bool.{lt-ltb, ltb-true}
 use Rattle.picky_layout.specs.carried.Outcome.{passed_ok}
-use Rattle.picky_sshpub.specs.LineRefusal.{is_short}
-use Rattle.picky_sshpub.proofs.LineLaws.{chosen}
-use Rattle.picky_cert_names.specs.declared.error.SshCertificateError.TheVariants as errors
+use Rattle.picky_keys.specs.LineRefusal.{is_short}
+use Rattle.picky_keys.proofs.LineLaws.{chosen}
+use Rattle.picky_cert_parts.specs.declared.error.SshCertificateError.TheVariants as errors
 use Rattle.picky_cert_blob.specs.Subject.{fits_subject}
 use Rattle.picky_cert_blob.proofs.SubjectLaws.{fits_where_kind}
 use Rattle.picky_cert.specs.declared.certificate.SshCertificate.{SshCertificate}

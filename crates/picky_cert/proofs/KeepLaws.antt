@@ -5,8 +5,8 @@ use Rattle.std.proofs.lemmas.List.{append-nil}
 use Rattle.std.proofs.lemmas.Str.{IsUtf8-nil}
 use Rattle.picky_layout.specs.Numbers.{IsBytes}
 use Rattle.picky_layout.proofs.Numbers.{bytes_in_front, bytes_behind}
-use Rattle.picky_sshpub.specs.Key.{IsText}
-use Rattle.picky_sshpub.proofs.ByteLaws.{no_bytes}
+use Rattle.picky_keys.specs.Key.{IsText}
+use Rattle.picky_keys.proofs.ByteLaws.{no_bytes}
 use Rattle.picky_cert_parts.specs.declared.signature.SshSignature.{SshSignature}
 use Rattle.picky_cert_parts.specs.Signature.{IsSignature, signature}
 use Rattle.picky_cert_parts.proofs.SpellingLaws.{signature_keeps}

@@ -16,18 +16,18 @@ use Rattle.picky_text.specs.Base64.{base64_of, decoded}
 use Rattle.picky_text.proofs.Base64Laws.{base64_is_read_back, base64_is_of_what_it_gives, decoded_is_bytes}
 use Rattle.picky_text.specs.Words.{first_word, after_word, body_word, after_body, comment_of}
 use Rattle.picky_text.proofs.WordLaws.{rest_text_is, rest_text_says, rest_of_line_is_text}
-use Rattle.picky_sshpub.specs.Key.{IsText}
-use Rattle.picky_sshpub.specs.LineRefusal.{comment_text, is_short, is_short_text}
-use Rattle.picky_sshpub.proofs.ByteLaws.{after_bytes, word_is_bytes}
-use Rattle.picky_sshpub.proofs.LineLaws.{chosen, some_of}
-use Rattle.picky_cert_names.specs.declared.cert_key_type.SshCertKeyType.{SshCertKeyType}
-use Rattle.picky_cert_names.specs.declared.error.SshCertificateError.{SshCertificateError}
-use Rattle.picky_cert_names.specs.declared.error.SshCertificateError.TheVariants as errors
-use Rattle.picky_cert_names.specs.Named.{entry_or}
-use Rattle.picky_cert_names.specs.Names.{cert_key_type_name}
-use Rattle.picky_cert_names.specs.NameTables.{cert_key_types}
-use Rattle.picky_cert_names.proofs.NameLaws.{key_type_of_name, name_of_key_type}
-use Rattle.picky_cert_names.proofs.TypeNameLaws.{cert_key_type_name_utf8}
+use Rattle.picky_keys.specs.Key.{IsText}
+use Rattle.picky_keys.specs.LineRefusal.{comment_text, is_short, is_short_text}
+use Rattle.picky_keys.proofs.ByteLaws.{after_bytes, word_is_bytes}
+use Rattle.picky_keys.proofs.LineLaws.{chosen, some_of}
+use Rattle.picky_cert_parts.specs.declared.cert_key_type.SshCertKeyType.{SshCertKeyType}
+use Rattle.picky_cert_parts.specs.declared.error.SshCertificateError.{SshCertificateError}
+use Rattle.picky_cert_parts.specs.declared.error.SshCertificateError.TheVariants as errors
+use Rattle.picky_cert_parts.specs.CertNamed.{entry_or}
+use Rattle.picky_cert_parts.specs.CertNames.{cert_key_type_name}
+use Rattle.picky_cert_parts.specs.CertNameTables.{cert_key_types}
+use Rattle.picky_cert_parts.proofs.NameLaws.{key_type_of_name, name_of_key_type}
+use Rattle.picky_cert_parts.proofs.TypeNameLaws.{cert_key_type_name_utf8}
 use Rattle.picky_cert_blob.specs.Keeps.{FitsSubject}
 use Rattle.picky_cert.specs.declared.certificate.SshCertificate.{SshCertificate}
 use Rattle.picky_cert.specs.Certificate.{certificate, certified, said}

@@ -13,22 +13,22 @@ use Rattle.picky_layout.specs.Numbers.{byte, uint64}
 use Rattle.picky_layout.specs.Table.{find_entry}
 use Rattle.picky_layout.specs.Wire.{of_length, string, text, uint32}
 use Rattle.picky_wire.specs.Moment.{moment}
-use Rattle.picky_keys.specs.NameTables.{key_types}
+use Rattle.picky_keys.specs.KeyNameTables.{key_types}
 use Rattle.picky_keys.specs.declared.curve.EcCurve.{EcCurve}
 use Rattle.picky_keys.specs.declared.kind.KeyKind.{KeyKind}
 use Rattle.picky_keys.specs.declared.kind.KeyKind.TheVariants as kinds
-use Rattle.picky_sshpub.specs.Blob.{blob, ec_fields, ed_fields, ed_key, public_key_fields, key_type, rsa_fields, sk_ecdsa_fields, sk_ed_fields}
-use Rattle.picky_cert_names.specs.Names.{cert_key_type_name, is_sk}
-use Rattle.picky_cert_names.specs.NameTables.{cert_key_types, option_types, signature_formats}
-use Rattle.picky_cert_names.specs.declared.cert_key_type.SshCertKeyType.{SshCertKeyType}
-use Rattle.picky_cert_names.specs.ExtensionType.{extension_named}
-use Rattle.picky_cert_names.specs.declared.error.SshCriticalOptionError.{SshCriticalOptionError}
-use Rattle.picky_cert_names.specs.declared.error.SshExtensionError.{SshExtensionError}
-use Rattle.picky_cert_names.specs.declared.error.SshSignatureError.{SshSignatureError}
-use Rattle.picky_cert_names.specs.declared.error.SshCriticalOptionError.TheVariants as option_errors
-use Rattle.picky_cert_names.specs.declared.error.SshSignatureError.TheVariants as signature_errors
-use Rattle.picky_cert_names.specs.declared.signature_format.SshSignatureFormat.{SshSignatureFormat}
-use Rattle.picky_cert_names.specs.FromWire.{extension_error, option_error, signature_error}
+use Rattle.picky_keys.specs.Blob.{blob, ec_fields, ed_fields, ed_key, public_key_fields, key_type, rsa_fields, sk_ecdsa_fields, sk_ed_fields}
+use Rattle.picky_cert_parts.specs.CertNames.{cert_key_type_name, is_sk}
+use Rattle.picky_cert_parts.specs.CertNameTables.{cert_key_types, option_types, signature_formats}
+use Rattle.picky_cert_parts.specs.declared.cert_key_type.SshCertKeyType.{SshCertKeyType}
+use Rattle.picky_cert_parts.specs.ExtensionType.{extension_named}
+use Rattle.picky_cert_parts.specs.declared.error.SshCriticalOptionError.{SshCriticalOptionError}
+use Rattle.picky_cert_parts.specs.declared.error.SshExtensionError.{SshExtensionError}
+use Rattle.picky_cert_parts.specs.declared.error.SshSignatureError.{SshSignatureError}
+use Rattle.picky_cert_parts.specs.declared.error.SshCriticalOptionError.TheVariants as option_errors
+use Rattle.picky_cert_parts.specs.declared.error.SshSignatureError.TheVariants as signature_errors
+use Rattle.picky_cert_parts.specs.declared.signature_format.SshSignatureFormat.{SshSignatureFormat}
+use Rattle.picky_cert_parts.specs.CertFromWire.{extension_error, option_error, signature_error}
 use Rattle.picky_cert_parts.specs.NumberTable.{cert_types}
 use Rattle.picky_cert_parts.specs.CriticalOption.{critical_option, option_payload, option_type}
 use Rattle.picky_cert_parts.specs.Extension.{extension, extension_payload, extension_type}
@@ -51,7 +51,7 @@ use Rattle.picky_cert_blob.specs.declared.stopped.Stopped.{Stopped}
 use Rattle.picky_cert.specs.declared.view.CertView.{CertView}
 use Rattle.picky_cert.specs.Certificate.{certificate}
 use Rattle.picky_cert.specs.View.{cert_seen, CertLies, IsRefusal}
-use Rattle.picky_cert_names.proofs.TypeNameLaws.{cert_key_type_name_utf8}
+use Rattle.picky_cert_parts.proofs.TypeNameLaws.{cert_key_type_name_utf8}
 use Rattle.picky_cert.proofs.RefuseLemmas.{RefusesAs, done_refuses, both_refuses, tag_refuses, flawed_refuses}
 use Rattle.picky_cert.proofs.RefuseLemmas.{test_refuses, narrow_refuses, entry_refuses, named_refuses, tagged_is_utf8}
 use Rattle.picky_cert.proofs.RefuseLemmas.{list_refuses, front_refuses}

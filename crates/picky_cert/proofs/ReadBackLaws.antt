@@ -9,11 +9,11 @@ use Rattle.picky_text.specs.Base64.{base64_of}
 use Rattle.picky_text.specs.declared.lines.LineEnd.TheVariants.{CrLf}
 use Rattle.picky_text.specs.Words.{ends_line, line_in_front, AreParts, HasParts, IsWord}
 use Rattle.picky_text.proofs.WordLaws.{base64_is_word, key_line_alone, key_line_is_read_back, stays_line}
-use Rattle.picky_sshpub.specs.SourceLine.{after_line, read_line, Stays}
-use Rattle.picky_sshpub.proofs.ByteLaws.{no_by_test}
-use Rattle.picky_cert_names.specs.declared.cert_key_type.SshCertKeyType.{SshCertKeyType}
-use Rattle.picky_cert_names.specs.declared.cert_key_type.SshCertKeyType.TheVariants as keytypes
-use Rattle.picky_cert_names.specs.Names.{cert_key_type_name}
+use Rattle.picky_keys.specs.SourceLine.{after_line, read_line, Stays}
+use Rattle.picky_keys.proofs.ByteLaws.{no_by_test}
+use Rattle.picky_cert_parts.specs.declared.cert_key_type.SshCertKeyType.{SshCertKeyType}
+use Rattle.picky_cert_parts.specs.declared.cert_key_type.SshCertKeyType.TheVariants as keytypes
+use Rattle.picky_cert_parts.specs.CertNames.{cert_key_type_name}
 use Rattle.picky_cert_parts.specs.Signature.{total_of}
 use Rattle.picky_cert.specs.declared.certificate.SshCertificate.{SshCertificate}
 use Rattle.picky_cert.specs.Certificate.{certified, said}

@@ -17,11 +17,11 @@ use Rattle.picky_text.proofs.ListLaws.{none_before_first, uncut}
 use Rattle.picky_text.proofs.WordLaws.{base64_is_word, rest_text_is, trim_end_front, words_at_space}
 use Rattle.picky_wire.specs.Gives.{Gives}
 use Rattle.picky_wire.specs.View.{Sees}
-use Rattle.picky_sshpub.specs.LineRefusal.{comment_text}
-use Rattle.picky_cert_names.specs.declared.cert_key_type.SshCertKeyType.{SshCertKeyType}
-use Rattle.picky_cert_names.specs.declared.error.SshCertificateError.{SshCertificateError}
-use Rattle.picky_cert_names.specs.declared.error.SshCertificateError.TheVariants as errors
-use Rattle.picky_cert_names.specs.Names.{cert_key_type_name}
+use Rattle.picky_keys.specs.LineRefusal.{comment_text}
+use Rattle.picky_cert_parts.specs.declared.cert_key_type.SshCertKeyType.{SshCertKeyType}
+use Rattle.picky_cert_parts.specs.declared.error.SshCertificateError.{SshCertificateError}
+use Rattle.picky_cert_parts.specs.declared.error.SshCertificateError.TheVariants as errors
+use Rattle.picky_cert_parts.specs.CertNames.{cert_key_type_name}
 use Rattle.picky_cert_blob.specs.declared.part.CertPart.{CertPart}
 use Rattle.picky_cert_blob.specs.Reason.{CertReason, why_in}
 use Rattle.picky_cert.specs.declared.certificate.SshCertificate.{SshCertificate}

@@ -8,10 +8,10 @@ use Rattle.std.proofs.lemmas.List.{append-nil, length-append}
 use Rattle.picky_layout.specs.Wire.{string_of}
 use Rattle.picky_wire.proofs.WriteLemmas.{length-string_of}
 use Rattle.picky_text.proofs.Base64Laws.{length_base64}
-use Rattle.picky_sshpub.specs.Blob.{blob_of as key_blob_of}
-use Rattle.picky_cert_names.specs.declared.error.SshSignatureError.{SshSignatureError}
-use Rattle.picky_cert_names.specs.declared.error.SshSignatureError.TheVariants as errors
-use Rattle.picky_cert_names.specs.declared.signature_format.SshSignatureFormat.{SshSignatureFormat}
+use Rattle.picky_keys.specs.Blob.{blob_of as key_blob_of}
+use Rattle.picky_cert_parts.specs.declared.error.SshSignatureError.{SshSignatureError}
+use Rattle.picky_cert_parts.specs.declared.error.SshSignatureError.TheVariants as errors
+use Rattle.picky_cert_parts.specs.declared.signature_format.SshSignatureFormat.{SshSignatureFormat}
 use Rattle.picky_cert_parts.specs.declared.signature.SshSignature.{SshSignature}
 use Rattle.picky_cert_parts.specs.declared.signature.SshSignatureBlob.{SshSignatureBlob}
 use Rattle.picky_cert_parts.specs.declared.signature.SshSignatureBlob.TheVariants as blobs

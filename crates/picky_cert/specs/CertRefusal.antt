@@ -2,15 +2,15 @@
 use Rattle.std.specs.Prelude.{List, ℕ, bytes_eq, if◌then◌else◌}
 use Rattle.picky_layout.specs.Flaw.{Why, Flawed, Length, Magic, Name, Number}
 use Rattle.picky_wire.specs.Flaws.{wire_error}
-use Rattle.picky_sshpub.specs.BlobRefusal.{why_error as key_error}
-use Rattle.picky_cert_names.specs.declared.cert_key_type.SshCertKeyType.TheVariants as key_types
-use Rattle.picky_cert_names.specs.declared.error.SshCertificateError.{SshCertificateError}
-use Rattle.picky_cert_names.specs.declared.error.SshCertificateError.TheVariants as errors
-use Rattle.picky_cert_names.specs.declared.error.SshCertTypeError.TheVariants as types
-use Rattle.picky_cert_names.specs.declared.error.SshCriticalOptionError.TheVariants as options
-use Rattle.picky_cert_names.specs.declared.error.SshSignatureError.TheVariants as signatures
-use Rattle.picky_cert_names.specs.FromWire.{cert_type_error, certificate_error, extension_error, option_error, signature_error}
-use Rattle.picky_cert_names.specs.Names.{cert_key_type_name}
+use Rattle.picky_keys.specs.BlobRefusal.{why_error as key_error}
+use Rattle.picky_cert_parts.specs.declared.cert_key_type.SshCertKeyType.TheVariants as key_types
+use Rattle.picky_cert_parts.specs.declared.error.SshCertificateError.{SshCertificateError}
+use Rattle.picky_cert_parts.specs.declared.error.SshCertificateError.TheVariants as errors
+use Rattle.picky_cert_parts.specs.declared.error.SshCertTypeError.TheVariants as types
+use Rattle.picky_cert_parts.specs.declared.error.SshCriticalOptionError.TheVariants as options
+use Rattle.picky_cert_parts.specs.declared.error.SshSignatureError.TheVariants as signatures
+use Rattle.picky_cert_parts.specs.CertFromWire.{cert_type_error, certificate_error, extension_error, option_error, signature_error}
+use Rattle.picky_cert_parts.specs.CertNames.{cert_key_type_name}
 use Rattle.picky_cert_blob.specs.Reason.{CertReason}
 use Rattle.picky_cert_blob.specs.declared.part.CertPart.TheVariants as parts
 

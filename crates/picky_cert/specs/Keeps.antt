@@ -1,5 +1,5 @@
 -- What each certificate keeps, and which are well formed.
-use Rattle.picky_sshpub.specs.Key.{IsText}
+use Rattle.picky_keys.specs.Key.{IsText}
 use Rattle.picky_cert_parts.specs.Signature.{IsSignature}
 use Rattle.picky_cert_blob.specs.Keeps.{IsBody}
 use Rattle.picky_cert_blob.specs.Keeps.{IsWellFormed as IsWellFormedBody}

@@ -7,8 +7,8 @@ use Rattle.picky_layout.specs.Grammar.{Fits}
 use Rattle.picky_text.specs.Base64.{base64_of}
 use Rattle.picky_text.specs.Words.{first_word, body_word, line_in_front, after_body, comment_of}
 use Rattle.picky_text.specs.Lines.{HasNo}
-use Rattle.picky_cert_names.specs.declared.cert_key_type.SshCertKeyType.{SshCertKeyType}
-use Rattle.picky_cert_names.specs.Names.{cert_key_type_name}
+use Rattle.picky_cert_parts.specs.declared.cert_key_type.SshCertKeyType.{SshCertKeyType}
+use Rattle.picky_cert_parts.specs.CertNames.{cert_key_type_name}
 use Rattle.picky_cert_parts.specs.Signature.{blob_fits}
 use Rattle.picky_cert.specs.declared.certificate.SshCertificate.{SshCertificate}
 use Rattle.picky_cert.specs.Certificate.{certificate, certified, said}

@@ -7,13 +7,13 @@ use Rattle.picky_layout.specs.Front.{read_front}
 use Rattle.picky_layout.specs.Outcome.{and_then, map_err}
 use Rattle.picky_text.specs.Base64.{decoded}
 use Rattle.picky_text.specs.Words.{first_word, body_word}
-use Rattle.picky_sshpub.specs.LineRefusal.{comment_text, is_short, is_short_text}
-use Rattle.picky_cert_names.specs.declared.cert_key_type.SshCertKeyType.{SshCertKeyType}
-use Rattle.picky_cert_names.specs.declared.error.SshCertificateError.{SshCertificateError}
-use Rattle.picky_cert_names.specs.declared.error.SshCertificateError.TheVariants as errors
-use Rattle.picky_cert_names.specs.declared.error.SshSignatureError.TheVariants as signatures
-use Rattle.picky_cert_names.specs.NameTables.{cert_key_types}
-use Rattle.picky_cert_names.specs.Named.{of_table}
+use Rattle.picky_keys.specs.LineRefusal.{comment_text, is_short, is_short_text}
+use Rattle.picky_cert_parts.specs.declared.cert_key_type.SshCertKeyType.{SshCertKeyType}
+use Rattle.picky_cert_parts.specs.declared.error.SshCertificateError.{SshCertificateError}
+use Rattle.picky_cert_parts.specs.declared.error.SshCertificateError.TheVariants as errors
+use Rattle.picky_cert_parts.specs.declared.error.SshSignatureError.TheVariants as signatures
+use Rattle.picky_cert_parts.specs.CertNameTables.{cert_key_types}
+use Rattle.picky_cert_parts.specs.CertNamed.{of_table}
 use Rattle.picky_cert_parts.specs.Signature.{blob_fits}
 use Rattle.picky_cert_blob.specs.Subject.{fits_subject}
 use Rattle.picky_cert.specs.declared.certificate.SshCertificate.{SshCertificate}

@@ -1,9 +1,9 @@
 -- A certificate's line in front of a source's bytes: what it means, and the order of its refusals.
 use Rattle.std.specs.Prelude.{List, ℕ, Result, Ok}
 use Rattle.picky_layout.specs.Outcome.{and_then}
-use Rattle.picky_sshpub.specs.SourceLine.{read_line}
-use Rattle.picky_cert_names.specs.declared.error.SshCertificateError.{SshCertificateError}
-use Rattle.picky_cert_names.specs.FromWire.{certificate_error}
+use Rattle.picky_keys.specs.SourceLine.{read_line}
+use Rattle.picky_cert_parts.specs.declared.error.SshCertificateError.{SshCertificateError}
+use Rattle.picky_cert_parts.specs.CertFromWire.{certificate_error}
 use Rattle.picky_cert.specs.declared.certificate.SshCertificate.{SshCertificate}
 use Rattle.picky_cert.specs.LineRefusal.{line_meaning}
 

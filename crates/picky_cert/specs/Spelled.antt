@@ -1,7 +1,7 @@
 -- The one spelling of a certificate that is written (OpenSSH's PROTOCOL.certkeys), and its line.
 use Rattle.std.specs.Prelude.{List, [], ◌∷◌, ℕ, ◌++◌}
 use Rattle.picky_text.specs.Base64.{base64_of}
-use Rattle.picky_cert_names.specs.Names.{cert_key_type_name}
+use Rattle.picky_cert_parts.specs.CertNames.{cert_key_type_name}
 use Rattle.picky_cert_parts.specs.Signature.{signature_of}
 use Rattle.picky_cert_blob.specs.Spelled.{body_spelled}
 use Rattle.picky_cert.specs.declared.certificate.SshCertificate.{SshCertificate}

@@ -1,13 +1,13 @@
 -- Which refusals of a certificate say, at some depth, that memory ran out, or that a source failed.
 use Rattle.std.specs.Prelude.{◌≡◌}
 use Rattle.picky_wire.specs.declared.error.IoKind.TheVariants as kinds
-use Rattle.picky_sshpub.specs.declared.error.SshPublicKeyError.TheVariants as keys
-use Rattle.picky_cert_names.specs.declared.error.SshCertificateError.{SshCertificateError}
-use Rattle.picky_cert_names.specs.declared.error.SshCertificateError.TheVariants as errors
-use Rattle.picky_cert_names.specs.declared.error.SshCertTypeError.TheVariants as types
-use Rattle.picky_cert_names.specs.declared.error.SshCriticalOptionError.TheVariants as options
-use Rattle.picky_cert_names.specs.declared.error.SshExtensionError.TheVariants as extensions
-use Rattle.picky_cert_names.specs.declared.error.SshSignatureError.TheVariants as signatures
+use Rattle.picky_keys.specs.declared.error.SshPublicKeyError.TheVariants as keys
+use Rattle.picky_cert_parts.specs.declared.error.SshCertificateError.{SshCertificateError}
+use Rattle.picky_cert_parts.specs.declared.error.SshCertificateError.TheVariants as errors
+use Rattle.picky_cert_parts.specs.declared.error.SshCertTypeError.TheVariants as types
+use Rattle.picky_cert_parts.specs.declared.error.SshCriticalOptionError.TheVariants as options
+use Rattle.picky_cert_parts.specs.declared.error.SshExtensionError.TheVariants as extensions
+use Rattle.picky_cert_parts.specs.declared.error.SshSignatureError.TheVariants as signatures
 
 abbrev pub WantsMemory : SshCertificateError → Type 0
 WantsMemory (errors.SshCriticalOptionError e) = e ≡ options.NoMemory

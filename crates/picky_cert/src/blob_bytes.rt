@@ -4,7 +4,7 @@ ghost use Rattle.std.specs.Prelude.{◌≡◌, ◌++◌, ◌∷◌, [], ◌^◌,
 ghost use Rattle.std.specs.Int.{w32, w64, to_be_bytes};
 ghost use Rattle.std.specs.List.{concat};
 ghost use Rattle.picky_layout.specs.Wire.{string_of};
-ghost use Rattle.picky_sshpub.specs.Blob.{blob_of as key_blob_of};
+ghost use Rattle.picky_keys.specs.Blob.{blob_of as key_blob_of};
 ghost use Rattle.picky_cert_blob.specs.Spelled.{grants_spelled, head_spelled, terms_spelled};
 ghost use Rattle.picky_cert_parts.specs.CertNumber.{cert_type_number};
 ghost use Rattle.picky_wire.specs.Gives.{Gives};
@@ -19,7 +19,7 @@ use crate::lists::block_of;
 use crate::ranges::certificate_keeps_its_ranges;
 use picky_cert_blob::fits_subject;
 use picky_cert_parts::SshCertificateError;
-use picky_sshpub::{SshBasePublicKey, bytes_of, pieces_behind};
+use picky_keys::{SshBasePublicKey, bytes_of, pieces_behind};
 use picky_wire::{Bytes, MAX_LEN, NoMemory, Piece, SizeError, push_pieces};
 use std::alloc::{AllocError, Global};
 

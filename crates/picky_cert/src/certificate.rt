@@ -3,7 +3,7 @@
 use picky_cert_parts::{
     SshCertKeyType, SshCertType, SshCriticalOption, SshExtension, SshSignature,
 };
-use picky_sshpub::SshPublicKey;
+use picky_keys::SshPublicKey;
 use picky_wire::{Bytes, List, NoMemory, Text, Timestamp, TryClone, both};
 use std::alloc::Global;
 

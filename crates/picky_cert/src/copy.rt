@@ -2,8 +2,8 @@
 
 ghost use Rattle.std.specs.Prelude.{◌≡◌, [], ◌<◌, ◌^◌, IfOk, IsUtf8, length};
 ghost use Rattle.picky_cert_parts.specs.Signature.{IsSignature};
-ghost use Rattle.picky_sshpub.specs.Key.{IsKey};
-ghost use Rattle.picky_sshpub.specs.View.{key_seen};
+ghost use Rattle.picky_keys.specs.Key.{IsKey};
+ghost use Rattle.picky_keys.specs.View.{key_seen};
 ghost use Rattle.picky_cert.specs.Certificate.{bare};
 ghost use Rattle.picky_cert.specs.Keeps.{IsCertificate};
 ghost use Rattle.picky_cert.specs.View.{body_in, cert_seen, signature_in};
@@ -16,7 +16,7 @@ use crate::view::CertView;
 use picky_cert_parts::{
     SshCriticalOption, SshExtension, SshSignature, SshSignatureBlob, SshSignatureFormat,
 };
-use picky_sshpub::{PublicView, SshPublicKey};
+use picky_keys::{PublicView, SshPublicKey};
 use picky_wire::{List, NoMemory, Part, Text, both, decode_items};
 use std::alloc::Global;
 

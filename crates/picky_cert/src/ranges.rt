@@ -1,7 +1,7 @@
 //! The ranges that a certificate's parts keep by their types, each shown by a function that does nothing else.
 
 ghost use Rattle.std.specs.Prelude.{◌≡◌, ◌<◌, ◌^◌, All, true};
-ghost use Rattle.picky_sshpub.specs.Key.{IsKey, IsString, IsText};
+ghost use Rattle.picky_keys.specs.Key.{IsKey, IsString, IsText};
 ghost use Rattle.picky_cert_parts.specs.Signature.{IsSignature};
 ghost use Rattle.picky_cert_blob.specs.Keeps.{IsGrants, IsHead, IsTerms};
 ghost use Rattle.picky_cert.specs.Certificate.{said};
@@ -9,7 +9,7 @@ ghost use Rattle.picky_cert.specs.Keeps.{IsCertificate};
 
 use crate::certificate::SshCertificate;
 use picky_cert_parts::{SshSignature, signature_pieces};
-use picky_sshpub::{SshBasePublicKey, pieces_behind};
+use picky_keys::{SshBasePublicKey, pieces_behind};
 use picky_wire::{Bytes, List, Piece, SshComplexTypeEncode, Text, Timestamp};
 
 /// Does nothing: the parts of a certificate have the ranges of their types.

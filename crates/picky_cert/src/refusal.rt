@@ -12,7 +12,7 @@ use picky_cert_parts::{
     SshCertKeyType, SshCertTypeError, SshCertificateError, SshCriticalOptionError,
     SshExtensionError, SshSignatureError,
 };
-use picky_sshpub::SshPublicKeyError;
+use picky_keys::SshPublicKeyError;
 use picky_wire::{IoKind, NoMemory, Part, Stuck};
 use std::alloc::Global;
 

@@ -4,15 +4,15 @@ ghost use Rattle.std.specs.Prelude.{◌≡◌, ◌≢◌, IfOk, IfErr};
 ghost use Rattle.picky_wire.specs.Count.{Rose};
 ghost use Rattle.picky_wire.specs.Takes.{Takes, HasCause, causes_of};
 ghost use Rattle.picky_wire.specs.declared.error.IoKind.TheVariants as io_kinds;
-ghost use Rattle.picky_sshpub.specs.SourceLine.{after_line, line_used, HasLine};
-ghost use Rattle.picky_cert_names.specs.FromWire.{certificate_error};
+ghost use Rattle.picky_keys.specs.SourceLine.{after_line, line_used, HasLine};
+ghost use Rattle.picky_cert_parts.specs.CertFromWire.{certificate_error};
 ghost use Rattle.picky_cert.specs.LineRefusal.{line_meaning};
 ghost use Rattle.picky_cert.specs.SourceLine.{source_meaning};
 
 use crate::certificate::SshCertificate;
 use crate::line::certificate_of_line;
 use picky_cert_parts::SshCertificateError;
-use picky_sshpub::take_line;
+use picky_keys::take_line;
 use picky_wire::{Source, SshComplexTypeDecode};
 use std::alloc::Global;
 

@@ -12,7 +12,7 @@ ghost use Rattle.picky_cert_blob.specs.View.{SeenIn};
 
 use picky_cert_blob::{CertPart, Stopped, body_at, signature_at};
 use picky_cert_parts::{SshCertKeyType, SshCertType, SshSignatureFormat};
-use picky_sshpub::PublicView;
+use picky_keys::PublicView;
 use picky_wire::{Part, Stuck, Timestamp};
 
 /// A certificate whose parts are slices of its bytes. The part of a list is its block, without its length.

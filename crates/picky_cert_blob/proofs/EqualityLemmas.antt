@@ -6,11 +6,11 @@ use Rattle.picky_wire.specs.declared.view.Part.{Part}
 use Rattle.picky_wire.specs.contracts.view.StuckPartialEq.TheImpl as stuck
 use Rattle.picky_wire.specs.declared.view.Stuck.{Stuck}
 use Rattle.picky_wire.specs.View.{part_shown, stuck_shown}
-use Rattle.picky_sshpub.specs.contracts.view.PublicViewPartialEq.TheImpl as key
-use Rattle.picky_sshpub.specs.declared.view.PublicView.{PublicView}
-use Rattle.picky_sshpub.specs.View.{view_shown}
-use Rattle.picky_cert_names.specs.contracts.cert_key_type.SshCertKeyTypePartialEq.TheImpl as key_type
-use Rattle.picky_cert_names.specs.declared.cert_key_type.SshCertKeyType.{SshCertKeyType}
+use Rattle.picky_keys.specs.contracts.view.PublicViewPartialEq.TheImpl as key
+use Rattle.picky_keys.specs.declared.view.PublicView.{PublicView}
+use Rattle.picky_keys.specs.View.{view_shown}
+use Rattle.picky_cert_parts.specs.contracts.cert_key_type.SshCertKeyTypePartialEq.TheImpl as key_type
+use Rattle.picky_cert_parts.specs.declared.cert_key_type.SshCertKeyType.{SshCertKeyType}
 use Rattle.picky_cert_blob.specs.contracts.part.CertPartPartialEq.TheImpl as part
 use Rattle.picky_cert_blob.specs.declared.part.CertPart.{CertPart}
 use Rattle.picky_cert_blob.specs.contracts.stopped.StoppedPartialEq.TheImpl as stopped

@@ -6,9 +6,9 @@ use Rattle.picky_layout.specs.Grammar.{Grammar}
 use Rattle.picky_layout.specs.Outcome.{map_err}
 use Rattle.picky_layout.specs.Table.{find_entry}
 use Rattle.picky_layout.specs.carried.Table.{found_has_key}
-use Rattle.picky_cert_names.specs.declared.cert_key_type.SshCertKeyType.{SshCertKeyType}
-use Rattle.picky_cert_names.specs.Names.{cert_key_type_name}
-use Rattle.picky_cert_names.specs.NameTables.{cert_key_types}
+use Rattle.picky_cert_parts.specs.declared.cert_key_type.SshCertKeyType.{SshCertKeyType}
+use Rattle.picky_cert_parts.specs.CertNames.{cert_key_type_name}
+use Rattle.picky_cert_parts.specs.CertNameTables.{cert_key_types}
 use Rattle.picky_wire.specs.declared.view.Stuck.{Stuck}
 use Rattle.picky_wire.specs.View.{Seen, why_in, why_of}
 use Rattle.picky_cert_blob.specs.declared.part.CertPart.{CertPart}

@@ -5,9 +5,9 @@ use Rattle.picky_layout.specs.Wire.{string}
 use Rattle.picky_wire.specs.declared.view.Part.{Part}
 use Rattle.picky_wire.specs.declared.view.Stuck.{Stuck}
 use Rattle.picky_wire.specs.View.{Lies, Seen, end_of, part_bytes, why_in}
-use Rattle.picky_sshpub.specs.Blob.{blob as key_blob, key_type}
-use Rattle.picky_sshpub.specs.View.{key_seen, PartsLie}
-use Rattle.picky_sshpub.specs.declared.view.PublicView.{PublicView}
+use Rattle.picky_keys.specs.Blob.{blob as key_blob, key_type}
+use Rattle.picky_keys.specs.View.{key_seen, PartsLie}
+use Rattle.picky_keys.specs.declared.view.PublicView.{PublicView}
 use Rattle.picky_cert_blob.specs.declared.part.CertPart.TheVariants as parts
 use Rattle.picky_cert_blob.specs.Layout.{issuer}
 use Rattle.picky_cert_blob.specs.Reason.{the}

@@ -10,14 +10,14 @@ use Rattle.picky_layout.proofs.Strings.{string_spells, text_spells}
 use Rattle.picky_layout.specs.Wire.{string_of}
 use Rattle.picky_wire.specs.declared.timestamp.Timestamp.{Timestamp}
 use Rattle.picky_wire.specs.Principals.{IsPrincipal}
-use Rattle.picky_sshpub.specs.declared.key.SshBasePublicKey.{SshBasePublicKey}
-use Rattle.picky_sshpub.specs.Key.{IsKey, kind_of}
-use Rattle.picky_sshpub.specs.Blob.{blob_of, fields_spelled}
-use Rattle.picky_sshpub.specs.carried.Blob.{blob_spells, fields_spell}
-use Rattle.picky_cert_names.specs.declared.cert_key_type.SshCertKeyType.{SshCertKeyType}
-use Rattle.picky_cert_names.specs.Names.{cert_key_type_name}
-use Rattle.picky_cert_names.specs.NameTables.{cert_key_types}
-use Rattle.picky_cert_names.proofs.TypeNameLaws.{cert_key_type_name_good}
+use Rattle.picky_keys.specs.declared.key.SshBasePublicKey.{SshBasePublicKey}
+use Rattle.picky_keys.specs.Key.{IsKey, kind_of}
+use Rattle.picky_keys.specs.Blob.{blob_of, fields_spelled}
+use Rattle.picky_keys.specs.carried.Blob.{blob_spells, fields_spell}
+use Rattle.picky_cert_parts.specs.declared.cert_key_type.SshCertKeyType.{SshCertKeyType}
+use Rattle.picky_cert_parts.specs.CertNames.{cert_key_type_name}
+use Rattle.picky_cert_parts.specs.CertNameTables.{cert_key_types}
+use Rattle.picky_cert_parts.proofs.TypeNameLaws.{cert_key_type_name_good}
 use Rattle.picky_cert_parts.specs.declared.cert_type.SshCertType.{SshCertType}
 use Rattle.picky_cert_parts.specs.declared.critical_option.SshCriticalOption.{SshCriticalOption}
 use Rattle.picky_cert_parts.specs.declared.extension.SshExtension.{SshExtension}

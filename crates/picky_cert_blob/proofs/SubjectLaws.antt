@@ -4,12 +4,12 @@ use Rattle.std.proofs.Common.{refl, sym, ◌∙◌, ap}
 use Rattle.std.proofs.lemmas.Slice.Eq.{bytes_eq-Decides}
 use Rattle.picky_layout.specs.Table.{find_entry}
 use Rattle.picky_keys.specs.declared.kind.KeyKind.{KeyKind}
-use Rattle.picky_keys.specs.Names.{kind_name}
-use Rattle.picky_keys.specs.NameTables.{key_types}
-use Rattle.picky_keys.proofs.Names.{kind_of_name}
-use Rattle.picky_sshpub.specs.declared.key.SshBasePublicKey.{SshBasePublicKey}
-use Rattle.picky_sshpub.specs.Key.{kind_of}
-use Rattle.picky_cert_names.specs.declared.cert_key_type.SshCertKeyType.{SshCertKeyType}
+use Rattle.picky_keys.specs.KeyNames.{kind_name}
+use Rattle.picky_keys.specs.KeyNameTables.{key_types}
+use Rattle.picky_keys.proofs.KeyNames.{kind_of_name}
+use Rattle.picky_keys.specs.declared.key.SshBasePublicKey.{SshBasePublicKey}
+use Rattle.picky_keys.specs.Key.{kind_of}
+use Rattle.picky_cert_parts.specs.declared.cert_key_type.SshCertKeyType.{SshCertKeyType}
 use Rattle.picky_cert_blob.specs.Subject.{subject_kind, is_for, fits_subject}
 
 -- kinds of one name are one kind

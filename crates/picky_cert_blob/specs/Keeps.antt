@@ -1,7 +1,7 @@
 -- What each certificate keeps before its signature, and which can be written.
 use Rattle.std.specs.Prelude.{◌≡◌, ◌<◌, ◌^◌, Some, All, length}
-use Rattle.picky_sshpub.specs.Key.{IsKey, IsString, IsText, kind_of}
-use Rattle.picky_sshpub.specs.Blob.{blob_of}
+use Rattle.picky_keys.specs.Key.{IsKey, IsString, IsText, kind_of}
+use Rattle.picky_keys.specs.Blob.{blob_of}
 use Rattle.picky_wire.specs.Principals.{IsPrincipal}
 use Rattle.picky_cert_parts.specs.CriticalOption.{IsOption}
 use Rattle.picky_cert_parts.specs.Extension.{IsExtension}

@@ -9,14 +9,14 @@ use Rattle.picky_layout.specs.Wire.{string, text, uint32}
 use Rattle.picky_wire.specs.declared.timestamp.Timestamp.{Timestamp}
 use Rattle.picky_wire.specs.Moment.{moment}
 use Rattle.picky_keys.specs.declared.kind.KeyKind.{KeyKind}
-use Rattle.picky_sshpub.specs.declared.key.SshBasePublicKey.{SshBasePublicKey}
-use Rattle.picky_sshpub.specs.Blob.{blob, public_key_fields}
-use Rattle.picky_cert_names.specs.declared.cert_key_type.SshCertKeyType.{SshCertKeyType}
+use Rattle.picky_keys.specs.declared.key.SshBasePublicKey.{SshBasePublicKey}
+use Rattle.picky_keys.specs.Blob.{blob, public_key_fields}
+use Rattle.picky_cert_parts.specs.declared.cert_key_type.SshCertKeyType.{SshCertKeyType}
 use Rattle.picky_cert_parts.specs.declared.cert_type.SshCertType.{SshCertType}
 use Rattle.picky_cert_parts.specs.declared.critical_option.SshCriticalOption.{SshCriticalOption}
 use Rattle.picky_cert_parts.specs.declared.extension.SshExtension.{SshExtension}
-use Rattle.picky_cert_names.specs.Names.{cert_key_type_name}
-use Rattle.picky_cert_names.specs.NameTables.{cert_key_types}
+use Rattle.picky_cert_parts.specs.CertNames.{cert_key_type_name}
+use Rattle.picky_cert_parts.specs.CertNameTables.{cert_key_types}
 use Rattle.picky_cert_parts.specs.NumberTable.{cert_types}
 use Rattle.picky_cert_blob.specs.declared.part.CertPart.TheVariants as parts
 use Rattle.picky_cert_parts.specs.declared.signature.SshSignature.{SshSignature}

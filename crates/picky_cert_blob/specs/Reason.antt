@@ -2,12 +2,12 @@
 use Rattle.picky_layout.specs.Flaw.{Flaw, Why, Reason, Flawed, Length, Name, Short, NotUtf8, Big}
 use Rattle.picky_layout.specs.Grammar.{Grammar}
 use Rattle.picky_layout.specs.Combine.{tag}
-use Rattle.picky_cert_names.specs.declared.error.SshCriticalOptionError.{SshCriticalOptionError}
-use Rattle.picky_cert_names.specs.declared.error.SshCriticalOptionError.TheVariants as option_errors
-use Rattle.picky_cert_names.specs.declared.error.SshExtensionError.{SshExtensionError}
-use Rattle.picky_cert_names.specs.declared.error.SshExtensionError.TheVariants as extension_errors
-use Rattle.picky_cert_names.specs.declared.error.SshSignatureError.{SshSignatureError}
-use Rattle.picky_cert_names.specs.declared.error.SshSignatureError.TheVariants as signature_errors
+use Rattle.picky_cert_parts.specs.declared.error.SshCriticalOptionError.{SshCriticalOptionError}
+use Rattle.picky_cert_parts.specs.declared.error.SshCriticalOptionError.TheVariants as option_errors
+use Rattle.picky_cert_parts.specs.declared.error.SshExtensionError.{SshExtensionError}
+use Rattle.picky_cert_parts.specs.declared.error.SshExtensionError.TheVariants as extension_errors
+use Rattle.picky_cert_parts.specs.declared.error.SshSignatureError.{SshSignatureError}
+use Rattle.picky_cert_parts.specs.declared.error.SshSignatureError.TheVariants as signature_errors
 use Rattle.picky_cert_blob.specs.declared.part.CertPart.{CertPart}
 use Rattle.picky_cert_blob.specs.declared.part.CertPart.TheVariants as parts
 

@@ -4,14 +4,14 @@ use Rattle.picky_layout.specs.Numbers.{uint64}
 use Rattle.picky_layout.specs.Wire.{string, text}
 use Rattle.picky_wire.specs.declared.view.Part.{Part}
 use Rattle.picky_wire.specs.View.{Lies, end_of}
-use Rattle.picky_sshpub.specs.Blob.{key_type}
-use Rattle.picky_sshpub.specs.declared.view.PublicView.{PublicView}
-use Rattle.picky_sshpub.specs.View.{key_seen, PartsLie}
-use Rattle.picky_cert_names.specs.declared.cert_key_type.SshCertKeyType.{SshCertKeyType}
+use Rattle.picky_keys.specs.Blob.{key_type}
+use Rattle.picky_keys.specs.declared.view.PublicView.{PublicView}
+use Rattle.picky_keys.specs.View.{key_seen, PartsLie}
+use Rattle.picky_cert_parts.specs.declared.cert_key_type.SshCertKeyType.{SshCertKeyType}
 use Rattle.picky_cert_parts.specs.declared.critical_option.SshCriticalOption.{SshCriticalOption}
 use Rattle.picky_cert_parts.specs.declared.extension.SshExtension.{SshExtension}
-use Rattle.picky_cert_names.specs.ExtensionType.{extension_named}
-use Rattle.picky_cert_names.specs.Names.{cert_key_type_name}
+use Rattle.picky_cert_parts.specs.ExtensionType.{extension_named}
+use Rattle.picky_cert_parts.specs.CertNames.{cert_key_type_name}
 use Rattle.picky_cert_blob.specs.declared.head.HeadView.{HeadView}
 use Rattle.picky_cert_blob.specs.declared.head.NamedType.{NamedType}
 use Rattle.picky_cert_blob.specs.declared.kinds.OptionView.{OptionView}

@@ -3,10 +3,10 @@ use Rattle.std.specs.Prelude.{List, ℕ, Option}
 use Rattle.picky_layout.specs.Flaw.{Why}
 use Rattle.picky_wire.specs.declared.timestamp.Timestamp.{Timestamp}
 use Rattle.picky_wire.specs.View.{part_shown, stuck_shown}
-use Rattle.picky_sshpub.specs.declared.key.SshBasePublicKey.{SshBasePublicKey}
-use Rattle.picky_sshpub.specs.View.{view_shown}
-use Rattle.picky_cert_names.specs.declared.cert_key_type.SshCertKeyType.{SshCertKeyType}
-use Rattle.picky_cert_names.specs.declared.signature_format.SshSignatureFormat.{SshSignatureFormat}
+use Rattle.picky_keys.specs.declared.key.SshBasePublicKey.{SshBasePublicKey}
+use Rattle.picky_keys.specs.View.{view_shown}
+use Rattle.picky_cert_parts.specs.declared.cert_key_type.SshCertKeyType.{SshCertKeyType}
+use Rattle.picky_cert_parts.specs.declared.signature_format.SshSignatureFormat.{SshSignatureFormat}
 use Rattle.picky_cert_parts.specs.declared.cert_type.SshCertType.{SshCertType}
 use Rattle.picky_cert_blob.specs.declared.body.BodyView.{BodyView}
 use Rattle.picky_cert_blob.specs.declared.grants.GrantsView.{GrantsView}

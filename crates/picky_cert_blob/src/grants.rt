@@ -3,7 +3,7 @@
 ghost use Rattle.std.specs.Prelude.{◌^◌, ◌<◌, IfOk, length};
 ghost use Rattle.picky_layout.specs.Wire.{string};
 ghost use Rattle.picky_wire.specs.View.{Lies, end_of};
-ghost use Rattle.picky_sshpub.specs.View.{key_seen};
+ghost use Rattle.picky_keys.specs.View.{key_seen};
 ghost use Rattle.picky_cert_blob.specs.Items.{option_item, extension_item};
 ghost use Rattle.picky_cert_blob.specs.Layout.{critical_options, extensions as extensions_layout, grants as grants_layout, issuer as issuer_layout};
 ghost use Rattle.picky_cert_blob.specs.Seen.{grants_seen, GrantsLie, IssuerLies};
@@ -14,7 +14,7 @@ use crate::items::list_at;
 use crate::kinds::{Extensions, Options};
 use crate::part::CertPart;
 use crate::stopped::Stopped;
-use picky_sshpub::{PublicView, key_at};
+use picky_keys::{PublicView, key_at};
 use picky_wire::Part;
 
 /// What is granted and by whom, as parts of the buffer.

@@ -2,8 +2,8 @@
 
 ghost use Rattle.std.specs.Prelude.{◌^◌, ◌<◌, length};
 ghost use Rattle.picky_wire.specs.View.{end_of};
-ghost use Rattle.picky_sshpub.specs.Blob.{public_key_fields};
-ghost use Rattle.picky_sshpub.specs.View.{key_seen, PartsLie};
+ghost use Rattle.picky_keys.specs.Blob.{public_key_fields};
+ghost use Rattle.picky_keys.specs.View.{key_seen, PartsLie};
 ghost use Rattle.picky_cert_blob.specs.declared.part.CertPart.TheVariants as parts;
 ghost use Rattle.picky_cert_blob.specs.Layout.{cert_name, head as head_layout, head_for};
 ghost use Rattle.picky_cert_blob.specs.Reason.{within};
@@ -15,8 +15,7 @@ use crate::part::CertPart;
 use crate::stopped::Stopped;
 use crate::subject::subject_kind;
 use picky_cert_parts::SshCertKeyType;
-use picky_keys::KeyKind;
-use picky_sshpub::{PublicView, fields_at};
+use picky_keys::{KeyKind, PublicView, fields_at};
 use picky_wire::{Part, Stuck};
 
 /// Who is certified, as parts of the buffer.

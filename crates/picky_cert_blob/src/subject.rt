@@ -4,8 +4,7 @@ ghost use Rattle.std.specs.Prelude.{◌≡◌};
 ghost use Rattle.picky_cert_blob.specs.Subject.{fits_subject as fits_subject_of, subject_kind as subject_kind_of};
 
 use picky_cert_parts::SshCertKeyType;
-use picky_keys::{EcCurve, EdAlgorithm, KeyKind};
-use picky_sshpub::SshBasePublicKey;
+use picky_keys::{EcCurve, EdAlgorithm, KeyKind, SshBasePublicKey};
 
 /// The kind of key that this type of certificates is for, which is none for DSS (OpenSSH's PROTOCOL.certkeys).
 pub fn subject_kind(cert_key_type: SshCertKeyType) -> Option<KeyKind>

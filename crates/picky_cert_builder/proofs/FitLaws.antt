@@ -6,17 +6,17 @@ use Rattle.std.proofs.lemmas.Bool.{le-leb, leb-true}
 use Rattle.std.proofs.lemmas.Slice.Eq.{bytes_eq-Decides}
 use Rattle.picky_keys.specs.declared.algorithm.SignatureAlgorithm.{SignatureAlgorithm}
 use Rattle.picky_keys.specs.declared.kind.KeyKind.{KeyKind}
-use Rattle.picky_keys.specs.Names.{kind_name}
-use Rattle.picky_keys.specs.NameTables.{key_types}
-use Rattle.picky_keys.proofs.Names.{kind_of_name}
+use Rattle.picky_keys.specs.KeyNames.{kind_name}
+use Rattle.picky_keys.specs.KeyNameTables.{key_types}
+use Rattle.picky_keys.proofs.KeyNames.{kind_of_name}
 use Rattle.picky_layout.specs.Table.{find_entry}
 use Rattle.picky_layout.specs.carried.Outcome.{and_then_ok}
-use Rattle.picky_sshpub.specs.declared.key.SshPublicKey.{SshPublicKey}
-use Rattle.picky_sshpub.specs.Key.{kind_of}
-use Rattle.picky_sshpub.proofs.LineLaws.{chosen}
+use Rattle.picky_keys.specs.declared.key.SshPublicKey.{SshPublicKey}
+use Rattle.picky_keys.specs.Key.{kind_of}
+use Rattle.picky_keys.proofs.LineLaws.{chosen}
 use Rattle.picky_wire.specs.declared.timestamp.Timestamp.{Timestamp}
-use Rattle.picky_cert_names.specs.declared.cert_key_type.SshCertKeyType.{SshCertKeyType}
-use Rattle.picky_cert_names.specs.declared.signature_format.SshSignatureFormat.{SshSignatureFormat}
+use Rattle.picky_cert_parts.specs.declared.cert_key_type.SshCertKeyType.{SshCertKeyType}
+use Rattle.picky_cert_parts.specs.declared.signature_format.SshSignatureFormat.{SshSignatureFormat}
 use Rattle.picky_cert_parts.specs.declared.cert_type.SshCertType.{SshCertType}
 use Rattle.picky_cert_parts.specs.declared.cert_type.SshCertType.TheVariants.{Client, Host}
 use Rattle.picky_cert_blob.specs.Subject.{fits_subject, is_for, subject_kind}

@@ -15,17 +15,17 @@ use Rattle.picky_keys.specs.declared.curve.EcCurve.TheVariants.{NistP256, NistP3
 use Rattle.picky_keys.specs.declared.kind.KeyKind.{KeyKind}
 use Rattle.picky_keys.specs.declared.kind.KeyKind.TheVariants as kinds
 use Rattle.picky_wire.specs.Principals.{IsPrincipal}
-use Rattle.picky_cert_names.specs.declared.signature_format.SshSignatureFormat.{SshSignatureFormat}
-use Rattle.picky_cert_names.specs.declared.signature_format.SshSignatureFormat.TheVariants as formats
-use Rattle.picky_cert_names.specs.Names.{is_sk}
-use Rattle.picky_cert_names.specs.declared.error.SshCertificateError.TheVariants as refusals
-use Rattle.picky_cert_names.specs.declared.error.SshSignatureError.TheVariants as signatures
+use Rattle.picky_cert_parts.specs.declared.signature_format.SshSignatureFormat.{SshSignatureFormat}
+use Rattle.picky_cert_parts.specs.declared.signature_format.SshSignatureFormat.TheVariants as formats
+use Rattle.picky_cert_parts.specs.CertNames.{is_sk}
+use Rattle.picky_cert_parts.specs.declared.error.SshCertificateError.TheVariants as refusals
+use Rattle.picky_cert_parts.specs.declared.error.SshSignatureError.TheVariants as signatures
 use Rattle.picky_text.specs.Lines.{HasNo}
-use Rattle.picky_sshpub.specs.declared.key.SshPublicKey.{SshPublicKey}
-use Rattle.picky_sshpub.specs.Key.{IsKey, IsString, IsText}
-use Rattle.picky_sshpub.specs.LineRefusal.{is_short}
-use Rattle.picky_sshpub.proofs.ByteLaws.{no_bytes}
-use Rattle.picky_sshpub.proofs.LineLaws.{chosen}
+use Rattle.picky_keys.specs.declared.key.SshPublicKey.{SshPublicKey}
+use Rattle.picky_keys.specs.Key.{IsKey, IsString, IsText}
+use Rattle.picky_keys.specs.LineRefusal.{is_short}
+use Rattle.picky_keys.proofs.ByteLaws.{no_bytes}
+use Rattle.picky_keys.proofs.LineLaws.{chosen}
 use Rattle.picky_cert_parts.specs.declared.cert_type.SshCertType.{SshCertType}
 use Rattle.picky_cert_parts.specs.declared.cert_type.SshCertType.TheVariants.{Client, Host}
 use Rattle.picky_cert_parts.specs.declared.extension.SshExtension.{SshExtension}

@@ -4,10 +4,10 @@ use Rattle.std.specs.Option.{ok_or}
 use Rattle.std.proofs.Common.{refl, subst}
 use Rattle.picky_layout.specs.Outcome.{and_then}
 use Rattle.picky_wire.specs.declared.timestamp.Timestamp.{Timestamp}
-use Rattle.picky_sshpub.specs.LineRefusal.{is_short}
+use Rattle.picky_keys.specs.LineRefusal.{is_short}
 use Rattle.picky_cert.specs.Spelled.{signed_of}
 use Rattle.picky_cert_blob.specs.Subject.{is_for, subject_kind}
-use Rattle.picky_cert_names.specs.declared.cert_key_type.SshCertKeyType.{SshCertKeyType}
+use Rattle.picky_cert_parts.specs.declared.cert_key_type.SshCertKeyType.{SshCertKeyType}
 use Rattle.picky_cert_parts.specs.declared.cert_type.SshCertType.{SshCertType}
 use Rattle.picky_cert_parts.specs.declared.cert_type.SshCertType.TheVariants.{Client, Host}
 use Rattle.picky_cert_builder.specs.declared.builder.SshCertificateBuilder.{SshCertificateBuilder}

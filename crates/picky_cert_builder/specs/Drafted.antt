@@ -1,7 +1,7 @@
 -- What a draft of a certificate shows, and what it keeps.
 use Rattle.std.specs.Prelude.{◌≡◌}
 use Rattle.picky_keys.specs.PrivateKey.{issuer_key}
-use Rattle.picky_sshpub.specs.Key.{public_key_of}
+use Rattle.picky_keys.specs.Key.{public_key_of}
 use Rattle.picky_cert.specs.Spelled.{signed_of}
 use Rattle.picky_cert_builder.specs.declared.draft.CertificateDraft.{CertificateDraft}
 use Rattle.picky_cert_builder.specs.Draft.{Unsigned}

@@ -4,8 +4,8 @@ use Rattle.picky_keys.specs.declared.private_key.Issuer.{Issuer}
 use Rattle.picky_keys.specs.declared.private_key.Issuer.TheVariants as asked
 use Rattle.picky_keys.specs.declared.private_key.PrivateKey.TheVariants as secrets
 use Rattle.picky_keys.specs.declared.public_key.PublicKey.TheVariants as plain
-use Rattle.picky_sshpub.specs.declared.key.SshBasePublicKey.{SshBasePublicKey}
-use Rattle.picky_sshpub.specs.Key.{public_key_of}
+use Rattle.picky_keys.specs.declared.key.SshBasePublicKey.{SshBasePublicKey}
+use Rattle.picky_keys.specs.Key.{public_key_of}
 use Rattle.picky_sshkey_blob.specs.declared.key.SshBasePrivateKey.{SshBasePrivateKey}
 use Rattle.picky_sshkey_blob.specs.declared.key.SshBasePrivateKey.TheVariants as keys
 use Rattle.picky_sshkey_blob.specs.Key.{public_part}

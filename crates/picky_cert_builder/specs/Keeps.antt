@@ -1,7 +1,7 @@
 -- What a request for a certificate keeps, and the certificate that is read back.
 use Rattle.std.specs.Prelude.{◌<◌, ◌^◌, All}
 use Rattle.std.specs.Option.{IfSome}
-use Rattle.picky_sshpub.specs.Key.{IsKey, IsText}
+use Rattle.picky_keys.specs.Key.{IsKey, IsText}
 use Rattle.picky_wire.specs.Principals.{IsPrincipal}
 use Rattle.picky_cert_parts.specs.CriticalOption.{IsOption}
 use Rattle.picky_cert_parts.specs.Extension.{IsExtension}

@@ -1,7 +1,7 @@
 -- What a user's certificate permits where nothing else is asked for (OpenSSH's PROTOCOL.certkeys, "Extensions").
 use Rattle.std.specs.Prelude.{List, [], ◌∷◌}
-use Rattle.picky_cert_names.specs.declared.extension_type.SshExtensionType.{SshExtensionType}
-use Rattle.picky_cert_names.specs.declared.extension_type.SshExtensionType.TheVariants as extensions
+use Rattle.picky_cert_parts.specs.declared.extension_type.SshExtensionType.{SshExtensionType}
+use Rattle.picky_cert_parts.specs.declared.extension_type.SshExtensionType.TheVariants as extensions
 use Rattle.picky_cert_parts.specs.declared.extension.SshExtension.{SshExtension}
 
 -- an extension without data

@@ -1,8 +1,8 @@
 -- What is asked of a certificate, field by field.
 use Rattle.std.specs.Prelude.{Bool, true, false, List, [], ◌∷◌, Option, Some, None}
 use Rattle.picky_keys.specs.declared.kind.KeyKind.{KeyKind}
-use Rattle.picky_sshpub.specs.declared.key.SshPublicKey.{SshPublicKey}
-use Rattle.picky_sshpub.specs.Key.{kind_of}
+use Rattle.picky_keys.specs.declared.key.SshPublicKey.{SshPublicKey}
+use Rattle.picky_keys.specs.Key.{kind_of}
 use Rattle.picky_cert_builder.specs.declared.builder.SshCertificateBuilder.{SshCertificateBuilder}
 use Rattle.picky_cert_builder.specs.declared.issuer.IssuerKey.{IssuerKey}
 use Rattle.picky_cert_builder.specs.declared.terms.RequestTerms.{RequestTerms}

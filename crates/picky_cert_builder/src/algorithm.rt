@@ -3,7 +3,7 @@
 ghost use Rattle.std.specs.Prelude.{◌≡◌};
 ghost use Rattle.picky_cert_builder.specs.Algorithm.{default_algorithm, format_of};
 
-use picky_cert_names::{SshCertKeyType, SshSignatureFormat};
+use picky_cert_parts::{SshCertKeyType, SshSignatureFormat};
 use picky_keys::{EcCurve, HashAlgorithm, KeyKind, SignatureAlgorithm};
 
 /// The algorithm by which certificates of a type are signed, where no other is asked for.

@@ -7,11 +7,9 @@ ghost use Rattle.picky_cert_builder.specs.Request.{empty, has_some, issuer_kind_
 use crate::issuer::IssuerKey;
 use crate::terms::RequestTerms;
 use picky_cert::SshCertificate;
-use picky_cert_names::SshCertKeyType;
-use picky_cert_parts::{SshCertType, SshCriticalOption, SshExtension};
-use picky_keys::{KeyKind, SignatureAlgorithm};
+use picky_cert_parts::{SshCertKeyType, SshCertType, SshCriticalOption, SshExtension};
+use picky_keys::{KeyKind, SignatureAlgorithm, SshPublicKey};
 use picky_sshkey::SshPrivateKey;
-use picky_sshpub::SshPublicKey;
 use picky_wire::{List, Text, Timestamp};
 use std::mem::replace;
 

@@ -1,8 +1,8 @@
 //! The fields of a certificate, copied from what is asked for, with a default where nothing is.
 
 ghost use Rattle.std.specs.Prelude.{◌≡◌, IfOk};
-ghost use Rattle.picky_cert_names.specs.ExtensionType.{extension_name};
-ghost use Rattle.picky_cert_names.specs.Names.{option_name};
+ghost use Rattle.picky_cert_parts.specs.ExtensionType.{extension_name};
+ghost use Rattle.picky_cert_parts.specs.CertNames.{option_name};
 ghost use Rattle.picky_cert_builder.specs.ByName.{by_name};
 ghost use Rattle.picky_cert_builder.specs.Draft.{or_empty, or_permits, or_zero as or_zero_of};
 
@@ -47,7 +47,7 @@ fn list_or_empty<T: TryClone + Drop>(
 }
 
 impl Named for SshCriticalOption {
-    ghost use Rattle.picky_cert_names.specs.Names.{option_name};
+    ghost use Rattle.picky_cert_parts.specs.CertNames.{option_name};
 
     ghost name = { λ o. option_name o.option_type };
 
@@ -57,7 +57,7 @@ impl Named for SshCriticalOption {
 }
 
 impl Named for SshExtension {
-    ghost use Rattle.picky_cert_names.specs.ExtensionType.{extension_name};
+    ghost use Rattle.picky_cert_parts.specs.ExtensionType.{extension_name};
 
     ghost name = { λ x. extension_name x.extension_type };
 

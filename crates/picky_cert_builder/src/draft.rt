@@ -3,7 +3,7 @@
 ghost use Rattle.std.specs.Prelude.{◌≡◌, true, Ok, Err, IfOk, if◌then◌else◌};
 ghost use Rattle.std.specs.Option.{IfSome};
 ghost use Rattle.picky_wire.specs.Gives.{Gives};
-ghost use Rattle.picky_sshpub.specs.LineRefusal.{is_short};
+ghost use Rattle.picky_keys.specs.LineRefusal.{is_short};
 ghost use Rattle.picky_cert_blob.specs.Subject.{fits_subject};
 ghost use Rattle.picky_cert.specs.Spelled.{signed_of};
 ghost use Rattle.picky_cert_builder.specs.Draft.{certificate_of, if_short, requested};
@@ -16,8 +16,7 @@ use crate::error::SshCertificateGenerationError;
 use crate::issuer::IssuerKey;
 use crate::terms::FitTerms;
 use picky_cert::{SshCertificate, SshCertificateError, SshSignature, SshSignatureBlob};
-use picky_keys::{Issuer, SignatureAlgorithm};
-use picky_sshpub::{SshBasePublicKey, SshPublicKey};
+use picky_keys::{Issuer, SignatureAlgorithm, SshBasePublicKey, SshPublicKey};
 use picky_wire::{Bytes, NoMemory, Text, TryClone};
 use std::alloc::Global;
 

@@ -3,7 +3,7 @@
 ghost use Rattle.std.specs.Prelude.{◌≡◌};
 ghost use Rattle.picky_cert_builder.specs.RefusalName.{request_name};
 
-use picky_cert_names::SshCertKeyType;
+use picky_cert_parts::SshCertKeyType;
 use thiserror::Error;
 
 /// Why a certificate is not made.

@@ -2,12 +2,11 @@
 
 ghost use Rattle.std.specs.Prelude.{◌≡◌, IfOk};
 ghost use Rattle.picky_keys.specs.declared.private_key.Issuer.TheVariants as asked;
-ghost use Rattle.picky_sshpub.specs.Key.{kind_of, public_key_of};
+ghost use Rattle.picky_keys.specs.Key.{kind_of, public_key_of};
 ghost use Rattle.picky_cert_builder.specs.Issuer.{issuer_of, issuer_part, private_issuer as private_issuer_of};
 
-use picky_keys::{EcCurve, Issuer, KeyKind, PrivateKey, PublicKey};
+use picky_keys::{EcCurve, Issuer, KeyKind, PrivateKey, PublicKey, SshBasePublicKey};
 use picky_sshkey::SshBasePrivateKey;
-use picky_sshpub::SshBasePublicKey;
 use picky_wire::{NoMemory, TryClone};
 use std::alloc::Global;
 

@@ -4,11 +4,11 @@ ghost use Rattle.std.specs.Prelude.{◌≡◌, ◌≢◌, ◌↔◌, ◌<◌, �
 ghost use Rattle.std.specs.Str.{trim_end};
 ghost use Rattle.picky_text.specs.Lines.{HasNo};
 ghost use Rattle.picky_wire.specs.Equality.{IsEquality};
-ghost use Rattle.picky_sshpub.specs.Key.{IsString};
+ghost use Rattle.picky_keys.specs.Key.{IsString};
 ghost use Rattle.picky_cert.specs.Keeps.{IsCertificate, IsWellFormed};
 ghost use Rattle.picky_cert.specs.LineRefusal.{line_meaning, line_text};
-ghost use Rattle.picky_cert_names.specs.declared.error.SshCertificateError.TheVariants as refusals;
-ghost use Rattle.picky_sshpub.specs.LineRefusal.{is_short};
+ghost use Rattle.picky_cert_parts.specs.declared.error.SshCertificateError.TheVariants as refusals;
+ghost use Rattle.picky_keys.specs.LineRefusal.{is_short};
 ghost use Rattle.picky_cert.specs.Spelled.{line_of};
 ghost use Rattle.picky_cert_builder.specs.declared.builder.SshCertificateBuilder.{SshCertificateBuilder as Builder};
 ghost use Rattle.picky_cert_builder.specs.declared.error.SshCertificateGenerationError.{SshCertificateGenerationError as Refused};

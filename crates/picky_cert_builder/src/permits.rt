@@ -3,8 +3,7 @@
 ghost use Rattle.std.specs.Prelude.{◌≡◌, ◌∷◌, [], IfOk, OnOk, ◌++◌};
 ghost use Rattle.picky_cert_builder.specs.Permits.{permit, permits};
 
-use picky_cert_names::SshExtensionType;
-use picky_cert_parts::SshExtension;
+use picky_cert_parts::{SshExtension, SshExtensionType};
 use picky_wire::{Bytes, List, NoMemory};
 use std::alloc::Global;
 

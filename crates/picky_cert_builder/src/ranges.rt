@@ -2,7 +2,7 @@
 
 ghost use Rattle.std.specs.Prelude.{◌≡◌, ◌<◌, ◌^◌, All, true};
 ghost use Rattle.std.specs.Option.{IfSome};
-ghost use Rattle.picky_sshpub.specs.Key.{IsKey, IsText};
+ghost use Rattle.picky_keys.specs.Key.{IsKey, IsText};
 ghost use Rattle.picky_cert_parts.specs.Signature.{IsSignature};
 ghost use Rattle.picky_cert_builder.specs.Issuer.{issuer_part};
 ghost use Rattle.picky_cert_builder.specs.Keeps.{IsRequest};
@@ -11,7 +11,7 @@ use crate::builder::SshCertificateBuilder;
 use crate::issuer::IssuerKey;
 use picky_cert_parts::{SshSignature, signature_pieces};
 use picky_sshkey_blob::secret_pieces;
-use picky_sshpub::{SshBasePublicKey, SshPublicKey, pieces_behind};
+use picky_keys::{SshBasePublicKey, SshPublicKey, pieces_behind};
 use picky_wire::{List, Piece, SshComplexTypeEncode, Text, Timestamp};
 
 /// Does nothing: the parts of a request have the ranges of their types.

@@ -8,8 +8,7 @@ ghost use Rattle.picky_cert_builder.specs.Terms.{judged_subject, judged_use, ord
 use crate::algorithm::{default_algorithm, format_of};
 use crate::error::SshCertificateGenerationError;
 use picky_cert_blob::subject_kind;
-use picky_cert_names::{SshCertKeyType, SshSignatureFormat};
-use picky_cert_parts::SshCertType;
+use picky_cert_parts::{SshCertKeyType, SshCertType, SshSignatureFormat};
 use picky_keys::{KeyKind, SignatureAlgorithm};
 use picky_wire::Timestamp;
 

@@ -10,10 +10,10 @@ use Rattle.picky_layout.specs.Wire.{uint32}
 use Rattle.picky_layout.proofs.Numbers.{uint32_reads_back}
 use Rattle.picky_wire.specs.Flaws.{wire_error}
 use Rattle.picky_wire.specs.Takes.{HasCause, causes_of}
-use Rattle.picky_cert_names.specs.declared.error.SshCertTypeError.{SshCertTypeError}
-use Rattle.picky_cert_names.specs.declared.error.SshCertTypeError.TheVariants as errors
+use Rattle.picky_cert_parts.specs.declared.error.SshCertTypeError.{SshCertTypeError}
+use Rattle.picky_cert_parts.specs.declared.error.SshCertTypeError.TheVariants as errors
 use Rattle.picky_cert_parts.specs.declared.cert_type.SshCertType.{SshCertType}
-use Rattle.picky_cert_names.specs.FromWire.{cert_type_error}
+use Rattle.picky_cert_parts.specs.CertFromWire.{cert_type_error}
 use Rattle.picky_cert_parts.specs.Field.{field}
 use Rattle.picky_cert_parts.specs.NumberTable.{cert_types}
 use Rattle.picky_cert_parts.specs.CertType.{cert_type}

@@ -8,10 +8,10 @@ use Rattle.picky_keys.specs.contracts.algorithm.SignatureAlgorithmPartialEq.TheI
 use Rattle.picky_keys.specs.declared.algorithm.SignatureAlgorithm.{SignatureAlgorithm}
 use Rattle.picky_wire.specs.contracts.timestamp.TimestampPartialEq.TheImpl as moment
 use Rattle.picky_wire.specs.declared.timestamp.Timestamp.{Timestamp}
-use Rattle.picky_sshpub.specs.contracts.key.SshPublicKeyPartialEq.TheImpl as key
-use Rattle.picky_sshpub.specs.declared.key.SshPublicKey.{SshPublicKey}
-use Rattle.picky_cert_names.specs.contracts.cert_key_type.SshCertKeyTypePartialEq.TheImpl as key_type
-use Rattle.picky_cert_names.specs.declared.cert_key_type.SshCertKeyType.{SshCertKeyType}
+use Rattle.picky_keys.specs.contracts.key.SshPublicKeyPartialEq.TheImpl as key
+use Rattle.picky_keys.specs.declared.key.SshPublicKey.{SshPublicKey}
+use Rattle.picky_cert_parts.specs.contracts.cert_key_type.SshCertKeyTypePartialEq.TheImpl as key_type
+use Rattle.picky_cert_parts.specs.declared.cert_key_type.SshCertKeyType.{SshCertKeyType}
 use Rattle.picky_cert_parts.specs.contracts.cert_type.SshCertTypePartialEq.TheImpl as cert_type
 use Rattle.picky_cert_parts.specs.declared.cert_type.SshCertType.{SshCertType}
 use Rattle.picky_cert_parts.specs.contracts.critical_option.SshCriticalOptionPartialEq.TheImpl as option

@@ -2,11 +2,11 @@
 use Rattle.picky_layout.specs.Combine.{each, done}
 use Rattle.picky_layout.specs.Wire.{string, string_of, text}
 use Rattle.picky_wire.specs.Takes.{HasCause, causes_of}
-use Rattle.picky_cert_names.specs.declared.error.SshExtensionError.{SshExtensionError}
-use Rattle.picky_cert_names.specs.declared.extension_type.SshExtensionType.TheVariants as extensions
-use Rattle.picky_cert_names.specs.FromWire.{extension_error}
+use Rattle.picky_cert_parts.specs.declared.error.SshExtensionError.{SshExtensionError}
+use Rattle.picky_cert_parts.specs.declared.extension_type.SshExtensionType.TheVariants as extensions
+use Rattle.picky_cert_parts.specs.CertFromWire.{extension_error}
 use Rattle.picky_cert_parts.specs.Field.{field}
-use Rattle.picky_cert_names.specs.ExtensionType.{extension_name, extension_named}
+use Rattle.picky_cert_parts.specs.ExtensionType.{extension_name, extension_named}
 use Rattle.picky_cert_parts.specs.Extension.{extension_type, extension_payload}
 use Rattle.picky_cert_parts.specs.Extension.{extension_made, extension_rest, extension}
 use Rattle.picky_cert_parts.specs.carried.Extension.{extension_type_spells}

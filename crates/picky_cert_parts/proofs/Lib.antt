@@ -1,3 +1,6 @@
+pub mod NameLaws
+pub mod ExtensionNames
+pub mod TypeNameLaws
 pub mod FieldLemmas
 pub mod CauseLemmas
 pub mod OptionLemmas

@@ -8,12 +8,12 @@ use Rattle.picky_layout.specs.Table.{find_entry}
 use Rattle.picky_layout.specs.Numbers.{byte}
 use Rattle.picky_layout.specs.Wire.{uint32, string, text}
 use Rattle.picky_wire.specs.Flaws.{wire_error}
-use Rattle.picky_cert_names.specs.declared.error.SshSignatureError.{SshSignatureError}
-use Rattle.picky_cert_names.specs.declared.error.SshSignatureError.TheVariants as errors
-use Rattle.picky_cert_names.specs.declared.signature_format.SshSignatureFormat.{SshSignatureFormat}
-use Rattle.picky_cert_names.specs.FromWire.{signature_error}
-use Rattle.picky_cert_names.specs.Names.{is_sk}
-use Rattle.picky_cert_names.specs.NameTables.{signature_formats}
+use Rattle.picky_cert_parts.specs.declared.error.SshSignatureError.{SshSignatureError}
+use Rattle.picky_cert_parts.specs.declared.error.SshSignatureError.TheVariants as errors
+use Rattle.picky_cert_parts.specs.declared.signature_format.SshSignatureFormat.{SshSignatureFormat}
+use Rattle.picky_cert_parts.specs.CertFromWire.{signature_error}
+use Rattle.picky_cert_parts.specs.CertNames.{is_sk}
+use Rattle.picky_cert_parts.specs.CertNameTables.{signature_formats}
 use Rattle.picky_cert_parts.specs.Field.{field}
 use Rattle.picky_cert_parts.specs.Signature.{signature_total, signature_format, signature_payload, signature_flags}
 use Rattle.picky_cert_parts.specs.Signature.{signature_counter, standard_made, sk_made, standard_fields, sk_fields}

@@ -5,13 +5,13 @@ use Rattle.picky_layout.specs.Entry.{entry}
 use Rattle.picky_layout.specs.Table.{find_entry}
 use Rattle.picky_layout.specs.Wire.{string, string_of, text}
 use Rattle.picky_wire.specs.Takes.{HasCause, causes_of}
-use Rattle.picky_cert_names.specs.declared.error.SshCriticalOptionError.{SshCriticalOptionError}
-use Rattle.picky_cert_names.specs.declared.error.SshCriticalOptionError.TheVariants as errors
-use Rattle.picky_cert_names.specs.declared.option_type.SshCriticalOptionType.TheVariants as options
-use Rattle.picky_cert_names.specs.FromWire.{option_error}
+use Rattle.picky_cert_parts.specs.declared.error.SshCriticalOptionError.{SshCriticalOptionError}
+use Rattle.picky_cert_parts.specs.declared.error.SshCriticalOptionError.TheVariants as errors
+use Rattle.picky_cert_parts.specs.declared.option_type.SshCriticalOptionType.TheVariants as options
+use Rattle.picky_cert_parts.specs.CertFromWire.{option_error}
 use Rattle.picky_cert_parts.specs.Field.{field}
-use Rattle.picky_cert_names.specs.Names.{option_name}
-use Rattle.picky_cert_names.specs.NameTables.{option_types}
+use Rattle.picky_cert_parts.specs.CertNames.{option_name}
+use Rattle.picky_cert_parts.specs.CertNameTables.{option_types}
 use Rattle.picky_cert_parts.specs.CriticalOption.{option_type, option_payload, option_made, option_rest, critical_option}
 use Rattle.picky_cert_parts.specs.carried.CriticalOption.{option_type_spells}
 use Rattle.picky_cert_parts.proofs.CauseLemmas.{at_first, at_second, at_field, at_name}

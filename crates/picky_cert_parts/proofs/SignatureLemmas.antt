@@ -11,12 +11,12 @@ use Rattle.picky_layout.specs.Wire.{uint32, string, string_of, text}
 use Rattle.picky_layout.proofs.Numbers.{byte_spells, uint32_spells}
 use Rattle.picky_layout.proofs.Strings.{string_spells}
 use Rattle.picky_wire.specs.Takes.{HasCause, causes_of}
-use Rattle.picky_cert_names.specs.declared.error.SshSignatureError.{SshSignatureError}
-use Rattle.picky_cert_names.specs.declared.error.SshSignatureError.TheVariants as errors
-use Rattle.picky_cert_names.specs.declared.signature_format.SshSignatureFormat.{SshSignatureFormat}
-use Rattle.picky_cert_names.specs.FromWire.{signature_error}
-use Rattle.picky_cert_names.specs.Names.{format_name}
-use Rattle.picky_cert_names.specs.NameTables.{signature_formats}
+use Rattle.picky_cert_parts.specs.declared.error.SshSignatureError.{SshSignatureError}
+use Rattle.picky_cert_parts.specs.declared.error.SshSignatureError.TheVariants as errors
+use Rattle.picky_cert_parts.specs.declared.signature_format.SshSignatureFormat.{SshSignatureFormat}
+use Rattle.picky_cert_parts.specs.CertFromWire.{signature_error}
+use Rattle.picky_cert_parts.specs.CertNames.{format_name}
+use Rattle.picky_cert_parts.specs.CertNameTables.{signature_formats}
 use Rattle.picky_cert_parts.specs.declared.signature.SshSignature.{SshSignature}
 use Rattle.picky_cert_parts.specs.Field.{field}
 use Rattle.picky_cert_parts.specs.Signature.{signature_total, signature_format, signature_payload, signature_flags}

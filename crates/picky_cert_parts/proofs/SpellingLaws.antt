@@ -10,15 +10,15 @@ use Rattle.picky_layout.proofs.Numbers.{bytes_in_front, bytes_behind, byte_exact
 use Rattle.picky_layout.specs.Wire.{string_of}
 use Rattle.picky_layout.proofs.Strings.{string_exact, text_exact}
 use Rattle.picky_layout.proofs.Named.{named_exact}
-use Rattle.picky_sshpub.specs.Key.{IsString}
-use Rattle.picky_sshpub.proofs.BlobExact.{first_is}
-use Rattle.picky_cert_names.specs.declared.option_type.SshCriticalOptionType.{SshCriticalOptionType}
-use Rattle.picky_cert_names.specs.declared.extension_type.SshExtensionType.{SshExtensionType}
-use Rattle.picky_cert_names.specs.declared.signature_format.SshSignatureFormat.{SshSignatureFormat}
-use Rattle.picky_cert_names.specs.Names.{option_name, format_name, is_sk}
-use Rattle.picky_cert_names.specs.NameTables.{option_types, signature_formats}
-use Rattle.picky_cert_names.specs.ExtensionType.{extension_name, IsExtensionType}
-use Rattle.picky_cert_names.proofs.ExtensionNames.{name_is_kept, named_keeps}
+use Rattle.picky_keys.specs.Key.{IsString}
+use Rattle.picky_keys.proofs.BlobExact.{first_is}
+use Rattle.picky_cert_parts.specs.declared.option_type.SshCriticalOptionType.{SshCriticalOptionType}
+use Rattle.picky_cert_parts.specs.declared.extension_type.SshExtensionType.{SshExtensionType}
+use Rattle.picky_cert_parts.specs.declared.signature_format.SshSignatureFormat.{SshSignatureFormat}
+use Rattle.picky_cert_parts.specs.CertNames.{option_name, format_name, is_sk}
+use Rattle.picky_cert_parts.specs.CertNameTables.{option_types, signature_formats}
+use Rattle.picky_cert_parts.specs.ExtensionType.{extension_name, IsExtensionType}
+use Rattle.picky_cert_parts.proofs.ExtensionNames.{name_is_kept, named_keeps}
 use Rattle.picky_cert_parts.specs.declared.cert_type.SshCertType.{SshCertType}
 use Rattle.picky_cert_parts.specs.declared.critical_option.SshCriticalOption.{SshCriticalOption}
 use Rattle.picky_cert_parts.specs.declared.extension.SshExtension.{SshExtension}

@@ -5,10 +5,10 @@ use Rattle.picky_layout.specs.Grammar.{Grammar}
 use Rattle.picky_layout.specs.Combine.{narrow}
 use Rattle.picky_layout.specs.Entry.{entry}
 use Rattle.picky_layout.specs.Wire.{uint32}
-use Rattle.picky_cert_names.specs.declared.error.SshCertTypeError.{SshCertTypeError}
-use Rattle.picky_cert_names.specs.declared.error.SshCertTypeError.TheVariants as errors
+use Rattle.picky_cert_parts.specs.declared.error.SshCertTypeError.{SshCertTypeError}
+use Rattle.picky_cert_parts.specs.declared.error.SshCertTypeError.TheVariants as errors
 use Rattle.picky_cert_parts.specs.declared.cert_type.SshCertType.{SshCertType}
-use Rattle.picky_cert_names.specs.FromWire.{cert_type_error}
+use Rattle.picky_cert_parts.specs.CertFromWire.{cert_type_error}
 use Rattle.picky_cert_parts.specs.Field.{field}
 use Rattle.picky_cert_parts.specs.CertNumber.{cert_type_number}
 use Rattle.picky_cert_parts.specs.NumberTable.{cert_types}

@@ -5,15 +5,15 @@ use Rattle.picky_layout.specs.Grammar.{Grammar}
 use Rattle.picky_layout.specs.Combine.{narrow, done, ◌>>=◌}
 use Rattle.picky_layout.specs.Entry.{entry}
 use Rattle.picky_layout.specs.Wire.{string, string_of, text}
-use Rattle.picky_sshpub.specs.Key.{IsString}
-use Rattle.picky_cert_names.specs.declared.error.SshCriticalOptionError.{SshCriticalOptionError}
-use Rattle.picky_cert_names.specs.declared.error.SshCriticalOptionError.TheVariants as errors
-use Rattle.picky_cert_names.specs.declared.option_type.SshCriticalOptionType.{SshCriticalOptionType}
+use Rattle.picky_keys.specs.Key.{IsString}
+use Rattle.picky_cert_parts.specs.declared.error.SshCriticalOptionError.{SshCriticalOptionError}
+use Rattle.picky_cert_parts.specs.declared.error.SshCriticalOptionError.TheVariants as errors
+use Rattle.picky_cert_parts.specs.declared.option_type.SshCriticalOptionType.{SshCriticalOptionType}
 use Rattle.picky_cert_parts.specs.declared.critical_option.SshCriticalOption.{SshCriticalOption}
-use Rattle.picky_cert_names.specs.FromWire.{option_error}
+use Rattle.picky_cert_parts.specs.CertFromWire.{option_error}
 use Rattle.picky_cert_parts.specs.Field.{field}
-use Rattle.picky_cert_names.specs.Names.{option_name}
-use Rattle.picky_cert_names.specs.NameTables.{option_types}
+use Rattle.picky_cert_parts.specs.CertNames.{option_name}
+use Rattle.picky_cert_parts.specs.CertNameTables.{option_types}
 
 -- string name, of a critical option; another is refused with itself
 unfoldable pub option_type : Grammar SshCriticalOptionError SshCriticalOptionType

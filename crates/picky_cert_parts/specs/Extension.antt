@@ -4,11 +4,11 @@ use Rattle.std.specs.List.{concat}
 use Rattle.picky_layout.specs.Grammar.{Grammar}
 use Rattle.picky_layout.specs.Combine.{narrow, each, done, ◌>>=◌}
 use Rattle.picky_layout.specs.Wire.{string, string_of, text}
-use Rattle.picky_sshpub.specs.Key.{IsString}
-use Rattle.picky_cert_names.specs.declared.error.SshExtensionError.{SshExtensionError}
-use Rattle.picky_cert_names.specs.declared.extension_type.SshExtensionType.{SshExtensionType}
-use Rattle.picky_cert_names.specs.FromWire.{extension_error}
-use Rattle.picky_cert_names.specs.ExtensionType.{extension_name, extension_named, IsExtensionType}
+use Rattle.picky_keys.specs.Key.{IsString}
+use Rattle.picky_cert_parts.specs.declared.error.SshExtensionError.{SshExtensionError}
+use Rattle.picky_cert_parts.specs.declared.extension_type.SshExtensionType.{SshExtensionType}
+use Rattle.picky_cert_parts.specs.CertFromWire.{extension_error}
+use Rattle.picky_cert_parts.specs.ExtensionType.{extension_name, extension_named, IsExtensionType}
 use Rattle.picky_cert_parts.specs.declared.extension.SshExtension.{SshExtension}
 use Rattle.picky_cert_parts.specs.Field.{field}
 

@@ -1,3 +1,8 @@
+pub mod CertFromWire
+pub mod CertNames
+pub mod CertNameTables
+pub mod CertNamed
+pub mod ExtensionType
 pub mod CertNumber
 pub mod NumberTable
 pub mod Field

@@ -8,13 +8,13 @@ use Rattle.picky_layout.specs.Combine.{narrow, done, ◌>>=◌}
 use Rattle.picky_layout.specs.Entry.{entry}
 use Rattle.picky_layout.specs.Numbers.{byte}
 use Rattle.picky_layout.specs.Wire.{uint32, string, string_of, text}
-use Rattle.picky_sshpub.specs.Key.{IsString}
-use Rattle.picky_cert_names.specs.declared.error.SshSignatureError.{SshSignatureError}
-use Rattle.picky_cert_names.specs.declared.error.SshSignatureError.TheVariants as errors
-use Rattle.picky_cert_names.specs.declared.signature_format.SshSignatureFormat.{SshSignatureFormat}
-use Rattle.picky_cert_names.specs.FromWire.{signature_error}
-use Rattle.picky_cert_names.specs.Names.{format_name, is_sk}
-use Rattle.picky_cert_names.specs.NameTables.{signature_formats}
+use Rattle.picky_keys.specs.Key.{IsString}
+use Rattle.picky_cert_parts.specs.declared.error.SshSignatureError.{SshSignatureError}
+use Rattle.picky_cert_parts.specs.declared.error.SshSignatureError.TheVariants as errors
+use Rattle.picky_cert_parts.specs.declared.signature_format.SshSignatureFormat.{SshSignatureFormat}
+use Rattle.picky_cert_parts.specs.CertFromWire.{signature_error}
+use Rattle.picky_cert_parts.specs.CertNames.{format_name, is_sk}
+use Rattle.picky_cert_parts.specs.CertNameTables.{signature_formats}
 use Rattle.picky_cert_parts.specs.declared.signature.SshSignature.{SshSignature}
 use Rattle.picky_cert_parts.specs.declared.signature.SshSignatureBlob.{SshSignatureBlob}
 use Rattle.picky_cert_parts.specs.declared.signature.SshSignatureBlob.TheVariants as blobs

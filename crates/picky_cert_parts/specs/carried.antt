@@ -1,3 +1,6 @@
+pub mod CertFromWire
+pub mod CertNames
+pub mod ExtensionNames
 pub mod CertNumber
 pub mod Own
 pub mod CriticalOption

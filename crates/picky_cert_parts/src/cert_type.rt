@@ -10,11 +10,11 @@ ghost use Rattle.picky_cert_parts.specs.CertType.{cert_type, cert_type_of};
 ghost use Rattle.picky_cert_parts.specs.carried.CertType.{cert_type_spells, cert_type_solid, cert_type_own};
 ghost use Rattle.picky_cert_parts.specs.CertNumber.{cert_type_number};
 ghost use Rattle.picky_cert_parts.specs.NumberTable.{cert_types};
-ghost use Rattle.picky_cert_names.specs.declared.error.SshCertTypeError.TheVariants as errors;
-ghost use Rattle.picky_cert_names.specs.FromWire.{cert_type_error};
+ghost use Rattle.picky_cert_parts.specs.declared.error.SshCertTypeError.TheVariants as errors;
+ghost use Rattle.picky_cert_parts.specs.CertFromWire.{cert_type_error};
 
 use crate::fields::uint32_field;
-use picky_cert_names::SshCertTypeError;
+use crate::error::SshCertTypeError;
 use picky_wire::{
     NoMemory, Piece, Sink, Source, SshComplexTypeDecode, SshComplexTypeEncode, SshElement,
     SshLayout, TryClone, WireError, write_piece,

@@ -4,12 +4,13 @@ ghost use Rattle.std.specs.Prelude.{◌≡◌, None, IfErr, refl};
 ghost use Rattle.std.specs.List.{concat};
 ghost use Rattle.picky_wire.specs.Count.{Rose};
 ghost use Rattle.picky_wire.specs.Takes.{Takes, HasCause, causes_of};
-ghost use Rattle.picky_cert_names.specs.FromWire.{option_error};
+ghost use Rattle.picky_cert_parts.specs.CertFromWire.{option_error};
 ghost use Rattle.picky_cert_parts.specs.CriticalOption.{option_type, critical_option, option_of, IsOption};
 ghost use Rattle.picky_cert_parts.specs.carried.CriticalOption.{option_spells, option_solid, option_own};
 
 use crate::fields::{bytes_field, text_field};
-use picky_cert_names::{SshCriticalOptionError, SshCriticalOptionType};
+use crate::error::SshCriticalOptionError;
+use crate::option_type::SshCriticalOptionType;
 use picky_wire::{
     Bytes, NoMemory, Piece, Sink, Source, SshComplexTypeDecode, SshComplexTypeEncode, SshElement,
     SshLayout, Text, TryClone, WireError, pieces_len, write_pieces,

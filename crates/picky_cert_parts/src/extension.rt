@@ -4,12 +4,13 @@ ghost use Rattle.std.specs.Prelude.{◌≡◌, None, IfErr, refl};
 ghost use Rattle.std.specs.List.{concat};
 ghost use Rattle.picky_wire.specs.Count.{Rose};
 ghost use Rattle.picky_wire.specs.Takes.{Takes, HasCause, causes_of};
-ghost use Rattle.picky_cert_names.specs.FromWire.{extension_error};
+ghost use Rattle.picky_cert_parts.specs.CertFromWire.{extension_error};
 ghost use Rattle.picky_cert_parts.specs.Extension.{extension_type, extension, extension_of, IsExtension};
 ghost use Rattle.picky_cert_parts.specs.carried.Extension.{extension_spells, extension_solid, extension_own};
 
 use crate::fields::{bytes_field, text_field};
-use picky_cert_names::{SshExtensionError, SshExtensionType};
+use crate::error::SshExtensionError;
+use crate::extension_type::SshExtensionType;
 use picky_wire::{
     Bytes, NoMemory, Piece, Sink, Source, SshComplexTypeDecode, SshComplexTypeEncode, SshElement,
     SshLayout, Text, TryClone, WireError, pieces_len, write_pieces,

@@ -12,7 +12,7 @@ ghost use Rattle.picky_cert_parts.specs.CriticalOption.{critical_option, option_
 ghost use Rattle.picky_cert_parts.specs.Extension.{extension, extension_of, IsExtension};
 ghost use Rattle.picky_cert_parts.specs.Signature.{signature, total_of, behind_total, signature_of, blob_fits, signature_reason, IsSignature};
 ghost use Rattle.picky_cert_parts.specs.SignatureSpelled.{SignatureSpelled};
-ghost use Rattle.picky_cert_names.specs.declared.error.SshSignatureError.TheVariants as signature_errors;
+ghost use Rattle.picky_cert_parts.specs.declared.error.SshSignatureError.TheVariants as signature_errors;
 ghost use Rattle.picky_cert_parts.specs.declared.cert_type.SshCertType.{SshCertType as CertType};
 ghost use Rattle.picky_cert_parts.specs.declared.critical_option.SshCriticalOption.{SshCriticalOption as CriticalOption};
 ghost use Rattle.picky_cert_parts.specs.declared.extension.SshExtension.{SshExtension as Extension};

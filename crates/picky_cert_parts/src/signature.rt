@@ -3,7 +3,7 @@
 ghost use Rattle.std.specs.Prelude.{◌≡◌, ◌+◌, ◌<◌, ◌^◌};
 ghost use Rattle.picky_cert_parts.specs.Signature.{blob_size, blob_fits};
 
-use picky_cert_names::SshSignatureFormat;
+use crate::signature_format::SshSignatureFormat;
 use picky_wire::{Bytes, NoMemory, TryClone};
 use std::alloc::Global;
 

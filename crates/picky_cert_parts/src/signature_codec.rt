@@ -4,14 +4,15 @@ ghost use Rattle.std.specs.Prelude.{◌≡◌, ◌<◌, ◌^◌, None, Some, IfO
 ghost use Rattle.std.specs.List.{concat};
 ghost use Rattle.picky_wire.specs.Count.{Rose};
 ghost use Rattle.picky_wire.specs.Takes.{Takes, HasCause, causes_of};
-ghost use Rattle.picky_cert_names.specs.FromWire.{signature_error};
+ghost use Rattle.picky_cert_parts.specs.CertFromWire.{signature_error};
 ghost use Rattle.picky_cert_parts.specs.Signature.{signature_format, standard_fields, sk_fields, signature_rest, signature};
 ghost use Rattle.picky_cert_parts.specs.Signature.{total_of, behind_total, signature_of, signature_reason, IsSignature};
 ghost use Rattle.picky_cert_parts.specs.carried.Signature.{signature_spells, signature_solid, signature_own, reason_is_no_want};
 
 use crate::fields::{byte_field, bytes_field, text_field, uint32_field};
 use crate::signature::{SshSignature, SshSignatureBlob};
-use picky_cert_names::{SshSignatureError, SshSignatureFormat};
+use crate::error::SshSignatureError;
+use crate::signature_format::SshSignatureFormat;
 use picky_wire::{
     MAX_LEN, Piece, Sink, Source, SshComplexTypeDecode, SshComplexTypeEncode, SshElement,
     SshLayout, Text, WireError, pieces_len, write_pieces,

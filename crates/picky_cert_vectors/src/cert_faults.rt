@@ -6,7 +6,7 @@ use crate::cert_refusals::{is_fault, is_refused, is_unread};
 use picky_cert::CertPart;
 use picky_cert_rows::CertFault;
 use picky_key_text::ReadError;
-use picky_sshpub::SshPublicKeyError;
+use picky_keys::SshPublicKeyError;
 use picky_target::{ConvertError, KeyTarget};
 use std::alloc::Global;
 use std::test::Fail;

@@ -4,7 +4,7 @@ use crate::cert_fields::{blob_of, cert_of, prints};
 use picky_cert::{CertPart, CertView, SshCertificate};
 use picky_cert_parts::SshCertType;
 use picky_cert_rows::ZERO_LINE;
-use picky_sshpub::PublicView;
+use picky_keys::PublicView;
 use picky_wire::{Bytes, Part};
 use std::alloc::Global;
 use std::mem::ManuallyDrop;

@@ -6,7 +6,7 @@ use Rattle.picky_suite.specs.Asked.{LeavesSuite}
 use Rattle.picky_suite.specs.Failures.{IsAskedFault}
 use Rattle.picky_suite.specs.Meanings.{Meanings}
 use Rattle.picky_wire.specs.Gives.{Gives}
-use Rattle.picky_sshpub.specs.LineRefusal.{is_short}
+use Rattle.picky_keys.specs.LineRefusal.{is_short}
 use Rattle.picky_cert.specs.Spelled.{signed_of}
 use Rattle.picky_cert_builder.specs.declared.builder.SshCertificateBuilder.{SshCertificateBuilder}
 use Rattle.picky_cert_builder.specs.declared.error.SshCertificateGenerationError.{SshCertificateGenerationError}
@@ -22,11 +22,11 @@ use Rattle.picky_target.specs.declared.error.ConvertError.{ConvertError}
 use Rattle.picky_target.specs.declared.error.ConvertError.TheVariants as errors
 use Rattle.picky_target.specs.declared.target.KeyTarget.TheVariants as targets
 use Rattle.picky_target.specs.Judged.{carries_comment}
-use Rattle.picky_cert_target.specs.declared.request.CertRequest.{CertRequest}
-use Rattle.picky_cert_target.specs.Certified.{Certifies, Relation}
-use Rattle.picky_cert_target.specs.Certified.{LeavesSigner as LeavesDevice}
-use Rattle.picky_cert_target.specs.Drafted.{drafted, drafted_of, if_line_fits, line_drafted, nonce_in, request_refusal, unsigned_line}
-use Rattle.picky_cert_target.specs.Request.{asked_for}
+use Rattle.picky_conversion.specs.declared.request.CertRequest.{CertRequest}
+use Rattle.picky_conversion.specs.Certified.{Certifies, Relation}
+use Rattle.picky_conversion.specs.Certified.{LeavesSigner as LeavesDevice}
+use Rattle.picky_conversion.specs.Drafted.{drafted, drafted_of, if_line_fits, line_drafted, nonce_in, request_refusal, unsigned_line}
+use Rattle.picky_conversion.specs.Request.{asked_for}
 use Rattle.picky_conversion.specs.Certify.{IsReadFault, certification, drafting}
 use Rattle.picky_conversion.specs.Convert.{LeavesAskedSuite}
 use Rattle.picky_conversion.specs.Made.{Answers, AnswersPlain, LeavesSigner, Made, ToSign, Whole, is_signed}

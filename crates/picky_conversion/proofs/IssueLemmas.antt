@@ -15,7 +15,7 @@ use Rattle.picky_key_text.specs.declared.meaning.Meaning.{Meaning}
 use Rattle.picky_key_text.specs.Order.{asks, fault_of as input_fault, reading}
 use Rattle.picky_target.specs.declared.error.ConvertError.{ConvertError}
 use Rattle.picky_target.specs.declared.error.ConvertError.TheVariants as errors
-use Rattle.picky_cert_target.specs.Certified.{Relation}
+use Rattle.picky_conversion.specs.Certified.{Relation}
 use Rattle.picky_conversion.specs.Certify.{IsReadFault, certification, drafting, hex_line}
 use Rattle.picky_conversion.specs.Convert.{LeavesAskedSuite}
 use Rattle.picky_conversion.specs.Issue.{IsIssuingFault, asks_issuer, asks_key, goes_on, issued, issued_bytes, issuer_fault, issuer_read, issuing_asks, request_by, unsigned}

@@ -15,11 +15,11 @@ use Rattle.picky_key_text.specs.Reads.{Reads}
 use Rattle.picky_key_text.proofs.ReadingLaws.{reading_of as read}
 use Rattle.picky_target.specs.declared.error.ConvertError.{ConvertError}
 use Rattle.picky_target.specs.declared.error.ConvertError.TheVariants as errors
-use Rattle.picky_cert_target.specs.declared.request.CertRequest.{CertRequest}
-use Rattle.picky_cert_target.specs.Certified.{IsLineOf, Relation}
-use Rattle.picky_cert_target.specs.Drafted.{IsDrafted, IsLineDrafted, drafted, line_drafted}
-use Rattle.picky_cert_target.proofs.DraftedLaws.{drafted_where, line_drafted_where}
-use Rattle.picky_cert_target.proofs.ReadBackLemmas.{line_is_read_back}
+use Rattle.picky_conversion.specs.declared.request.CertRequest.{CertRequest}
+use Rattle.picky_conversion.specs.Certified.{IsLineOf, Relation}
+use Rattle.picky_conversion.specs.Drafted.{IsDrafted, IsLineDrafted, drafted, line_drafted}
+use Rattle.picky_conversion.proofs.DraftedLaws.{drafted_where, line_drafted_where}
+use Rattle.picky_conversion.proofs.ReadBackLemmas.{line_is_read_back}
 use Rattle.picky_conversion.specs.Certify.{IsCertified, IsToBeSigned, certification, drafting, hex_line}
 use Rattle.picky_conversion.specs.Chain.{IsGiven}
 use Rattle.picky_conversion.specs.Issue.{CanIssue, CanIssueBytes, IsIssued, IsIssuedBytes, IsIssuer, issued, issued_bytes, issuer_read, request_by, unsigned}

@@ -7,8 +7,8 @@ use Rattle.picky_layout.specs.carried.Outcome.{and_then_ok, map_err_ok}
 use Rattle.picky_sshkey_blob.specs.declared.key.SshBasePrivateKey.{SshBasePrivateKey}
 use Rattle.picky_sshkey_blob.specs.declared.key.SshBasePrivateKey.TheVariants as private
 use Rattle.picky_sshkey_blob.specs.Key.{IsPrivateKey, public_part as private_part}
-use Rattle.picky_sshpub.specs.Key.{IsKey}
-use Rattle.picky_sshpub.specs.declared.key.SshPublicKey.{SshPublicKey}
+use Rattle.picky_keys.specs.Key.{IsKey}
+use Rattle.picky_keys.specs.declared.key.SshPublicKey.{SshPublicKey}
 use Rattle.picky_key_text.specs.declared.meaning.Key.{Key}
 use Rattle.picky_key_text.specs.declared.meaning.Key.TheVariants as keys
 use Rattle.picky_key_text.specs.declared.meaning.Meaning.{Meaning}
@@ -25,11 +25,11 @@ use Rattle.picky_target.specs.Output.{Output}
 use Rattle.picky_target.specs.ReadBack.{IsTarget, kept, under}
 use Rattle.picky_target.specs.Texts.{text_for}
 use Rattle.picky_target.specs.Written.{keeps_secret}
-use Rattle.picky_cert_target.specs.declared.request.CertRequest.{CertRequest}
-use Rattle.picky_cert_target.specs.Certified.{Relation}
-use Rattle.picky_cert_target.specs.Drafted.{line_drafted}
-use Rattle.picky_cert_target.proofs.DraftedLaws.{line_drafted_where}
-use Rattle.picky_cert_target.proofs.ReadBackLemmas.{line_is_read_back}
+use Rattle.picky_conversion.specs.declared.request.CertRequest.{CertRequest}
+use Rattle.picky_conversion.specs.Certified.{Relation}
+use Rattle.picky_conversion.specs.Drafted.{line_drafted}
+use Rattle.picky_conversion.proofs.DraftedLaws.{line_drafted_where}
+use Rattle.picky_conversion.proofs.ReadBackLemmas.{line_is_read_back}
 use Rattle.picky_conversion.specs.Chain.{IsGiven}
 use Rattle.picky_conversion.specs.AnyChain.{AnyStep, Through, pass_after}
 use Rattle.picky_conversion.specs.Binds.{Binds}

@@ -6,9 +6,9 @@ use Rattle.picky_layout.specs.Outcome.{map_err, map_ok}
 use Rattle.picky_cert_builder.specs.Draft.{Unsigned}
 use Rattle.picky_issuing.specs.declared.options.CertOptions.{CertOptions}
 use Rattle.picky_issuing.specs.Parts.{issuer_part, key_part}
-use Rattle.picky_cert_target.specs.declared.request.CertRequest.{CertRequest}
-use Rattle.picky_cert_target.specs.Drafted.{line_drafted}
-use Rattle.picky_cert_target.proofs.DraftedLaws.{drafted_where, line_drafted_where}
+use Rattle.picky_conversion.specs.declared.request.CertRequest.{CertRequest}
+use Rattle.picky_conversion.specs.Drafted.{line_drafted}
+use Rattle.picky_conversion.proofs.DraftedLaws.{drafted_where, line_drafted_where}
 use Rattle.picky_conversion.proofs.CertifyLemmas.{drafting_of}
 use Rattle.picky_conversion.proofs.IssueLemmas.{unsigned_by}
 use Rattle.picky_target.specs.declared.error.ConvertError.TheVariants as errors

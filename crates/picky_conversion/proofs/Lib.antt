@@ -1,3 +1,6 @@
+pub mod DraftedLaws
+pub mod ReadBackLemmas
+mod SignedLemmas
 pub mod JudgedLemmas
 pub mod AnswerLemmas
 pub mod ConvertLemmas

@@ -6,7 +6,7 @@ use Rattle.picky_key_text.specs.declared.meaning.Meaning.{Meaning}
 use Rattle.picky_key_text.specs.Reads.{Reads}
 use Rattle.picky_target.specs.declared.error.ConvertError.{ConvertError}
 use Rattle.picky_target.specs.declared.error.ConvertError.TheVariants as errors
-use Rattle.picky_cert_target.specs.Certified.{Relation}
+use Rattle.picky_conversion.specs.Certified.{Relation}
 use Rattle.picky_conversion.specs.Certify.{certification}
 use Rattle.picky_conversion.specs.Binds.{BindsTo}
 use Rattle.picky_conversion.specs.Chain.{IsGiven}

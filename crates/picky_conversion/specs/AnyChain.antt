@@ -4,7 +4,7 @@ use Rattle.std.specs.Option.{IfSome}
 use Rattle.std.specs.Str.{IsUtf8}
 use Rattle.picky_layout.specs.Numbers.{IsBytes}
 use Rattle.picky_target.specs.Output.{Output}
-use Rattle.picky_cert_target.specs.Certified.{Relation}
+use Rattle.picky_conversion.specs.Certified.{Relation}
 use Rattle.picky_conversion.specs.Made.{Writes}
 use Rattle.picky_conversion.specs.Outside.{Outside}
 use Rattle.picky_conversion.specs.To.{IsWay, Way, converted}

@@ -11,9 +11,9 @@ use Rattle.picky_key_text.specs.Order.{asks, fault_of as input_fault, reading}
 use Rattle.picky_key_text.specs.Reads.{Reads}
 use Rattle.picky_target.specs.declared.error.ConvertError.{ConvertError}
 use Rattle.picky_target.specs.declared.error.ConvertError.TheVariants as errors
-use Rattle.picky_cert_target.specs.declared.request.CertRequest.{CertRequest}
-use Rattle.picky_cert_target.specs.Certified.{Relation}
-use Rattle.picky_cert_target.specs.Drafted.{IsDrafted, IsLineDrafted}
+use Rattle.picky_conversion.specs.declared.request.CertRequest.{CertRequest}
+use Rattle.picky_conversion.specs.Certified.{Relation}
+use Rattle.picky_conversion.specs.Drafted.{IsDrafted, IsLineDrafted}
 use Rattle.picky_conversion.specs.Certify.{IsCertified, IsToBeSigned, certification, drafting, hex_line}
 use Rattle.picky_conversion.specs.Outside.{Outside, reader}
 

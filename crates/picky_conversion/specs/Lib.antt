@@ -1,3 +1,6 @@
+pub mod Request
+pub mod Drafted
+pub mod Certified
 pub mod Outside
 pub mod Want
 pub mod Refusal
@@ -9,3 +12,4 @@ pub mod Issue
 pub mod Chain
 pub mod AnyChain
 pub mod Binds
+pub mod inner

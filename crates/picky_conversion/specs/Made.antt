@@ -6,7 +6,7 @@ use Rattle.picky_cert_builder.specs.declared.error.SshCertificateGenerationError
 use Rattle.picky_cert_builder.specs.Draft.{Unsigned}
 use Rattle.picky_target.specs.declared.error.ConvertError.{ConvertError}
 use Rattle.picky_target.specs.declared.error.ConvertError.TheVariants as errors
-use Rattle.picky_cert_target.specs.Certified.{IsLineOf, IsTooLong, IsUnsigned, Relation}
+use Rattle.picky_conversion.specs.Certified.{IsLineOf, IsTooLong, IsUnsigned, Relation}
 
 -- a text, or a certificate whose line is to be signed
 pub data Made : Type 0 where

@@ -10,9 +10,9 @@ use Rattle.picky_target.specs.declared.target.KeyTarget.{KeyTarget}
 use Rattle.picky_target.specs.declared.target.KeyTarget.TheVariants as keys
 use Rattle.picky_target.specs.Carried.{Carries}
 use Rattle.picky_target.specs.ReadBack.{IsTarget}
-use Rattle.picky_cert_target.specs.declared.request.CertRequest.{CertRequest}
-use Rattle.picky_cert_target.specs.Certified.{Relation}
-use Rattle.picky_cert_target.specs.Drafted.{IsLineDrafted}
+use Rattle.picky_conversion.specs.declared.request.CertRequest.{CertRequest}
+use Rattle.picky_conversion.specs.Certified.{Relation}
+use Rattle.picky_conversion.specs.Drafted.{IsLineDrafted}
 use Rattle.picky_conversion.specs.declared.target.Target.{Target}
 use Rattle.picky_conversion.specs.declared.target.Target.TheVariants as targets
 use Rattle.picky_conversion.specs.Certify.{IsCertified, IsReadFault, certification}

@@ -1,7 +1,7 @@
 -- Which refusals say, at some depth, that memory ran out, which that the suite failed, and which that the signer did.
 use Rattle.std.specs.Prelude.{◌≡◌, ◌⊎◌}
-use Rattle.picky_sshpub.specs.declared.error.SshPublicKeyError.TheVariants as public
-use Rattle.picky_pem.specs.declared.error.PemError.TheVariants as pem
+use Rattle.picky_keys.specs.declared.error.SshPublicKeyError.TheVariants as public
+use Rattle.picky_sshkey_blob.specs.declared.pem_error.PemError.TheVariants as pem
 use Rattle.picky_sshkey_blob.specs.declared.error.SshPrivateKeyError.TheVariants as private
 use Rattle.picky_ppk_parts.specs.declared.error.PuttyError.TheVariants as putty
 use Rattle.picky_key_text.specs.Want.{WantsMemory as ReadWantsMemory, IsFault as IsReadFault}

@@ -22,7 +22,9 @@ ghost use Rattle.picky_conversion.specs.Refusal.{input_refusal as input_refusal_
 
 use crate::given::ConversionGiven;
 use crate::target::Target;
-use picky_cert_target::{CertRequest, write_certificate, write_signed_bytes};
+use crate::certificate::write_certificate;
+use crate::drafting::write_signed_bytes;
+use crate::request::CertRequest;
 use picky_key_text::{ReadError, read_text};
 use picky_ppk::PpkEncryptionConfig;
 use picky_suite::{Signer, Suite};
@@ -148,7 +150,7 @@ pub fn convert_key<S: Suite>(
 
 /// The line of the certificate that the request asks of what a text means.
 ///
-/// Refuses, in order: `Input` as `read_text`; and as `picky_cert_target::write_certificate`.
+/// Refuses, in order: `Input` as `read_text`; and as `crate::write_certificate`.
 pub fn certify<S: Suite, G: Signer>(
     alloc: Global,
     suite: &mut S,
@@ -174,7 +176,7 @@ pub fn certify<S: Suite, G: Signer>(
 
 /// What is to be signed of it, as bytes.
 ///
-/// Refuses, in order: `Input` as `read_text`; and as `picky_cert_target::write_signed_bytes`.
+/// Refuses, in order: `Input` as `read_text`; and as `crate::write_signed_bytes`.
 pub fn bytes_to_sign<S: Suite>(
     alloc: Global,
     suite: &mut S,

@@ -16,7 +16,7 @@ ghost use Rattle.picky_conversion.specs.Outside.{outside};
 
 use crate::conversion::{bytes_to_sign, certify, issuer_refusal};
 use crate::given::ConversionGiven;
-use picky_cert_target::CertRequest;
+use crate::request::CertRequest;
 use picky_issuing::{CertOptions, parts_of};
 use picky_key_text::{Key, Meaning, read_text};
 use picky_suite::{Signer, Suite};
@@ -26,7 +26,7 @@ use std::alloc::{AllocError, Global};
 
 /// The line of the certificate that the options ask of the key text, of the issuer whose text stands before it.
 ///
-/// Refuses, in order: `Issuer` and then `Input`, each as `read_text`; and as `picky_cert_target::write_certificate`.
+/// Refuses, in order: `Issuer` and then `Input`, each as `read_text`; and as `crate::write_certificate`.
 pub fn issue<S: Suite, G: Signer>(
     alloc: Global,
     suite: &mut S,
@@ -59,7 +59,7 @@ pub fn issue<S: Suite, G: Signer>(
 
 /// What is to be signed of it, in lower-case hex, and LF.
 ///
-/// Refuses, in order: `Issuer` and then `Input`, each as `read_text`; and as `picky_cert_target::write_signed_bytes`.
+/// Refuses, in order: `Issuer` and then `Input`, each as `read_text`; and as `crate::write_signed_bytes`.
 pub fn print_signed<S: Suite>(
     alloc: Global,
     suite: &mut S,

@@ -1,13 +1,20 @@
 //! The conversion of key texts to any target, and certificates issued from one source.
 #![tactic(auto)]
 
+mod certificate;
+pub mod certificate_laws;
 mod conversion;
+mod drafting;
 mod given;
 mod issuing;
 pub mod laws;
+mod request;
 mod target;
 
+pub use certificate::write_certificate;
 pub use conversion::{convert, convert_key, input_refusal, is_given};
+pub use drafting::write_signed_bytes;
 pub use given::ConversionGiven;
 pub use issuing::{issue, print_signed};
+pub use request::CertRequest;
 pub use target::Target;

@@ -1,6 +1,6 @@
 //! What a key text is converted to.
 
-use picky_cert_target::CertRequest;
+use crate::request::CertRequest;
 use picky_ppk::{PpkEncryptionConfig, PpkVersion};
 use picky_wire::{NoMemory, TryClone};
 use std::alloc::Global;

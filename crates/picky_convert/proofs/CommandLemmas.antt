@@ -7,7 +7,7 @@ use Rattle.picky_layout.specs.carried.Outcome.{and_then_ok, map_err_ok}
 use Rattle.picky_layout.specs.Outcome.{map_err, map_ok}
 use Rattle.picky_ppk_parts.specs.Config.{default_config}
 use Rattle.picky_target.specs.ReadBack.{IsConfig}
-use Rattle.picky_cert_target.specs.Certified.{Relation}
+use Rattle.picky_conversion.specs.Certified.{Relation}
 use Rattle.picky_issuing.specs.declared.options.CertOptions.{CertOptions}
 use Rattle.picky_issuing.specs.Options.{options_named}
 use Rattle.picky_key_text.specs.Key.{public_part}
@@ -27,7 +27,7 @@ use Rattle.picky_convert.specs.declared.command.Command.TheVariants as commands
 use Rattle.picky_convert.specs.Command.{CanAnswer, IsAnswer, IsCommand, Names, alone, answer, command_of_word, fingerprints, sample_size, with_options, with_size}
 use Rattle.picky_convert.specs.Command.{cert, fingerprint, openssh, ppk2, ppk3, putty_pub, sample, ssh_pub, tbs}
 use Rattle.picky_convert.specs.Fingerprint.{fingerprint_text}
-use Rattle.picky_sample.specs.Sample.{sample_text}
+use Rattle.picky_convert.specs.Sample.{sample_text}
 
 -- a list of one item
 pub one_word : {A : Type 0} (xs : List A) (x : A) → length xs ≡ 1 → x ≡ get_or xs 0 x → xs ≡ x ∷ []

@@ -1,3 +1,17 @@
+pub mod GeneratorLemmas
+pub mod TextSizes
+pub mod CommentLemmas
+pub mod PartLemmas
+pub mod BlobSizes
+pub mod SecretSizes
+pub mod FileSizes
+pub mod KeyLemmas
+pub mod CarriedLemmas
+pub mod AskedLemmas
+pub mod ChainLemmas
+pub mod FedLemmas
+pub mod SampleLemmas
+pub mod AnswerLemmas
 pub mod OutcomeLemmas
 pub mod CommandLemmas
 pub mod CauseLemmas

@@ -16,7 +16,7 @@ use Rattle.picky_target.specs.declared.error.ConvertError.{ConvertError}
 use Rattle.picky_target.specs.declared.error.ConvertError.TheVariants as errors
 use Rattle.picky_target.specs.declared.target.KeyTarget.{KeyTarget}
 use Rattle.picky_target.specs.Written.{written}
-use Rattle.picky_cert_target.specs.Certified.{Relation}
+use Rattle.picky_conversion.specs.Certified.{Relation}
 use Rattle.picky_convert.specs.declared.command.Command.{Command}
 use Rattle.picky_convert.specs.declared.command.Command.TheVariants as commands
 use Rattle.picky_convert.specs.declared.error.Status.TheVariants as statuses

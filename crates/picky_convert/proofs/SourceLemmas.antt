@@ -3,14 +3,14 @@ use Rattle.std.proofs.Common.{◌≡◌, ◌≢◌, ◌+◌, ◌<◌, ◌≤◌,
 use Rattle.std.proofs.Common.{if◌then◌else◌, inl, inr, refl, sym, ap, subst, arith}
 use Rattle.std.proofs.lemmas.Str.{IsUtf8-nil}
 use Rattle.std.specs.Str.{IsUtf8, is_utf8}
-use Rattle.picky_cert_target.specs.Certified.{Relation}
+use Rattle.picky_conversion.specs.Certified.{Relation}
 use Rattle.picky_convert.specs.declared.command.Command.{Command}
 use Rattle.picky_convert.specs.declared.command.Command.TheVariants as commands
 use Rattle.picky_convert.specs.declared.error.Status.{Status}
 use Rattle.picky_convert.specs.declared.error.Status.TheVariants as statuses
 use Rattle.picky_conversion.specs.Made.{Whole}
 use Rattle.picky_conversion.specs.Outside.{Outside}
-use Rattle.picky_sample.specs.Sample.{sample_text}
+use Rattle.picky_convert.specs.Sample.{sample_text}
 use Rattle.picky_suite.specs.Zeros.{zeros}
 use Rattle.picky_suite.specs.carried.Zeros.{length-zeros}
 use Rattle.picky_convert.specs.Command.{answering_asks, reads_source}

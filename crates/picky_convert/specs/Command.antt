@@ -19,7 +19,7 @@ use Rattle.picky_target.specs.declared.error.ConvertError.TheVariants as errors
 use Rattle.picky_target.specs.declared.target.KeyTarget.TheVariants as targets
 use Rattle.picky_target.specs.Carried.{Carries}
 use Rattle.picky_target.specs.ReadBack.{IsTarget}
-use Rattle.picky_cert_target.specs.Certified.{Relation}
+use Rattle.picky_conversion.specs.Certified.{Relation}
 use Rattle.picky_convert.specs.declared.command.Command.{Command}
 use Rattle.picky_convert.specs.declared.command.Command.TheVariants as commands
 use Rattle.picky_conversion.specs.Outside.{Outside, reader}
@@ -29,7 +29,7 @@ use Rattle.picky_convert.specs.Fingerprint.{fingerprint_text}
 use Rattle.picky_conversion.specs.Issue.{CanIssue, CanIssueBytes, IsIssued, IsIssuedBytes, IsIssuingFault, issued}
 use Rattle.picky_conversion.specs.Issue.{issued_bytes, issuing_asks}
 use Rattle.picky_conversion.specs.Made.{Made, ToSign, Whole}
-use Rattle.picky_sample.specs.Sample.{sample_text}
+use Rattle.picky_convert.specs.Sample.{sample_text}
 
 unfoldable pub openssh : List ℕ
 openssh = codes "openssh"

@@ -9,8 +9,8 @@ use Rattle.sha1.specs.Sha1.{sha1}
 use Rattle.sha2.specs.Sha256.{sha256}
 use Rattle.picky_text.specs.Lines.{text_of}
 use Rattle.picky_text.specs.declared.lines.LineEnd.TheVariants.{Lf}
-use Rattle.picky_sshpub.specs.declared.key.SshBasePublicKey.{SshBasePublicKey}
-use Rattle.picky_sshpub.specs.Blob.{blob_of}
+use Rattle.picky_keys.specs.declared.key.SshBasePublicKey.{SshBasePublicKey}
+use Rattle.picky_keys.specs.Blob.{blob_of}
 
 -- MD5 in hex, SHA-1 and SHA-256 in base64 without padding
 unfoldable pub fingerprint_lines : SshBasePublicKey → List (List ℕ)

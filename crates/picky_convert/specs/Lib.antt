@@ -1,3 +1,8 @@
+pub mod Generator
+pub mod SampleKeys
+pub mod SampleTexts
+pub mod Sample
+pub mod SampleChain
 pub mod Fingerprint
 pub mod Command
 pub mod Run

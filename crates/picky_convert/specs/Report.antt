@@ -1,11 +1,11 @@
 -- The line that says on standard error how a run ended.
 use Rattle.std.specs.Prelude.{List, [], ◌++◌, ℕ, codes}
-use Rattle.picky_sshpub.specs.declared.error.SshPublicKeyError.{SshPublicKeyError}
-use Rattle.picky_sshpub.specs.declared.error.SshPublicKeyError.TheVariants as public
+use Rattle.picky_keys.specs.declared.error.SshPublicKeyError.{SshPublicKeyError}
+use Rattle.picky_keys.specs.declared.error.SshPublicKeyError.TheVariants as public
 use Rattle.picky_sshkey_blob.specs.declared.error.SshPrivateKeyError.{SshPrivateKeyError}
 use Rattle.picky_sshkey_blob.specs.declared.error.SshPrivateKeyError.TheVariants as private
-use Rattle.picky_cert_names.specs.declared.error.SshCertificateError.{SshCertificateError}
-use Rattle.picky_cert_names.specs.declared.error.SshCertificateError.TheVariants as certificate
+use Rattle.picky_cert_parts.specs.declared.error.SshCertificateError.{SshCertificateError}
+use Rattle.picky_cert_parts.specs.declared.error.SshCertificateError.TheVariants as certificate
 use Rattle.picky_ppk_parts.specs.declared.error.PuttyError.{PuttyError}
 use Rattle.picky_ppk_parts.specs.declared.error.PuttyError.TheVariants as putty
 use Rattle.picky_key_text.specs.declared.error.ReadError.{ReadError}

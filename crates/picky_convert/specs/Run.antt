@@ -14,7 +14,7 @@ use Rattle.picky_keys.specs.declared.public_key.PublicKey.{PublicKey}
 use Rattle.picky_suite.specs.Meanings.{Meanings}
 use Rattle.picky_target.specs.declared.error.ConvertError.{ConvertError}
 use Rattle.picky_target.specs.declared.error.ConvertError.TheVariants as errors
-use Rattle.picky_cert_target.specs.Certified.{Relation}
+use Rattle.picky_conversion.specs.Certified.{Relation}
 use Rattle.picky_convert.specs.declared.error.Status.{Status}
 use Rattle.picky_convert.specs.declared.error.Status.TheVariants as statuses
 use Rattle.picky_convert.specs.declared.command.Command.{Command}

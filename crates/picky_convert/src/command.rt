@@ -21,7 +21,7 @@ use picky_input::as_text;
 use picky_issuing::{CertOptions, number_of, options_of};
 use picky_key_text::{ReadError, public_key, read_text};
 use picky_ppk::{PpkEncryptionConfig, PpkVersion, PuttyError};
-use picky_sample::sample;
+use crate::summary::sample;
 use picky_sshkey::SshPrivateKeyError;
 use picky_suite::{Signer, Suite};
 use picky_target::{ConvertError, KeyTarget};

@@ -4,7 +4,7 @@ ghost use Rattle.std.specs.Prelude.{◌≡◌, IfOk, string_bytes};
 ghost use Rattle.picky_convert.specs.Fingerprint.{fingerprint_text as text_of_key};
 
 use base64::engine::general_purpose::STANDARD_NO_PAD;
-use picky_sshpub::SshPublicKey;
+use picky_keys::SshPublicKey;
 use std::alloc::{AllocError, Global};
 
 /// The MD5, SHA-1 and SHA-256 digests of the key's blob, a line each. Refuses: want of memory.

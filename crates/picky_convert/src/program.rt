@@ -30,7 +30,7 @@ use std::alloc::Global;
 /// and `tbs` with the same options is what it signs, in lower-case hex: the source holds the issuer's text, a line that is
 /// exactly two percent signs, and the subject's key text, and the first 32 fresh bytes are the nonce. Options are pairs of a
 /// word and its value (`picky_issuing::options_of`). `sample` with a number from 1 to 1,000 is the summary of so many sample
-/// keys (`picky_sample::sample`), for which nothing is read.
+/// keys (`crate::sample`), for which nothing is read.
 ///
 /// Refuses, in order: `Usage`, `ReadFault`, `InputTooLong`, `InputNotUtf8`, `Refused` (of `fingerprint` with `Input` alone) or,
 /// in place of the suite's or the signer's fault, `OutsideFault`, `WriteFault`. What a fault of `err` cuts off of its line is

@@ -8,7 +8,7 @@ use picky_cert::SshCertificateError;
 use picky_key_text::ReadError;
 use picky_ppk::PuttyError;
 use picky_sshkey::SshPrivateKeyError;
-use picky_sshpub::SshPublicKeyError;
+use picky_keys::SshPublicKeyError;
 use picky_target::ConvertError;
 
 /// What a status says of itself: a path, which only a refusal has, and a name. The line of a status but Done is `keyconv: `,

@@ -1,6 +1,6 @@
 //! A key of each type, as ssh-keygen writes it.
 
-use picky_sshpub::{SshBasePublicKey, SshPublicKey, SshPublicKeyError};
+use picky_keys::{SshBasePublicKey, SshPublicKey, SshPublicKeyError};
 use std::alloc::Global;
 
 /// A key's line without its end.

@@ -1,7 +1,7 @@
 //! Lists keep their order, and elements are read back.
 
 use crate::keys::{KEY_ROWS, key_of};
-use picky_sshpub::SshBasePublicKey;
+use picky_keys::SshBasePublicKey;
 use picky_wire::{
     CodecError, List, MemorySink, MemorySource, SliceSource, SshComplexTypeDecode,
     SshComplexTypeEncode, SshElement, SshLayout, Text, Timestamp, TryClone, WireError, decode_list,

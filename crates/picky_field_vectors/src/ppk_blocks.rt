@@ -1,7 +1,6 @@
 //! Base64 blocks of PuTTY's private key files, decoded as their lines come.
 
-use picky_block::JoinedLines;
-use picky_kv::{BlockDecoder, BlockError};
+use picky_kv::{BlockDecoder, BlockError, JoinedLines};
 use picky_wire::{Bytes, NoMemory};
 use std::alloc::Global;
 use std::test::Fail;

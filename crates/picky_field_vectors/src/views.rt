@@ -2,7 +2,7 @@
 
 use crate::fields::FIELDS;
 use crate::keys::{KEY_ROWS, key_of};
-use picky_sshpub::{PublicView, SshBasePublicKey};
+use picky_keys::{PublicView, SshBasePublicKey};
 use picky_wire::{Part, Stuck, mpint_at, sized_at, string_at, text_at, uint32_at, word_at};
 use std::alloc::Global;
 use std::mem::ManuallyDrop;

@@ -8,8 +8,8 @@ use Rattle.picky_text.specs.Base64.{base64_of}
 use Rattle.picky_text.specs.Lines.{HasNo}
 use Rattle.picky_text.proofs.Base64Laws.{base64_has_no, base64_of_injective}
 use Rattle.picky_text.proofs.ListLaws.{all_append}
-use Rattle.picky_sshpub.specs.Blob.{blob_of}
-use Rattle.picky_sshpub.proofs.LineLaws.{blob_is_bytes}
+use Rattle.picky_keys.specs.Blob.{blob_of}
+use Rattle.picky_keys.proofs.LineLaws.{blob_is_bytes}
 use Rattle.picky_sshkey.proofs.PublicLaws.{same_blob}
 use Rattle.picky_inventory.specs.InOrder.{SameItems}
 use Rattle.picky_inventory.specs.Items.{Kind, IsPrivate, IsPublic, kind_word, Item, IsItem, item_line}

@@ -15,14 +15,14 @@ use Rattle.picky_text.specs.Base64.{base64_of, decoded}
 use Rattle.picky_text.specs.Lines.{HasNo}
 use Rattle.picky_text.proofs.Base64Laws.{base64_has_no, base64_is_ascii, base64_is_of_what_it_gives, base64_is_read_back, decoded_is_bytes}
 use Rattle.picky_text.proofs.UnquoteLemmas.{none_from_places}
-use Rattle.picky_sshpub.specs.Blob.{blob_of}
-use Rattle.picky_sshpub.specs.Key.{IsKey, IsText}
-use Rattle.picky_sshpub.specs.LineRefusal.{blob_key}
-use Rattle.picky_sshpub.specs.carried.Blob.{blob_spells}
-use Rattle.picky_sshpub.specs.declared.error.SshPublicKeyError.{SshPublicKeyError}
-use Rattle.picky_sshpub.specs.declared.key.SshBasePublicKey.{SshBasePublicKey}
-use Rattle.picky_sshpub.proofs.KeyLaws.{spelled_is_key}
-use Rattle.picky_sshpub.proofs.LineLaws.{blob_is_bytes, blob_key_fits, blob_key_of}
+use Rattle.picky_keys.specs.Blob.{blob_of}
+use Rattle.picky_keys.specs.Key.{IsKey, IsText}
+use Rattle.picky_keys.specs.LineRefusal.{blob_key}
+use Rattle.picky_keys.specs.carried.Blob.{blob_spells}
+use Rattle.picky_keys.specs.declared.error.SshPublicKeyError.{SshPublicKeyError}
+use Rattle.picky_keys.specs.declared.key.SshBasePublicKey.{SshBasePublicKey}
+use Rattle.picky_keys.proofs.KeyLaws.{spelled_is_key}
+use Rattle.picky_keys.proofs.LineLaws.{blob_is_bytes, blob_key_fits, blob_key_of}
 use Rattle.picky_key_text.proofs.Utf8Laws.{utf8_is_bytes}
 use Rattle.picky_inventory.specs.ItemLine.{onto_cut, cut_at, passes, is_kind, is_spelled, is_canonical, is_text, some_passes, is_blob_word}
 use Rattle.picky_inventory.specs.ItemLine.{is_comment_word, is_nothing, is_comment_end, is_key_end, is_item_line}

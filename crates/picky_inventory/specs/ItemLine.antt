@@ -3,10 +3,10 @@ use Rattle.std.specs.Prelude.{◌&&◌, ◌||◌, ◌==◌, ◌^◌, ℕ, Bool, 
 use Rattle.std.specs.Prelude.{if◌then◌else◌, length, nat_eq, nat_lt}
 use Rattle.std.specs.Str.{bytes_eq, is_utf8}
 use Rattle.picky_text.specs.Base64.{decoded}
-use Rattle.picky_sshpub.specs.Blob.{blob_of}
-use Rattle.picky_sshpub.specs.LineRefusal.{blob_key}
-use Rattle.picky_sshpub.specs.declared.error.SshPublicKeyError.{SshPublicKeyError}
-use Rattle.picky_sshpub.specs.declared.key.SshBasePublicKey.{SshBasePublicKey}
+use Rattle.picky_keys.specs.Blob.{blob_of}
+use Rattle.picky_keys.specs.LineRefusal.{blob_key}
+use Rattle.picky_keys.specs.declared.error.SshPublicKeyError.{SshPublicKeyError}
+use Rattle.picky_keys.specs.declared.key.SshBasePublicKey.{SshBasePublicKey}
 use Rattle.picky_inventory.specs.Items.{private_word, public_word}
 
 -- a byte stands before the first part of a cut

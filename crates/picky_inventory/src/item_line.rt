@@ -4,7 +4,7 @@ ghost use Rattle.std.specs.Prelude.{◌≡◌, ◌≢◌, false, None, Some, IfO
 ghost use Rattle.picky_inventory.specs.ItemLine.{cut_at, is_blob_word, is_canonical, is_comment_end, is_comment_word, is_item_line as is_line, is_key_end, is_kind as is_kind_word, is_text as is_text_of};
 ghost use Rattle.std.specs.Str.{is_utf8 as is_utf8_bytes};
 
-use picky_sshpub::{SshBasePublicKey, SshPublicKeyError, bytes_of};
+use picky_keys::{SshBasePublicKey, SshPublicKeyError, bytes_of};
 use picky_text::{Base64Error, decode};
 use picky_wire::{MAX_LEN, NoMemory};
 use std::alloc::Global;

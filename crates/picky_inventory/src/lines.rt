@@ -2,12 +2,12 @@
 
 ghost use Rattle.std.specs.Prelude.{◌≡◌, ◌∷◌, ◌++◌, [], IfOk, OnOk};
 ghost use Rattle.picky_text.specs.Base64.{base64_of};
-ghost use Rattle.picky_sshpub.specs.Blob.{blob_of};
+ghost use Rattle.picky_keys.specs.Blob.{blob_of};
 ghost use Rattle.picky_key_text.specs.Key.{public_part};
 ghost use Rattle.picky_inventory.specs.Items.{is_blank as is_blank_part, item_line, item_of, kind_of_key, kind_word};
 
 use picky_key_text::{Key, Meaning};
-use picky_sshpub::bytes_of;
+use picky_keys::bytes_of;
 use picky_text::encode;
 use picky_wire::NoMemory;
 use std::alloc::Global;

@@ -8,7 +8,7 @@ use picky_inventory::{
 };
 use picky_key_rows::ZERO_KEY;
 use picky_key_text::{ReadError, read_text};
-use picky_sshpub::SshPublicKeyError;
+use picky_keys::SshPublicKeyError;
 use picky_suite::PlainSuite;
 use std::alloc::Global;
 use std::mem::ManuallyDrop;

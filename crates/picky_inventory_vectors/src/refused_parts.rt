@@ -4,7 +4,7 @@ use crate::runs::{LIST, refuses_row};
 use picky_inventory::InventoryStatus;
 use picky_key_text::ReadError;
 use picky_ppk_parts::PuttyError;
-use picky_sshpub::SshPublicKeyError;
+use picky_keys::SshPublicKeyError;
 use picky_wire::IoKind;
 use std::mem::ManuallyDrop;
 use std::test::Fail;

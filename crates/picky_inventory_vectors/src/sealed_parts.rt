@@ -7,7 +7,7 @@ use picky_key_rows::{PASS, SEALED_V2, SEALED_V3, TOY_V2, TOY_V3};
 use picky_key_text::ReadError;
 use picky_ppk_parts::PuttyError;
 use picky_sshkey_blob::SshPrivateKeyError;
-use picky_sshpub::SshPublicKeyError;
+use picky_keys::SshPublicKeyError;
 use picky_suite::{MemorySuite, PlainSuite, Suite};
 use picky_wire::SliceSource;
 use std::alloc::Global;

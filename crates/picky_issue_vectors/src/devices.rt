@@ -4,7 +4,7 @@ use crate::runs::{End, ends_by, ends_unsigned};
 use crate::zero_lines::{FRESH, HOST_SIGNED, SUBJECT_LINE, ZERO_HOST};
 use picky_cert::{SshCertKeyType, SshCertType};
 use picky_convert::{CertRequest, Key, Target, convert};
-use picky_sshpub::SshBasePublicKey;
+use picky_keys::SshBasePublicKey;
 use picky_suite::{MemorySigner, PlainSuite};
 use picky_wire::{List, NoMemory, Timestamp, TryClone};
 use std::alloc::Global;

@@ -6,7 +6,7 @@ use picky_cert::{SshCertKeyType, SshCertType};
 use picky_cert_builder::{IssuerKey, SshCertificateBuilder};
 use picky_key_rows::zero_key;
 use picky_sshkey::SshBasePrivateKey;
-use picky_sshpub::{SshBasePublicKey, SshPublicKey};
+use picky_keys::{SshBasePublicKey, SshPublicKey};
 use picky_suite::HandedSigner;
 use picky_wire::{Bytes, Text, Timestamp, TryClone};
 use std::alloc::Global;

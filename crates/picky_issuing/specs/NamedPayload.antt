@@ -3,8 +3,8 @@ use Rattle.std.specs.Prelude.{List, [], ℕ, ◌^◌, ◌==◌, Bool, nat_lt, le
 use Rattle.std.specs.List.{after_first, before_first, list_any}
 use Rattle.picky_layout.specs.Table.{find_entry}
 use Rattle.picky_layout.specs.Wire.{string_of}
-use Rattle.picky_cert_names.specs.ExtensionType.{extension_named}
-use Rattle.picky_cert_names.specs.NameTables.{option_types}
+use Rattle.picky_cert_parts.specs.ExtensionType.{extension_named}
+use Rattle.picky_cert_parts.specs.CertNameTables.{option_types}
 use Rattle.picky_cert_parts.specs.CriticalOption.{option_made}
 use Rattle.picky_cert_parts.specs.Extension.{extension_made}
 use Rattle.picky_cert_parts.specs.declared.critical_option.SshCriticalOption.{SshCriticalOption}

@@ -3,7 +3,7 @@ use Rattle.std.specs.Prelude.{◌++◌, List, [], ◌∷◌, ℕ, Option, Some, 
 use Rattle.std.specs.Option.{option_map}
 use Rattle.picky_layout.specs.Table.{find_entry}
 use Rattle.picky_wire.specs.declared.timestamp.Timestamp.{Timestamp}
-use Rattle.picky_cert_names.specs.NameTables.{cert_key_types}
+use Rattle.picky_cert_parts.specs.CertNameTables.{cert_key_types}
 use Rattle.picky_issuing.specs.declared.option_word.OptionWord.{OptionWord}
 use Rattle.picky_issuing.specs.declared.option_word.OptionWord.TheVariants as words
 use Rattle.picky_issuing.specs.declared.options.CertOptions.{CertOptions}

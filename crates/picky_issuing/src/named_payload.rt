@@ -2,11 +2,10 @@
 
 ghost use Rattle.std.specs.Prelude.{◌≡◌, IfOk};
 ghost use Rattle.picky_layout.specs.Wire.{string_of};
-ghost use Rattle.picky_cert_names.specs.ExtensionType.{extension_named};
+ghost use Rattle.picky_cert_parts.specs.ExtensionType.{extension_named};
 ghost use Rattle.picky_issuing.specs.NamedPayload.{requested_critical_option, requested_extension, if_short, name_in, payload_in};
 
-use picky_cert_names::{SshCriticalOptionType, SshExtensionType};
-use picky_cert_parts::{SshCriticalOption, SshExtension};
+use picky_cert_parts::{SshCriticalOption, SshCriticalOptionType, SshExtension, SshExtensionType};
 use picky_wire::{Bytes, NoMemory, Piece, push_pieces};
 use std::alloc::Global;
 

@@ -8,8 +8,7 @@ ghost use Rattle.picky_issuing.specs.Options.{no_options, options_named, with_op
 use crate::named_payload::{critical_option_of, extension_of};
 use crate::option_word::OptionWord;
 use crate::value::{algorithm_of, cert_type_of, number_of};
-use picky_cert_names::SshCertKeyType;
-use picky_cert_parts::{SshCertType, SshCriticalOption, SshExtension};
+use picky_cert_parts::{SshCertKeyType, SshCertType, SshCriticalOption, SshExtension};
 use picky_keys::SignatureAlgorithm;
 use picky_wire::{List, NoMemory, Text, Timestamp, TryClone};
 use std::alloc::Global;

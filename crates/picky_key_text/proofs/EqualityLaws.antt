@@ -1,12 +1,12 @@
 -- Two refusals of a key text are equal exactly where their contents are.
 use Rattle.std.specs.Prelude.{◌≡◌, ◌↔◌, IsTrue}
 use Rattle.std.proofs.Common.{rules, ap, refl}
-use Rattle.picky_sshpub.specs.contracts.error.SshPublicKeyErrorPartialEq.TheImpl as public
-use Rattle.picky_sshpub.specs.declared.error.SshPublicKeyError.{SshPublicKeyError}
+use Rattle.picky_keys.specs.contracts.error.SshPublicKeyErrorPartialEq.TheImpl as public
+use Rattle.picky_keys.specs.declared.error.SshPublicKeyError.{SshPublicKeyError}
 use Rattle.picky_sshkey_blob.specs.contracts.error.SshPrivateKeyErrorPartialEq.TheImpl as private
 use Rattle.picky_sshkey_blob.specs.declared.error.SshPrivateKeyError.{SshPrivateKeyError}
-use Rattle.picky_cert_names.specs.contracts.error.SshCertificateErrorPartialEq.TheImpl as certificate
-use Rattle.picky_cert_names.specs.declared.error.SshCertificateError.{SshCertificateError}
+use Rattle.picky_cert_parts.specs.contracts.error.SshCertificateErrorPartialEq.TheImpl as certificate
+use Rattle.picky_cert_parts.specs.declared.error.SshCertificateError.{SshCertificateError}
 use Rattle.picky_ppk_parts.specs.contracts.error.PuttyErrorPartialEq.TheImpl as putty
 use Rattle.picky_ppk_parts.specs.declared.error.PuttyError.{PuttyError}
 use Rattle.picky_key_text.specs.contracts.error.ReadErrorPartialEq.TheImpl as whole

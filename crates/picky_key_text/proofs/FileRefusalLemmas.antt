@@ -5,8 +5,8 @@ use Rattle.std.proofs.Common.{refl}
 use Rattle.picky_layout.specs.Outcome.{map_err}
 use Rattle.picky_text.specs.Lines.{lines}
 use Rattle.picky_suite.specs.Meanings.{Meanings}
-use Rattle.picky_sshpub.specs.declared.error.SshPublicKeyError.{SshPublicKeyError}
-use Rattle.picky_sshpub.specs.declared.error.SshPublicKeyError.TheVariants as public
+use Rattle.picky_keys.specs.declared.error.SshPublicKeyError.{SshPublicKeyError}
+use Rattle.picky_keys.specs.declared.error.SshPublicKeyError.TheVariants as public
 use Rattle.picky_sshkey.proofs.RefusalLaws.{Refuses, err_as, if_as, ok_as, then_as}
 use Rattle.picky_kv_words.specs.Field.{Field, field_value, judged_value, value_refusal}
 use Rattle.picky_kv_words.specs.declared.error.PpkValueError.{PpkValueError}
@@ -21,7 +21,7 @@ use Rattle.picky_kv.specs.Context.{need, in_context, refusal_in}
 use Rattle.picky_kv.specs.Lines.{key_and_value, first_joined, next_pair, next_block, value_alone}
 use Rattle.picky_kv.specs.NumberFields.{count_field, u32_field}
 use Rattle.picky_kv.specs.AlgorithmField.{algorithm_field}
-use Rattle.picky_kv_values.specs.ValueFields.{comment_field, base64_field, hex_field}
+use Rattle.picky_kv_words.specs.ValueFields.{comment_field, base64_field, hex_field}
 use Rattle.picky_kv_words.specs.Choices.{version_row}
 use Rattle.picky_kv_words.specs.ChoiceFields.{version_field, encryption_field, flavour_field}
 use Rattle.picky_kv_words.specs.Keys.{encryption_key, comment_key, public_lines_key, private_lines_key, private_mac_key}

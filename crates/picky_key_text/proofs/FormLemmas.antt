@@ -3,8 +3,8 @@ use Rattle.std.specs.Prelude.{◌≡◌, false, is_some, List, ℕ, IsUtf8}
 use Rattle.std.proofs.Common.{ap, sym, ◌∙◌, subst}
 use Rattle.picky_layout.proofs.Table.{none_is_found}
 use Rattle.picky_layout.specs.Table.{find_entry}
-use Rattle.picky_cert_names.specs.NameTables.{cert_key_types}
-use Rattle.picky_cert_names.proofs.TypeNameLaws.{cert_key_type_name_utf8, cert_key_type_has_name}
+use Rattle.picky_cert_parts.specs.CertNameTables.{cert_key_types}
+use Rattle.picky_cert_parts.proofs.TypeNameLaws.{cert_key_type_name_utf8, cert_key_type_has_name}
 
 -- bytes that aren't UTF-8 name no type of certificates
 pub no_text_is_no_type : (word : List ℕ) → (IsUtf8 word → ⊥) → is_some (find_entry cert_key_types word) ≡ false

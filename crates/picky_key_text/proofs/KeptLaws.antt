@@ -12,22 +12,22 @@ use Rattle.picky_layout.specs.carried.Zeros.{zeros_in_front}
 use Rattle.picky_text.specs.Words.{after_body}
 use Rattle.picky_text.proofs.ListLaws.{all_append, all_replicate}
 use Rattle.picky_text.proofs.WordLaws.{rest_of_line_is_text}
-use Rattle.picky_block.proofs.LineBytes.{EachByte, each_by_place}
+use Rattle.picky_kv.proofs.LineBytes.{EachByte, each_by_place}
 use Rattle.picky_kv_words.specs.Field.{Field, field_value}
-use Rattle.picky_kv_values.specs.ValueFields.{comment_field}
-use Rattle.picky_kv_values.specs.Values.{is_long, comment_row}
+use Rattle.picky_kv_words.specs.ValueFields.{comment_field}
+use Rattle.picky_kv_words.specs.Values.{is_long, comment_row}
 use Rattle.picky_kv.specs.Parts.{IsPair}
 use Rattle.picky_keys.specs.declared.public_key.PublicKey.{PublicKey}
 use Rattle.picky_keys.specs.declared.public_key.PublicKey.TheVariants as plain
 use Rattle.picky_suite.specs.Meanings.{Meanings}
-use Rattle.picky_sshpub.specs.declared.key.SshPublicKey.{SshPublicKey}
-use Rattle.picky_sshpub.specs.Key.{IsKey, IsNumber, IsText, IsEdKey}
-use Rattle.picky_sshpub.specs.Line.{IsPublicLine}
+use Rattle.picky_keys.specs.declared.key.SshPublicKey.{SshPublicKey}
+use Rattle.picky_keys.specs.Key.{IsKey, IsNumber, IsText, IsEdKey}
+use Rattle.picky_keys.specs.Line.{IsPublicLine}
 use Rattle.picky_cert.specs.declared.certificate.SshCertificate.{SshCertificate}
 use Rattle.picky_cert.specs.Line.{IsCertificateLine}
 use Rattle.picky_cert.proofs.LineLaws.{line_keeps as certificate_keeps}
-use Rattle.picky_sshpub.proofs.ByteLaws.{bytes_joined}
-use Rattle.picky_sshpub.proofs.KeyLaws.{number_keeps, string_keeps, spelled_is_key}
+use Rattle.picky_keys.proofs.ByteLaws.{bytes_joined}
+use Rattle.picky_keys.proofs.KeyLaws.{number_keeps, string_keeps, spelled_is_key}
 use Rattle.picky_sshkey_blob.specs.declared.key.SshBasePrivateKey.{SshBasePrivateKey}
 use Rattle.picky_sshkey_blob.specs.Key.{IsPrivateKey}
 use Rattle.picky_sshkey.specs.declared.private_key.SshPrivateKey.{SshPrivateKey}
@@ -39,7 +39,7 @@ use Rattle.picky_ppk_parts.specs.Material.{counted_digest, cipher_key_v2, derive
 use Rattle.picky_ppk_parts.specs.Parts.{StandsForKey}
 use Rattle.picky_ppk_parts.specs.Secret.{RsaSecret, rsa_key, rsa_secret, ed_secret}
 use Rattle.picky_ppk_parts.specs.Secret.{rsa_fields, ec_fields, ed_fields, ppk_secret_fields}
-use Rattle.picky_putty_public.specs.PuttyPublic.{IsPuttyPublic, SaysPuttyPublic, comment_start}
+use Rattle.picky_ppk_file.specs.PuttyPublic.{IsPuttyPublic, SaysPuttyPublic, comment_start}
 use Rattle.picky_ppk_file.specs.declared.file.PpkFile.{PpkFile}
 use Rattle.picky_ppk_file.specs.declared.file.PpkSealing.{PpkSealing}
 use Rattle.picky_ppk_file.specs.declared.file.PpkSealing.TheVariants.{Unsealed, SealedV2, SealedV3}

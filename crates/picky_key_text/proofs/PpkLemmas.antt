@@ -9,7 +9,7 @@ use Rattle.picky_layout.specs.Outcome.{and_then}
 use Rattle.picky_layout.specs.carried.Outcome.{and_then_ok}
 use Rattle.picky_suite.specs.Meanings.{Meanings}
 use Rattle.picky_suite.proofs.RangeLemmas.{argon2_decides}
-use Rattle.picky_sshpub.proofs.LineLaws.{chosen, some_of}
+use Rattle.picky_keys.proofs.LineLaws.{chosen, some_of}
 use Rattle.picky_sshkey_blob.specs.declared.key.SshBasePrivateKey.{SshBasePrivateKey}
 use Rattle.picky_ppk_parts.specs.declared.error.PuttyError.{PuttyError}
 use Rattle.picky_ppk_parts.specs.declared.error.PuttyError.TheVariants as errors

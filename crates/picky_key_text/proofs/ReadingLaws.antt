@@ -6,9 +6,9 @@ use Rattle.std.proofs.Common.{refl, sym, ap, subst, ◌∙◌, inl, inr}
 use Rattle.picky_layout.specs.Numbers.{IsBytes}
 use Rattle.picky_layout.specs.Outcome.{and_then, map_err}
 use Rattle.picky_layout.specs.carried.Outcome.{and_then_ok, map_err_ok}
-use Rattle.picky_sshpub.specs.declared.key.SshPublicKey.{SshPublicKey}
-use Rattle.picky_sshpub.specs.LineRefusal.{line_meaning}
-use Rattle.picky_sshpub.proofs.LineLaws.{line_meaning_of, line_meaning_says}
+use Rattle.picky_keys.specs.declared.key.SshPublicKey.{SshPublicKey}
+use Rattle.picky_keys.specs.LineRefusal.{line_meaning}
+use Rattle.picky_keys.proofs.LineLaws.{line_meaning_of, line_meaning_says}
 use Rattle.picky_cert.specs.LineRefusal.{line_meaning as certificate_of}
 use Rattle.picky_cert.proofs.LineLaws.{line_meaning_of as certificate_is_read, line_meaning_says as certificate_says}
 use Rattle.picky_suite.specs.Asked.{GivesAsked, LeavesSuite}
@@ -16,8 +16,8 @@ use Rattle.picky_suite.specs.Failures.{IsAskedFault}
 use Rattle.picky_suite.specs.Meanings.{Meanings}
 use Rattle.picky_sshkey.specs.PrivateRefusal.{text_key}
 use Rattle.picky_sshkey.proofs.MeaningLaws.{text_says, text_means}
-use Rattle.picky_putty_public.specs.PuttyRefusal.{putty_meaning, to_openssh}
-use Rattle.picky_putty_public.proofs.KeyLaws.{putty_key_of, putty_key_says}
+use Rattle.picky_ppk_file.specs.PuttyRefusal.{putty_meaning, to_openssh}
+use Rattle.picky_ppk_file.proofs.KeyLaws.{putty_key_of, putty_key_says}
 use Rattle.picky_ppk_parts.specs.declared.error.PuttyError.{PuttyError}
 use Rattle.picky_ppk_parts.specs.declared.error.PuttyError.TheVariants as putty
 use Rattle.picky_ppk_file.specs.declared.file.PpkFile.{PpkFile}

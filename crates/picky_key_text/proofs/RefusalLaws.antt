@@ -13,16 +13,16 @@ use Rattle.picky_keys.specs.declared.curve.EcCurve.TheVariants.{NistP256, NistP3
 use Rattle.picky_wire.specs.Gives.{Gives}
 use Rattle.picky_cert.specs.LineRefusal.{line_meaning as certificate_of}
 use Rattle.picky_cert.proofs.LineLaws.{line_no_want as certificate_no_want}
-use Rattle.picky_sshpub.specs.declared.error.SshPublicKeyError.{SshPublicKeyError}
-use Rattle.picky_sshpub.specs.declared.error.SshPublicKeyError.TheVariants as public
-use Rattle.picky_sshpub.specs.declared.key.SshBasePublicKey.{SshBasePublicKey}
-use Rattle.picky_sshpub.specs.declared.key.SshBasePublicKey.TheVariants as public_keys
-use Rattle.picky_sshpub.specs.declared.key.SshPublicKey.{SshPublicKey}
+use Rattle.picky_keys.specs.declared.error.SshPublicKeyError.{SshPublicKeyError}
+use Rattle.picky_keys.specs.declared.error.SshPublicKeyError.TheVariants as public
+use Rattle.picky_keys.specs.declared.key.SshBasePublicKey.{SshBasePublicKey}
+use Rattle.picky_keys.specs.declared.key.SshBasePublicKey.TheVariants as public_keys
+use Rattle.picky_keys.specs.declared.key.SshPublicKey.{SshPublicKey}
 use Rattle.picky_sshkey_blob.specs.declared.key.SshBasePrivateKey.{SshBasePrivateKey}
-use Rattle.picky_sshpub.specs.BlobRefusal.{read_blob}
-use Rattle.picky_sshpub.specs.LineRefusal.{blob_key, line_meaning}
-use Rattle.picky_sshpub.specs.carried.BlobLayout.{blob_own}
-use Rattle.picky_sshpub.specs.carried.SourceLine.{line_own}
+use Rattle.picky_keys.specs.BlobRefusal.{read_blob}
+use Rattle.picky_keys.specs.LineRefusal.{blob_key, line_meaning}
+use Rattle.picky_keys.specs.carried.BlobLayout.{blob_own}
+use Rattle.picky_keys.specs.carried.SourceLine.{line_own}
 use Rattle.picky_sshkey_blob.specs.declared.error.SshPrivateKeyError.{SshPrivateKeyError}
 use Rattle.picky_sshkey.specs.PrivateRefusal.{text_key}
 use Rattle.picky_sshkey.proofs.FaultLaws.{text_no_fault}
@@ -35,8 +35,8 @@ use Rattle.picky_ppk_parts.specs.Algorithm.{rsa_of, ec_of, ed_of, key_under, sam
 use Rattle.picky_ppk_parts.specs.Counted.{counted}
 use Rattle.picky_ppk_parts.specs.PartsRefusal.{flaw_error, secret_error, key_in_blob, public_key_under, key_with_secret, parts_key}
 use Rattle.picky_ppk_parts.specs.Unsupported.{no_such_algorithm}
-use Rattle.picky_putty_public.specs.PuttyRefusal.{of_lines, of_blob, of_parts, after_comment, after_header, quoted, body_from, putty_meaning, to_openssh}
-use Rattle.picky_putty_public.specs.declared.putty_public.PuttyPublicKey.{PuttyPublicKey}
+use Rattle.picky_ppk_file.specs.PuttyRefusal.{of_lines, of_blob, of_parts, after_comment, after_header, quoted, body_from, putty_meaning, to_openssh}
+use Rattle.picky_ppk_file.specs.declared.putty_public.PuttyPublicKey.{PuttyPublicKey}
 use Rattle.picky_ppk_file.specs.declared.file.PpkFile.{PpkFile}
 use Rattle.picky_ppk_file.specs.File.{is_sealed}
 use Rattle.picky_ppk.specs.Changed.{open_file}

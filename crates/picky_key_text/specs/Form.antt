@@ -3,7 +3,7 @@ use Rattle.std.specs.Prelude.{◌==◌, Bool, List, ℕ, codes, if◌then◌else
 use Rattle.std.specs.List.{starts_with}
 use Rattle.picky_layout.specs.Table.{find_entry}
 use Rattle.picky_text.specs.Words.{first_word}
-use Rattle.picky_cert_names.specs.NameTables.{cert_key_types}
+use Rattle.picky_cert_parts.specs.CertNameTables.{cert_key_types}
 use Rattle.picky_key_text.specs.declared.form.Form.{Form}
 use Rattle.picky_key_text.specs.declared.form.Form.TheVariants.{Envelope, Ppk, PuttyPublic, Certificate, PublicLine}
 

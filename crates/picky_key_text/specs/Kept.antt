@@ -1,5 +1,5 @@
 -- What every meaning that is read keeps, and can be written by.
-use Rattle.picky_sshpub.specs.Key.{IsKey, IsText}
+use Rattle.picky_keys.specs.Key.{IsKey, IsText}
 use Rattle.picky_sshkey_blob.specs.Key.{IsPrivateKey}
 use Rattle.picky_key_text.specs.declared.meaning.Key.{Key}
 use Rattle.picky_key_text.specs.declared.meaning.Key.TheVariants.{Private, Public}

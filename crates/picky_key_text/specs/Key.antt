@@ -1,7 +1,7 @@
 -- A key and its comment: its public part, and the two kinds of a meaning.
 use Rattle.std.specs.Prelude.{List, ℕ}
-use Rattle.picky_sshpub.specs.declared.key.SshBasePublicKey.{SshBasePublicKey}
-use Rattle.picky_sshpub.specs.declared.key.SshPublicKey.{SshPublicKey}
+use Rattle.picky_keys.specs.declared.key.SshBasePublicKey.{SshBasePublicKey}
+use Rattle.picky_keys.specs.declared.key.SshPublicKey.{SshPublicKey}
 use Rattle.picky_sshkey_blob.specs.declared.key.SshBasePrivateKey.{SshBasePrivateKey}
 use Rattle.picky_sshkey_blob.specs.Key.{public_part as private_public_part}
 use Rattle.picky_cert.specs.declared.certificate.SshCertificate.{SshCertificate}

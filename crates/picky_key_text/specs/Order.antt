@@ -2,14 +2,14 @@
 use Rattle.std.specs.Prelude.{List, ℕ, Bool, false, Option, None, Some, Result, Ok, Err, if◌then◌else◌}
 use Rattle.std.specs.Option.{ok_or}
 use Rattle.picky_layout.specs.Outcome.{and_then, map_err}
-use Rattle.picky_sshpub.specs.LineRefusal.{line_meaning}
+use Rattle.picky_keys.specs.LineRefusal.{line_meaning}
 use Rattle.picky_sshkey_blob.specs.declared.error.SshPrivateKeyError.TheVariants as private
 use Rattle.picky_sshkey.specs.declared.private_key.SshPrivateKey.{SshPrivateKey}
 use Rattle.picky_sshkey.specs.PrivateRefusal.{text_key, text_asks}
 use Rattle.picky_cert.specs.LineRefusal.{line_meaning as certificate_of}
 use Rattle.picky_ppk_parts.specs.declared.error.PuttyError.{PuttyError}
 use Rattle.picky_ppk_parts.specs.declared.error.PuttyError.TheVariants as putty
-use Rattle.picky_putty_public.specs.PuttyRefusal.{putty_meaning, to_openssh}
+use Rattle.picky_ppk_file.specs.PuttyRefusal.{putty_meaning, to_openssh}
 use Rattle.picky_ppk_file.specs.declared.file.PpkFile.{PpkFile}
 use Rattle.picky_ppk_file.specs.File.{is_sealed}
 use Rattle.picky_ppk_file.specs.FileRefusal.{file_meaning}

@@ -1,9 +1,9 @@
 -- What a key text means under a passphrase and what a suite's calls mean, by its form.
 use Rattle.std.specs.Prelude.{◌≡◌, List, ℕ}
-use Rattle.picky_sshpub.specs.Line.{IsPublicLine}
+use Rattle.picky_keys.specs.Line.{IsPublicLine}
 use Rattle.picky_cert.specs.declared.certificate.SshCertificate.{SshCertificate}
 use Rattle.picky_cert.specs.Line.{IsCertificateLine}
-use Rattle.picky_putty_public.specs.PuttyPublic.{IsPuttyPublic}
+use Rattle.picky_ppk_file.specs.PuttyPublic.{IsPuttyPublic}
 use Rattle.picky_sshkey.specs.declared.private_key.SshPrivateKey.{SshPrivateKey}
 use Rattle.picky_sshkey.specs.PrivateText.{IsPrivateText}
 use Rattle.picky_key_text.specs.declared.form.Form.{Form}

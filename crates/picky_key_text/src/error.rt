@@ -3,7 +3,7 @@
 use picky_cert::SshCertificateError;
 use picky_ppk::PuttyError;
 use picky_sshkey::SshPrivateKeyError;
-use picky_sshpub::SshPublicKeyError;
+use picky_keys::SshPublicKeyError;
 use thiserror::Error;
 
 /// Why a key text means nothing.

@@ -4,7 +4,7 @@ ghost use Rattle.std.specs.Prelude.{◌≡◌, ◌==◌};
 ghost use Rattle.std.specs.List.{starts_with};
 ghost use Rattle.picky_key_text.specs.Form.{form_of as form_in};
 ghost use Rattle.picky_layout.specs.Table.{find_entry};
-ghost use Rattle.picky_cert_names.specs.NameTables.{cert_key_types};
+ghost use Rattle.picky_cert_parts.specs.CertNameTables.{cert_key_types};
 ghost use Rattle.std.specs.Prelude.{is_some};
 
 use picky_cert::SshCertKeyType;

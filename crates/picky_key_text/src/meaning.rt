@@ -4,7 +4,7 @@ ghost use Rattle.std.specs.Prelude.{◌≡◌, IfOk};
 ghost use Rattle.picky_key_text.specs.Key.{public_key as public_key_of};
 
 use picky_sshkey::SshBasePrivateKey;
-use picky_sshpub::{SshBasePublicKey, SshPublicKey};
+use picky_keys::{SshBasePublicKey, SshPublicKey};
 use picky_wire::{NoMemory, Text, TryClone, both};
 use std::alloc::Global;
 

@@ -8,7 +8,7 @@ ghost use Rattle.picky_suite.specs.Failures.{IsAskedFault};
 ghost use Rattle.picky_wire.specs.Count.{Rose};
 ghost use Rattle.picky_wire.specs.Gives.{Gives};
 ghost use Rattle.picky_layout.specs.Outcome.{and_then, map_err};
-ghost use Rattle.picky_putty_public.specs.PuttyRefusal.{putty_meaning, to_openssh};
+ghost use Rattle.picky_ppk_file.specs.PuttyRefusal.{putty_meaning, to_openssh};
 ghost use Rattle.picky_cert.specs.LineRefusal.{line_meaning as certificate_line};
 ghost use Rattle.picky_key_text.specs.Key.{certificate_meaning, public_meaning as public_meaning_of};
 ghost use Rattle.picky_key_text.specs.Order.{asks, asks_as, envelope_meaning, fault_of, fault_as, reading, reading_as};
@@ -22,7 +22,7 @@ use crate::ppk::ppk_key;
 use picky_cert::{SshCertificate, SshCertificateError};
 use picky_ppk::{PuttyError, PuttyPublicKey};
 use picky_sshkey::{SshPrivateKey, SshPrivateKeyError};
-use picky_sshpub::{SshPublicKey, SshPublicKeyError};
+use picky_keys::{SshPublicKey, SshPublicKeyError};
 use picky_suite::Suite;
 use std::alloc::Global;
 

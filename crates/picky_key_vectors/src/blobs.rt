@@ -1,6 +1,6 @@
 //! The blobs of public keys, and why a blob is refused.
 
-use picky_sshpub::{SshBasePublicKey, SshPublicKey, SshPublicKeyError};
+use picky_keys::{SshBasePublicKey, SshPublicKey, SshPublicKeyError};
 use picky_wire::{IoKind, SliceSource, SshComplexTypeDecode};
 use std::alloc::Global;
 use std::mem::ManuallyDrop;

@@ -3,13 +3,12 @@
 use crate::private_keys::private_rows;
 use picky_key_rows::{unsealed, zero_key};
 use picky_key_text::Key;
-use picky_keys::{EcCurve, PublicKey};
+use picky_keys::{EcCurve, PublicKey, SshBasePublicKey};
 use picky_kv::{
     Base64PpkValue, HexPpkValue, PpkArgon2MemoryValue, PpkArgon2ParallelismValue,
     PpkArgon2PassesValue, PpkCommentValue,
 };
 use picky_sshkey::{Kdf, Pem, SshBasePrivateKey};
-use picky_sshpub::SshBasePublicKey;
 use picky_wire::{Bytes, Mpint, Text, TryClone};
 use std::alloc::{AllocGlobal, Global};
 use std::mem::ManuallyDrop;

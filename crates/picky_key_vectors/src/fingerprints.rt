@@ -1,7 +1,7 @@
 //! The digests that ssh-keygen shows of a key.
 
 use picky_key_rows::{KEY_ROWS, KeyRow, hex_of};
-use picky_sshpub::SshPublicKey;
+use picky_keys::SshPublicKey;
 use picky_text::encode;
 use std::alloc::Global;
 use std::mem::ManuallyDrop;

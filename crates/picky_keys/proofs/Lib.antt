@@ -1,1 +1,14 @@
-pub mod Names
+pub mod KeyNames
+pub mod StopLemmas
+pub mod LineLemmas
+pub mod SourceLemmas
+pub mod LawLemmas
+pub mod ViewLemmas
+pub mod BlobExact
+pub mod BlobLaws
+pub mod ByteLaws
+pub mod CanonicalLaws
+pub mod BlobLayout
+pub mod KeyLaws
+pub mod LineLaws
+pub mod SourceLaws

@@ -1,5 +1,15 @@
-pub mod Names
+pub mod KeyNames
 pub mod PublicKey
 pub mod PrivateKey
-pub mod NameTables
+pub mod KeyNameTables
+pub mod FromWire
+pub mod Key
+pub mod Blob
+pub mod BlobRefusal
+pub mod Line
+pub mod LineRefusal
+pub mod SourceLine
+pub mod View
+pub mod BlobSpelled
+pub mod BlobLayout
 pub mod carried

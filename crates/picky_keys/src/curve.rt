@@ -70,9 +70,9 @@ pub trait EdAlgorithmSshExt {
         ensures short { length result.now ≤ 64 };
 }
 
-#[tactic(auto, unfolding(crate::specs::Names::curve_key_type, crate::specs::Names::curve_identifier))]
+#[tactic(auto, unfolding(crate::specs::KeyNames::curve_key_type, crate::specs::KeyNames::curve_identifier))]
 impl EcCurveSshExt for EcCurve {
-    ghost use Rattle.picky_keys.specs.Names.{curve_key_type, curve_identifier};
+    ghost use Rattle.picky_keys.specs.KeyNames.{curve_key_type, curve_identifier};
 
     ghost key_type_name = { curve_key_type };
 
@@ -95,9 +95,9 @@ impl EcCurveSshExt for EcCurve {
     }
 }
 
-#[tactic(auto, unfolding(crate::specs::Names::ed_key_type))]
+#[tactic(auto, unfolding(crate::specs::KeyNames::ed_key_type))]
 impl EdAlgorithmSshExt for EdAlgorithm {
-    ghost use Rattle.picky_keys.specs.Names.{ed_key_type};
+    ghost use Rattle.picky_keys.specs.KeyNames.{ed_key_type};
 
     ghost key_type_name = { ed_key_type };
 

@@ -17,11 +17,11 @@ pub enum KeyKind {
 }
 
 impl KeyKind {
-    ghost use Rattle.picky_keys.specs.Names.{kind_name};
-    ghost use Rattle.picky_keys.specs.NameTables.{key_types};
+    ghost use Rattle.picky_keys.specs.KeyNames.{kind_name};
+    ghost use Rattle.picky_keys.specs.KeyNameTables.{key_types};
 
     /// The name of the key type.
-    #[tactic(auto, unfolding(crate::specs::Names::kind_name))]
+    #[tactic(auto, unfolding(crate::specs::KeyNames::kind_name))]
     pub fn name(self) -> &'static str
         ensures name { result.now ≡ kind_name self }
         ensures short { length result.now ≤ 64 }
@@ -36,7 +36,7 @@ impl KeyKind {
     }
 
     /// The kind whose key type has this name, where one has.
-    #[tactic(auto, unfolding(crate::specs::NameTables::key_types))]
+    #[tactic(auto, unfolding(crate::specs::KeyNameTables::key_types))]
     pub fn of_name(name: &str) -> Option<KeyKind>
         ensures { result ≡ find_entry key_types name.now }
     {

@@ -1,67 +1,87 @@
-//! The laws of this crate, each as the contract of a function that does nothing else.
+//! The laws of this crate, each as the contract of a function that does no more than it says.
 
-ghost use Rattle.std.specs.Prelude.{◌≡◌, List, ℕ, Some, codes};
-ghost use Rattle.picky_layout.specs.Table.{find_entry};
+ghost use Rattle.std.specs.Prelude.{◌≡◌, ◌++◌, ◌∷◌, ◌<◌, ◌^◌, List, ℕ, Ok, Err, IsUtf8, length};
+ghost use Rattle.picky_layout.specs.Numbers.{IsBytes};
+ghost use Rattle.picky_layout.specs.Outcome.{and_then};
+ghost use Rattle.picky_layout.specs.Grammar.{Fits};
+ghost use Rattle.picky_text.specs.Words.{after_body, line_in_front};
 ghost use Rattle.picky_wire.specs.Equality.{IsEquality, IsEqualityOf};
-ghost use Rattle.picky_keys.specs.Names.{kind_name, curve_identifier};
-ghost use Rattle.picky_keys.specs.PublicKey.{key_shown};
-ghost use Rattle.picky_keys.specs.NameTables.{key_types, curves};
-ghost use Rattle.picky_keys.specs.declared.kind.KeyKind.{KeyKind as Kind};
-ghost use Rattle.picky_keys.specs.declared.curve.EcCurve.{EcCurve as Curve};
+ghost use Rattle.picky_keys.specs.View.{view_shown};
+ghost use Rattle.picky_keys.specs.declared.key.SshBasePublicKey.{SshBasePublicKey as BaseKey};
+ghost use Rattle.picky_keys.specs.declared.key.SshPublicKey.{SshPublicKey as Key};
+ghost use Rattle.picky_keys.specs.Key.{IsKey};
+ghost use Rattle.picky_keys.specs.Blob.{blob, blob_of};
+ghost use Rattle.picky_keys.specs.BlobSpelled.{BlobSpelled};
+ghost use Rattle.picky_keys.specs.BlobRefusal.{read_blob};
+ghost use Rattle.picky_keys.specs.Line.{IsPublicLine, line_of};
+ghost use Rattle.picky_keys.specs.LineRefusal.{line_meaning, line_text};
+ghost use Rattle.picky_keys.specs.Line.{IsReadBackPublicKey};
+ghost use Rattle.picky_keys.specs.SourceLine.{after_line, source_meaning};
 
-use crate::algorithm::{HashAlgorithm, SignatureAlgorithm};
-use crate::curve::{EcCurve, EdAlgorithm};
-use crate::key_identifier::{
-    ECDSA_SHA2_NIST_P256 as CURVE_P256, ECDSA_SHA2_NIST_P384 as CURVE_P384,
-    ECDSA_SHA2_NIST_P521 as CURVE_P521,
-};
-use crate::key_type::{
-    ECDSA_SHA2_NIST_P256, ECDSA_SHA2_NIST_P384, ECDSA_SHA2_NIST_P521, ED25519, RSA,
-    SK_ECDSA_SHA2_NIST_P256, SK_ED25519,
-};
-use crate::kind::KeyKind;
-use crate::private_key::{Issuer, PrivateKey};
-use crate::public_key::{PublicKey, PublicKeyRef};
+use crate::error::SshPublicKeyError;
+use crate::key::{SshBasePublicKey, SshPublicKey};
+use crate::view::PublicView;
 
-/// A name of a key type stands for its kind, and no other name does.
-#[tactic(auto, using(crate::proofs::Names::both_ways))]
-pub fn each_kind_has_one_name()
-    ensures found { (kind : Kind) → find_entry key_types (kind_name kind) ≡ Some kind }
-    ensures only { (name : List ℕ) (kind : Kind) → find_entry key_types name ≡ Some kind → kind_name kind ≡ name }
+/// A blob that is written is read back, and exactly what follows it is left.
+#[tactic(auto, using(crate::proofs::LawLemmas::blob_laws))]
+pub fn blob_is_read_back()
+    ensures { (key : BaseKey) (rest : List ℕ) → IsKey key → read_blob (blob_of key ++ rest) ≡ Ok (key, rest) }
 {}
 
-/// A name of a curve stands for its curve, and no other name does.
-#[tactic(auto, using(crate::proofs::Names::both_ways))]
-pub fn each_curve_has_one_name()
-    ensures found { (curve : Curve) → find_entry curves (curve_identifier curve) ≡ Some curve }
-    ensures only { (name : List ℕ) (curve : Curve) → find_entry curves name ≡ Some curve → curve_identifier curve ≡ name }
+/// A key is read exactly where its spelling stands in front, and only these bytes are its spellings.
+#[tactic(auto, using(crate::proofs::LawLemmas::blob_laws))]
+pub fn blob_is_read_where_it_is_spelled()
+    ensures read { (bytes : List ℕ) (key : BaseKey) (rest : List ℕ) → read_blob bytes ≡ Ok (key, rest) → Fits blob.piece key bytes rest }
+    ensures fits { (key : BaseKey) (front rest : List ℕ) → blob.piece key front → read_blob (front ++ rest) ≡ Ok (key, rest) }
+    ensures exact { (key : BaseKey) (bytes : List ℕ) → IsBytes bytes → blob.piece key bytes → BlobSpelled key bytes }
+    ensures canonical { (key : BaseKey) → IsKey key → blob.piece key (blob_of key) }
 {}
 
-/// The constants are the standards' names of key types (RFC 4253, section 6.6; RFC 5656, section 6.2; RFC 8709, section 4;
-/// OpenSSH's PROTOCOL.u2f) and of curves (RFC 5656, section 6.1).
-pub fn constants_are_the_standards_names()
-    ensures rsa { RSA.now ≡ codes "ssh-rsa" }
-    ensures nist_p256 { ECDSA_SHA2_NIST_P256.now ≡ codes "ecdsa-sha2-nistp256" }
-    ensures nist_p384 { ECDSA_SHA2_NIST_P384.now ≡ codes "ecdsa-sha2-nistp384" }
-    ensures nist_p521 { ECDSA_SHA2_NIST_P521.now ≡ codes "ecdsa-sha2-nistp521" }
-    ensures ed25519 { ED25519.now ≡ codes "ssh-ed25519" }
-    ensures sk_nist_p256 { SK_ECDSA_SHA2_NIST_P256.now ≡ codes "sk-ecdsa-sha2-nistp256@openssh.com" }
-    ensures sk_ed25519 { SK_ED25519.now ≡ codes "sk-ssh-ed25519@openssh.com" }
-
-    ensures curve_p256 { CURVE_P256.now ≡ codes "nistp256" }
-    ensures curve_p384 { CURVE_P384.now ≡ codes "nistp384" }
-    ensures curve_p521 { CURVE_P521.now ≡ codes "nistp521" }
+/// A line means a key exactly where it says it, and it says one. The comment of a text is UTF-8.
+#[tactic(auto, using(crate::proofs::LawLemmas::line_laws))]
+pub fn line_means_what_it_says()
+    ensures says { (text : List ℕ) (key : Key) → IsBytes text → line_meaning text ≡ Ok key → IsPublicLine text key }
+    ensures means { (text : List ℕ) (key : Key) → IsPublicLine text key → line_meaning text ≡ Ok key }
+    ensures one { (text : List ℕ) (k l : Key) → IsPublicLine text k → IsPublicLine text l → k ≡ l }
+    ensures comment { (text : List ℕ) → IsUtf8 text → IsUtf8 (line_in_front (after_body text)) }
 {}
 
-/// Two keys are equal exactly where their contents are, and so are issuers, curves, algorithms and kinds.
+/// A line that is written is read back: as a text, and from a source, where LF and what follows are left.
+#[tactic(auto, using(crate::proofs::LawLemmas::line_laws))]
+pub fn line_is_read_back()
+    ensures text { (key : Key) (more : List ℕ) → IsReadBackPublicKey key → line_meaning (line_of key ++ more) ≡ Ok key }
+    ensures source { (key : Key) (more : List ℕ) → IsReadBackPublicKey key
+        → source_meaning (line_of key ++ more) ≡ Ok (key, 10 ∷ more) }
+{}
+
+/// A blob that was read, however it was spelled, is written in its one spelling, which is read back as the same key.
+pub fn blob_is_written_canonically()
+    ensures key { (bytes : List ℕ) (key : BaseKey) (rest : List ℕ) → IsBytes bytes
+        → read_blob bytes ≡ Ok (key, rest) → IsKey key }
+    ensures again { (bytes : List ℕ) (key : BaseKey) (rest more : List ℕ) → IsBytes bytes
+        → read_blob bytes ≡ Ok (key, rest) → read_blob (blob_of key ++ more) ≡ Ok (key, more) }
+{}
+
+/// So is a line, from a text and from a source, where LF and what follows are left.
+pub fn line_is_written_canonically()
+    ensures text { (text : List ℕ) (key : Key) (line more : List ℕ) → IsBytes text
+        → line_meaning text ≡ Ok key → line_text key ≡ Ok line → line_meaning (line ++ more) ≡ Ok key }
+    ensures source { (bytes : List ℕ) (key : Key) (rest line more : List ℕ) → IsBytes bytes
+        → source_meaning bytes ≡ Ok (key, rest) → line_text key ≡ Ok line
+        → source_meaning (line ++ more) ≡ Ok (key, 10 ∷ more) }
+{}
+
+/// A source is answered as the line in front of it is.
+#[tactic(auto, using(crate::proofs::LawLemmas::line_laws))]
+pub fn source_is_answered_as_its_line()
+    ensures { (bytes : List ℕ) → length (line_in_front bytes) < 2 ^ 32
+        → source_meaning bytes ≡ and_then (line_meaning (line_in_front bytes)) (λ key. Ok (key, after_line bytes)) }
+{}
+
+/// Two keys are equal exactly where their contents are, and so are keys with comments, and refusals.
 pub fn equality_is_of_contents()
-    ensures key { IsEquality ⟦<PublicKey as PartialEq>⟧.eq }
-    ensures borrowed { IsEqualityOf key_shown ⟦<PublicKeyRef<'static> as PartialEq>⟧.eq }
-    ensures private_key { IsEquality ⟦<PrivateKey as PartialEq>⟧.eq }
-    ensures issuer { IsEquality ⟦<Issuer as PartialEq>⟧.eq }
-    ensures digest { IsEquality ⟦<HashAlgorithm as PartialEq>⟧.eq }
-    ensures signature { IsEquality ⟦<SignatureAlgorithm as PartialEq>⟧.eq }
-    ensures curve { IsEquality ⟦<EcCurve as PartialEq>⟧.eq }
-    ensures algorithm { IsEquality ⟦<EdAlgorithm as PartialEq>⟧.eq }
-    ensures kind { IsEquality ⟦<KeyKind as PartialEq>⟧.eq }
+    ensures key { IsEquality ⟦<SshBasePublicKey as PartialEq>⟧.eq }
+    ensures line { IsEquality ⟦<SshPublicKey as PartialEq>⟧.eq }
+    ensures error { IsEquality ⟦<SshPublicKeyError as PartialEq>⟧.eq }
+    ensures view { IsEqualityOf view_shown ⟦<PublicView<'static> as PartialEq>⟧.eq }
 {}

@@ -7,9 +7,9 @@ use Rattle.std.proofs.lemmas.Bool.Decides.{nat_tests}
 use Rattle.picky_layout.specs.Numbers.{IsBytes}
 use Rattle.picky_text.specs.Base64.{base64_of}
 use Rattle.picky_kv_words.specs.Field.{Field, field_value, judged_value}
-use Rattle.picky_kv_values.specs.Values.{is_long}
-use Rattle.picky_kv_values.specs.carried.Values.{short_is_not_long}
-use Rattle.picky_kv_values.specs.Blocks.{IsOfBlocks, IsBlockText}
+use Rattle.picky_kv_words.specs.Values.{is_long}
+use Rattle.picky_kv_words.specs.carried.Values.{short_is_not_long}
+use Rattle.picky_kv_words.specs.Blocks.{IsOfBlocks, IsBlockText}
 use Rattle.picky_kv.specs.Context.{in_context}
 
 -- the base64 of few bytes gives their value

@@ -1,3 +1,8 @@
+pub mod GroupLemmas
+pub mod FrontLemmas
+pub mod StateLemmas
+pub mod LineLemmas
+pub mod LineBytes
 pub mod CutLemmas
 pub mod BlockLemmas
 pub mod WriteLemmas

@@ -18,9 +18,9 @@ use Rattle.picky_kv_words.specs.Choices.{encryption_literal, flavour_literal}
 use Rattle.picky_kv_words.specs.Literal.{is_plain}
 use Rattle.picky_kv.specs.NumberFields.{u32_field, count_field}
 use Rattle.picky_kv.specs.Parts.{HasNoLineEnd, AreOneLine}
-use Rattle.picky_kv_values.specs.ValueFields.{base64_field, hex_field}
-use Rattle.picky_kv_values.specs.Values.{padded_base64, AreHexPairs}
-use Rattle.picky_kv_values.specs.Values.{IsLowerDigit}
+use Rattle.picky_kv_words.specs.ValueFields.{base64_field, hex_field}
+use Rattle.picky_kv_words.specs.Values.{padded_base64, AreHexPairs}
+use Rattle.picky_kv_words.specs.Values.{IsLowerDigit}
 use Rattle.picky_kv.specs.declared.algorithm.PpkKeyAlgorithmValue.{PpkKeyAlgorithmValue}
 use Rattle.picky_kv.specs.declared.algorithm.PpkKeyAlgorithmValue.TheVariants as algorithm
 use Rattle.picky_kv_words.specs.declared.choices.PpkEncryptionValue.{PpkEncryptionValue}

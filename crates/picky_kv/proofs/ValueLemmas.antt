@@ -16,10 +16,10 @@ use Rattle.picky_text.specs.Base64.{base64_of, decoded}
 use Rattle.picky_text.proofs.Base64Laws.{base64_is_read_back, base64_is_of_what_it_gives}
 use Rattle.picky_text.proofs.Base64Laws.{decoded_is_bytes}
 use Rattle.picky_kv_words.specs.Field.{IsOfRow}
-use Rattle.picky_kv_values.specs.ValueFields.{comment_field, base64_field, hex_field}
-use Rattle.picky_kv_values.specs.Values.{comment_row, base64_row}
-use Rattle.picky_kv_values.specs.Values.{hex_row, hex_decoded, padded_base64, IsHexDigit, IsLowerDigit}
-use Rattle.picky_kv_values.specs.Values.{AreHexPairs}
+use Rattle.picky_kv_words.specs.ValueFields.{comment_field, base64_field, hex_field}
+use Rattle.picky_kv_words.specs.Values.{comment_row, base64_row}
+use Rattle.picky_kv_words.specs.Values.{hex_row, hex_decoded, padded_base64, IsHexDigit, IsLowerDigit}
+use Rattle.picky_kv_words.specs.Values.{AreHexPairs}
 
 pub comment_field_is : IsOfRow comment_field comment_row
 unfolding comment_field

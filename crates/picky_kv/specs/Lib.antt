@@ -1,14 +1,17 @@
-pub use Rattle.picky_block.specs.Block
-pub use Rattle.picky_block.specs.BlockRefusal
+pub mod Block
+pub mod BlockRefusal
+pub mod Joined
+pub use Rattle.picky_kv.specs.Block
+pub use Rattle.picky_kv.specs.BlockRefusal
 pub use Rattle.picky_kv_words.specs.Field
 pub use Rattle.picky_kv_words.specs.Literal
 pub use Rattle.picky_kv_words.specs.Choices
 pub use Rattle.picky_kv_words.specs.Keys
 pub use Rattle.picky_kv_words.specs.Argon2Keys
 pub use Rattle.picky_kv_words.specs.ChoiceFields
-pub use Rattle.picky_kv_values.specs.Values
-pub use Rattle.picky_kv_values.specs.Blocks
-pub use Rattle.picky_kv_values.specs.ValueFields
+pub use Rattle.picky_kv_words.specs.Values
+pub use Rattle.picky_kv_words.specs.Blocks
+pub use Rattle.picky_kv_words.specs.ValueFields
 pub mod Algorithm
 pub mod Numbers
 pub mod Context
@@ -19,3 +22,4 @@ pub mod ReadBack
 pub mod AlgorithmField
 pub mod NumberFields
 pub mod carried
+pub mod inner

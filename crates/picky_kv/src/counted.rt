@@ -2,16 +2,15 @@
 
 ghost use Rattle.std.specs.Prelude.{◌≡◌, ◌⊎◌, Some, None, IfOk, IfErr};
 ghost use Rattle.picky_wire.specs.Gives.{Gives};
-ghost use Rattle.picky_block.specs.Joined.{joined_text};
+ghost use Rattle.picky_kv.specs.Joined.{joined_text};
 ghost use Rattle.picky_kv_words.specs.Field.{field_value};
 ghost use Rattle.picky_kv.specs.Context.{in_context};
 ghost use Rattle.picky_kv.specs.Lines.{first_joined};
 
 use crate::error::KvError;
 use crate::reader::read_in;
-use picky_block::JoinedLines;
-use picky_kv_values::PpkBlock;
-use picky_kv_words::PpkLiteral;
+use crate::joined::JoinedLines;
+use picky_kv_words::{PpkBlock, PpkLiteral};
 use picky_text::LineReader;
 use picky_wire::NoMemory;
 use std::alloc::Global;

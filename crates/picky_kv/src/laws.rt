@@ -11,7 +11,7 @@ ghost use Rattle.picky_kv.specs.Algorithm.{algorithm_row};
 ghost use Rattle.picky_kv_words.specs.Choices.{encryption_row, flavour_row, version_row};
 ghost use Rattle.picky_wire.specs.Equality.{IsEquality};
 ghost use Rattle.picky_kv_words.specs.Field.{IsOfRow, field_value};
-ghost use Rattle.picky_kv_values.specs.Blocks.{IsBlockText};
+ghost use Rattle.picky_kv_words.specs.Blocks.{IsBlockText};
 ghost use Rattle.picky_kv_words.specs.Keys.{comment_key_row, encryption_key_row, private_lines_key_row};
 ghost use Rattle.picky_kv_words.specs.Keys.{private_mac_key_row, public_lines_key_row};
 ghost use Rattle.picky_kv.specs.Lines.{key_and_value, first_joined, next_pair, next_block};
@@ -21,8 +21,8 @@ ghost use Rattle.picky_kv.specs.Numbers.{count_row, u32_row};
 ghost use Rattle.picky_kv.specs.Parts.{HasNoSeparator, AreKeyAndValue, AreJoined, PairsAreRead};
 ghost use Rattle.picky_kv.specs.Parts.{BlocksAreRead, HasNoLineEnd, AreOneLine};
 ghost use Rattle.picky_kv.specs.ReadBack.{PairIsReadBack, BlockIsReadBack};
-ghost use Rattle.picky_kv_values.specs.Values.{base64_row, comment_row, hex_row, padded_base64};
-ghost use Rattle.picky_kv_values.specs.Values.{AreHexPairs, IsLowerDigit};
+ghost use Rattle.picky_kv_words.specs.Values.{base64_row, comment_row, hex_row, padded_base64};
+ghost use Rattle.picky_kv_words.specs.Values.{AreHexPairs, IsLowerDigit};
 
 use crate::algorithm::PpkKeyAlgorithmValue;
 use crate::error::KvError;
@@ -32,13 +32,7 @@ use crate::pairs::{
     PpkEncryption, PpkHeader, PpkKeyDerivation, PpkKeyValue, PpkMultilineKeyValue, PpkPrivateLines,
     PpkPrivateMac, PpkPublicLines,
 };
-use picky_kv_values::{Base64PpkValue, HexPpkValue, PpkBlock, PpkCommentValue};
-use picky_kv_words::{
-    Argon2FlavourValue, PpkArgon2MemoryKey, PpkArgon2ParallelismKey, PpkArgon2PassesKey,
-    PpkArgon2SaltKey, PpkCommentKey, PpkEncryptionKey, PpkEncryptionValue, PpkField,
-    PpkKeyDerivationKey, PpkLiteral, PpkPrivateLinesKey, PpkPrivateMacKey, PpkPublicLinesKey,
-    PpkValueError, PpkValueParsingError, PpkVersionKey,
-};
+use picky_kv_words::{Argon2FlavourValue, Base64PpkValue, HexPpkValue, PpkArgon2MemoryKey, PpkArgon2ParallelismKey, PpkArgon2PassesKey, PpkArgon2SaltKey, PpkBlock, PpkCommentKey, PpkCommentValue, PpkEncryptionKey, PpkEncryptionValue, PpkField, PpkKeyDerivationKey, PpkLiteral, PpkPrivateLinesKey, PpkPrivateMacKey, PpkPublicLinesKey, PpkValueError, PpkValueParsingError, PpkVersionKey};
 
 /// The type of a line's key.
 type KeyOf<T> = <T as PpkKeyValue>::Key;

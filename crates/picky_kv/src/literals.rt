@@ -1,6 +1,6 @@
 //! The literals of a PuTTY private key file, and the names and words of its refusals.
 
-pub use picky_kv_values::literals::{VALID_BASE64, VALID_HEX};
+pub use picky_kv_words::literals::{VALID_BASE64, VALID_HEX};
 pub use picky_kv_words::literals::{
     AES256_CBC, ANY_ENCRYPTION, ANY_FLAVOUR, ANY_VERSION, ARGON2_FLAVOUR_VALUE, ARGON2_MEMORY,
     ARGON2_PARALLELISM, ARGON2_PASSES, ARGON2_SALT, ARGON2D, ARGON2I, ARGON2ID, COMMENT,

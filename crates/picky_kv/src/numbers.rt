@@ -6,8 +6,7 @@ ghost use Rattle.picky_kv_words.specs.Field.{field_value, IsSpelling};
 ghost use Rattle.picky_kv.specs.NumberFields.{u32_field, count_field};
 
 use crate::literals::{VALID_COUNT, VALID_U32};
-use picky_kv_values::text_within;
-use picky_kv_words::{PpkField, PpkValueError, refused};
+use picky_kv_words::{PpkField, PpkValueError, refused, text_within};
 use picky_wire::{NoMemory, SizeError, Text, TryClone};
 use std::alloc::Global;
 use std::marker::Model;

@@ -1,3 +1,6 @@
+pub mod Values
+pub mod Blocks
+pub mod ValueFields
 pub mod Field
 pub mod Literal
 pub mod Choices

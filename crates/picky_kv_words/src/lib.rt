@@ -3,21 +3,27 @@
 #![tactic(auto)]
 
 mod argon2_keys;
+mod block;
 mod choices;
 mod error;
 mod field;
 mod keys;
 pub mod literals;
+mod spelling;
+mod values;
 mod word;
 
 pub use argon2_keys::{
     PpkArgon2MemoryKey, PpkArgon2ParallelismKey, PpkArgon2PassesKey, PpkArgon2SaltKey,
     PpkKeyDerivationKey,
 };
+pub use block::PpkBlock;
 pub use choices::{Argon2FlavourValue, PpkEncryptionValue, PpkVersionKey};
 pub use error::{PpkValueError, PpkValueParsingError};
 pub use field::{PpkField, PpkLiteral, PpkSingle, refused};
 pub use keys::{
     PpkCommentKey, PpkEncryptionKey, PpkPrivateLinesKey, PpkPrivateMacKey, PpkPublicLinesKey,
 };
+pub use spelling::text_within;
+pub use values::{Base64PpkValue, HexPpkValue, PpkCommentValue};
 pub use word::{PpkWord, WordTexts};

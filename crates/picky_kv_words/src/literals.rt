@@ -67,3 +67,8 @@ pub const PPK_ARGON2_PASSES_KEY: &str = "PpkArgon2PassesKey";
 pub const PPK_ARGON2_PARALLELISM_KEY: &str = "PpkArgon2ParallelismKey";
 
 pub const PPK_ARGON2_SALT_KEY: &str = "PpkArgon2SaltKey";
+
+// What a refusal of base64 or hex says was expected.
+pub const VALID_BASE64: &str = "<valid base64 data>";
+
+pub const VALID_HEX: &str = "<valid hex data>";

@@ -4,7 +4,7 @@ use Rattle.std.specs.Prelude.{Contains, drop, ◌⊎◌, ◌≢◌}
 use Rattle.std.specs.List.{AllByRecursion}
 use Rattle.std.proofs.lemmas.List.{append-nil, append_assoc}
 use Rattle.std.proofs.lemmas.List.Elements.{Contains-append_left, Contains-append_right, Contains-push}
-use Rattle.picky_sshpub.specs.declared.key.SshBasePublicKey.{SshBasePublicKey}
+use Rattle.picky_keys.specs.declared.key.SshBasePublicKey.{SshBasePublicKey}
 use Rattle.picky_suite.specs.Signs.{Relation}
 use Rattle.picky_cert_builder.specs.Draft.{requested}
 use Rattle.picky_request.specs.Builder.{asked_of}

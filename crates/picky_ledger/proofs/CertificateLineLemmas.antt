@@ -10,12 +10,12 @@ use Rattle.picky_text.specs.Base64.{base64_of}
 use Rattle.picky_text.specs.declared.lines.LineEnd.TheVariants.{CrLf}
 use Rattle.picky_text.specs.Words.{AreParts, HasParts, rest_text}
 use Rattle.picky_text.proofs.WordLaws.{base64_is_word, key_line_alone, key_line_is_read_back}
-use Rattle.picky_sshpub.specs.LineRefusal.{is_short}
-use Rattle.picky_sshpub.proofs.LineLaws.{chosen}
-use Rattle.picky_cert_names.specs.declared.error.SshCertificateError.{SshCertificateError}
-use Rattle.picky_cert_names.specs.declared.error.SshCertificateError.TheVariants as errors
-use Rattle.picky_cert_names.specs.declared.error.SshSignatureError.TheVariants as signatures
-use Rattle.picky_cert_names.specs.Names.{cert_key_type_name}
+use Rattle.picky_keys.specs.LineRefusal.{is_short}
+use Rattle.picky_keys.proofs.LineLaws.{chosen}
+use Rattle.picky_cert_parts.specs.declared.error.SshCertificateError.{SshCertificateError}
+use Rattle.picky_cert_parts.specs.declared.error.SshCertificateError.TheVariants as errors
+use Rattle.picky_cert_parts.specs.declared.error.SshSignatureError.TheVariants as signatures
+use Rattle.picky_cert_parts.specs.CertNames.{cert_key_type_name}
 use Rattle.picky_cert_parts.specs.Signature.{blob_fits}
 use Rattle.picky_cert_blob.specs.Subject.{fits_subject}
 use Rattle.picky_cert.specs.declared.certificate.SshCertificate.{SshCertificate}

@@ -11,7 +11,7 @@ use Rattle.picky_layout.proofs.Numbers.{bytes_behind, bytes_in_front}
 use Rattle.picky_text.specs.Base64.{base64_of, decoded}
 use Rattle.picky_text.specs.Lines.{HasNo}
 use Rattle.picky_text.proofs.Base64Laws.{base64_has_no, base64_is_of_what_it_gives, base64_is_read_back}
-use Rattle.picky_cert_names.specs.declared.error.SshCertificateError.{SshCertificateError}
+use Rattle.picky_cert_parts.specs.declared.error.SshCertificateError.{SshCertificateError}
 use Rattle.picky_cert.specs.declared.certificate.SshCertificate.{SshCertificate}
 use Rattle.picky_cert.specs.Line.{IsReadBackCertificate}
 use Rattle.picky_cert.specs.LineRefusal.{line_meaning}

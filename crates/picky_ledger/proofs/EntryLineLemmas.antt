@@ -10,7 +10,7 @@ use Rattle.picky_text.specs.Base64.{base64_of}
 use Rattle.picky_text.specs.Lines.{HasNo}
 use Rattle.picky_text.proofs.Base64Laws.{base64_has_no}
 use Rattle.picky_text.proofs.ListLaws.{all_append}
-use Rattle.picky_cert_names.specs.Names.{cert_key_type_name}
+use Rattle.picky_cert_parts.specs.CertNames.{cert_key_type_name}
 use Rattle.picky_cert.specs.declared.certificate.SshCertificate.{SshCertificate}
 use Rattle.picky_cert.specs.Line.{IsReadBackCertificate}
 use Rattle.picky_cert.specs.Spelled.{blob_of, line_of}

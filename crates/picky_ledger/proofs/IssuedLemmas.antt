@@ -7,10 +7,10 @@ use Rattle.picky_text.specs.Lines.{HasNo}
 use Rattle.picky_text.proofs.WordLaws.{rest_has_no_cr, rest_has_no_lf, rest_is_trimmed}
 use Rattle.picky_text.specs.Words.{after_body}
 use Rattle.picky_suite.specs.Signs.{Relation}
-use Rattle.picky_sshpub.specs.declared.key.SshBasePublicKey.{SshBasePublicKey}
-use Rattle.picky_sshpub.specs.declared.key.SshPublicKey.{SshPublicKey}
-use Rattle.picky_sshpub.specs.Key.{IsString}
-use Rattle.picky_sshpub.specs.Line.{IsPublicLine}
+use Rattle.picky_keys.specs.declared.key.SshBasePublicKey.{SshBasePublicKey}
+use Rattle.picky_keys.specs.declared.key.SshPublicKey.{SshPublicKey}
+use Rattle.picky_keys.specs.Key.{IsString}
+use Rattle.picky_keys.specs.Line.{IsPublicLine}
 use Rattle.picky_cert_parts.specs.Signature.{IsSignature}
 use Rattle.picky_cert.specs.declared.certificate.SshCertificate.{SshCertificate}
 use Rattle.picky_cert.specs.Certificate.{bare}

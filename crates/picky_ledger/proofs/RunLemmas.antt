@@ -16,7 +16,7 @@ use Rattle.picky_input.specs.declared.source_text.SourceError.TheVariants as sou
 use Rattle.picky_input.proofs.TextLaws.{is_source_text, no_text_exactly, too_long_exactly}
 use Rattle.picky_wire.specs.Count.{Rose}
 use Rattle.picky_wire.specs.declared.error.SizeError.TheVariants as sizes
-use Rattle.picky_sshpub.specs.LineRefusal.{is_short, line_meaning}
+use Rattle.picky_keys.specs.LineRefusal.{is_short, line_meaning}
 use Rattle.picky_suite.specs.Signs.{Relation}
 use Rattle.picky_issuing.specs.Parts.{cut, mark_lf}
 use Rattle.picky_issuing.specs.Steps.{some_then}

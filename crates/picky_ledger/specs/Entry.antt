@@ -8,7 +8,7 @@ use Rattle.picky_cert.specs.declared.certificate.SshCertificate.{SshCertificate}
 use Rattle.picky_cert.specs.Line.{IsReadBackCertificate}
 use Rattle.picky_cert.specs.LineRefusal.{line_meaning}
 use Rattle.picky_cert.specs.Spelled.{blob_of, line_of}
-use Rattle.picky_cert_names.specs.Names.{cert_key_type_name}
+use Rattle.picky_cert_parts.specs.CertNames.{cert_key_type_name}
 use Rattle.picky_issuing.specs.Steps.{some_then}
 use Rattle.picky_request.specs.Request.{cut_at_space, request_in}
 use Rattle.picky_request.specs.declared.request.CertRequestLine.{CertRequestLine}

@@ -6,8 +6,8 @@ use Rattle.picky_layout.specs.Outcome.{and_then, map_err}
 use Rattle.picky_text.specs.Lines.{lines}
 use Rattle.picky_wire.specs.Count.{Rose}
 use Rattle.picky_suite.specs.Signs.{Relation}
-use Rattle.picky_sshpub.specs.declared.key.SshPublicKey.{SshPublicKey}
-use Rattle.picky_sshpub.specs.LineRefusal.{line_meaning}
+use Rattle.picky_keys.specs.declared.key.SshPublicKey.{SshPublicKey}
+use Rattle.picky_keys.specs.LineRefusal.{line_meaning}
 pub use Rattle.picky_input.specs.Extent.{LeavesDevice, ReadsInput, WritesLast}
 use Rattle.picky_input.specs.Extent.{Anywhere, Extent, PastLimit, ToEnd, ToFault}
 use Rattle.picky_input.specs.SourceText.{text_of}

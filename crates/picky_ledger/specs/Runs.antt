@@ -2,7 +2,7 @@
 use Rattle.std.specs.Prelude.{◌≡◌, ◌<◌, ◌*◌, ◌^◌, ◌++◌, ◌∷◌, ℕ, List, [], Contains, length, take, drop}
 use Rattle.std.specs.Prelude.{Some, Ok, Err}
 use Rattle.std.specs.List.{AllByRecursion}
-use Rattle.picky_sshpub.specs.declared.key.SshBasePublicKey.{SshBasePublicKey}
+use Rattle.picky_keys.specs.declared.key.SshBasePublicKey.{SshBasePublicKey}
 use Rattle.picky_suite.specs.Signs.{Relation}
 use Rattle.picky_cert_builder.specs.Draft.{IsSigned, Unsigned, requested}
 use Rattle.picky_request.specs.Builder.{asked_of}

@@ -24,7 +24,7 @@ use picky_cert_builder::{
     signature_keeps_its_ranges,
 };
 use picky_request::CertRequestLine;
-use picky_sshpub::SshPublicKey;
+use picky_keys::SshPublicKey;
 use picky_suite::Signer;
 use picky_wire::{NoMemory, Text, TryClone};
 use std::alloc::Global;

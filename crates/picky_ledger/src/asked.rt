@@ -4,7 +4,7 @@ ghost use Rattle.std.specs.Prelude.{◌≡◌, length};
 ghost use Rattle.std.specs.Option.{option_map};
 ghost use Rattle.picky_layout.specs.Outcome.{map_err};
 ghost use Rattle.picky_wire.specs.Gives.{Gives};
-ghost use Rattle.picky_sshpub.specs.LineRefusal.{line_meaning};
+ghost use Rattle.picky_keys.specs.LineRefusal.{line_meaning};
 ghost use Rattle.picky_ledger.specs.Run.{of_parts, of_text, parts_in, requests_in};
 ghost use Rattle.picky_ledger.specs.declared.status.LedgerStatus.TheVariants as statuses;
 ghost use Rattle.picky_ledger.specs.inner.Shown.{given_shown, parts_shown};
@@ -12,7 +12,7 @@ ghost use Rattle.picky_ledger.specs.inner.Shown.{given_shown, parts_shown};
 use crate::ledger::Ledger;
 use crate::status::{LedgerStatus, text_status};
 use picky_issuing::parts_of;
-use picky_sshpub::{SshPublicKey, SshPublicKeyError};
+use picky_keys::{SshPublicKey, SshPublicKeyError};
 use picky_text::LineReader;
 use std::alloc::Global;
 

@@ -2,7 +2,7 @@
 
 ghost use Rattle.std.specs.Prelude.{◌≡◌, ◌<◌, ◌≤◌, ◌^◌, ◌++◌, ◌∷◌, ◌↔◌, ℕ, List, length, Ok, Err};
 ghost use Rattle.std.specs.Str.{IsUtf8};
-ghost use Rattle.picky_sshpub.specs.declared.key.SshBasePublicKey.{SshBasePublicKey as IssuerKey};
+ghost use Rattle.picky_keys.specs.declared.key.SshBasePublicKey.{SshBasePublicKey as IssuerKey};
 ghost use Rattle.picky_wire.specs.Equality.{IsEquality};
 ghost use Rattle.picky_input.specs.Input.{input_limit};
 ghost use Rattle.picky_ledger.specs.Apply.{judged_request_line, Terms};

@@ -16,7 +16,7 @@ use crate::ledger::Ledger;
 use crate::reading::id_of;
 use crate::reply_line::push_reply;
 use picky_request::CertRequestLine;
-use picky_sshpub::SshPublicKey;
+use picky_keys::SshPublicKey;
 use picky_suite::Signer;
 use picky_text::LineReader;
 use picky_wire::{NoMemory, Text};

@@ -5,7 +5,7 @@ ghost use Rattle.picky_ledger.specs.Run.{source_status as status_of_source, text
 
 use crate::ledger::LedgerTextError;
 use picky_input::SourceError;
-use picky_sshpub::SshPublicKeyError;
+use picky_keys::SshPublicKeyError;
 
 /// How a run ends.
 #[derive(Debug, Drop, PartialEq, Eq)]

@@ -2,7 +2,7 @@
 
 use picky_cert_builder::SshCertificateGenerationError;
 use picky_ledger::{Ledger, LedgerError, LedgerStatus, LedgerTextError, Reply};
-use picky_sshpub::SshPublicKeyError;
+use picky_keys::SshPublicKeyError;
 use std::alloc::Global;
 use std::mem::ManuallyDrop;
 use std::test::Fail;

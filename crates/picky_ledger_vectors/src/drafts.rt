@@ -1,12 +1,10 @@
 //! The certificate that a request asks for, by the kinds of the subject's key and of the issuer's.
 
 use picky_cert_builder::{IssuerKey, SshCertificateBuilder};
-use picky_cert_names::SshCertKeyType;
-use picky_cert_parts::SshCertType;
+use picky_cert_parts::{SshCertKeyType, SshCertType};
 use picky_key_rows::KEY_ROWS;
-use picky_keys::{EcCurve, EdAlgorithm, HashAlgorithm, KeyKind, SignatureAlgorithm};
+use picky_keys::{EcCurve, EdAlgorithm, HashAlgorithm, KeyKind, SignatureAlgorithm, SshBasePublicKey, SshPublicKey};
 use picky_request::{CertRequestLine, algorithm_by, type_for};
-use picky_sshpub::{SshBasePublicKey, SshPublicKey};
 use picky_wire::{List, NoMemory, Text};
 use std::alloc::Global;
 use std::mem::ManuallyDrop;

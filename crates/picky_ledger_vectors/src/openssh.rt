@@ -3,7 +3,7 @@
 use crate::ledger_texts::ledger_of;
 use picky_cert::{SshCertificate, SshSignatureBlob};
 use picky_ledger::{Entry, Ledger, LedgerError, Reply};
-use picky_sshpub::SshPublicKey;
+use picky_keys::SshPublicKey;
 use picky_suite::HandedSigner;
 use picky_wire::{Bytes, TryClone};
 use std::alloc::Global;

@@ -4,7 +4,7 @@ use crate::ledger_texts::{is_written, ledger_of};
 use crate::row_texts::row_text;
 use crate::runs::zero_signer;
 use picky_ledger::{Ledger, LedgerError, Reply};
-use picky_sshpub::SshPublicKey;
+use picky_keys::SshPublicKey;
 use picky_suite::{MemorySigner, Signer};
 use std::alloc::Global;
 use std::mem::ManuallyDrop;

@@ -7,7 +7,7 @@ use Rattle.std.specs.Option.{ok_or}
 use Rattle.std.specs.Prelude.{not}
 use Rattle.picky_layout.specs.Outcome.{and_then}
 use Rattle.picky_wire.specs.declared.timestamp.Timestamp.{Timestamp}
-use Rattle.picky_sshpub.specs.declared.key.SshPublicKey.{SshPublicKey}
+use Rattle.picky_keys.specs.declared.key.SshPublicKey.{SshPublicKey}
 use Rattle.picky_authorized.specs.declared.auth_option.AuthOption.{AuthOption}
 use Rattle.picky_authorized.specs.declared.entry.AuthEntry.{AuthEntry}
 use Rattle.picky_cert.specs.declared.certificate.SshCertificate.{SshCertificate}

@@ -4,10 +4,10 @@ use Rattle.std.proofs.lemmas.Bool.{cases_Bool, false_from_ne_true}
 use Rattle.std.proofs.lemmas.Slice.Eq.{bytes_eq-Decides}
 use Rattle.std.specs.List.{AllByRecursion}
 use Rattle.picky_layout.proofs.Grammar.{one_front}
-use Rattle.picky_sshpub.specs.Blob.{blob, blob_of}
-use Rattle.picky_sshpub.specs.Key.{IsKey}
-use Rattle.picky_sshpub.specs.carried.Blob.{blob_spells}
-use Rattle.picky_sshpub.specs.declared.key.SshBasePublicKey.{SshBasePublicKey}
+use Rattle.picky_keys.specs.Blob.{blob, blob_of}
+use Rattle.picky_keys.specs.Key.{IsKey}
+use Rattle.picky_keys.specs.carried.Blob.{blob_spells}
+use Rattle.picky_keys.specs.declared.key.SshBasePublicKey.{SshBasePublicKey}
 use Rattle.picky_authorized.specs.declared.entry.AuthEntry.{AuthEntry}
 use Rattle.picky_policy.specs.Decided.{IsLineFor, Line, is_for, is_key, line_for, line_of}
 

@@ -5,8 +5,8 @@ use Rattle.picky_layout.specs.Outcome.{map_err, map_ok}
 use Rattle.picky_text.specs.Base64.{base64_of, decoded}
 use Rattle.picky_text.specs.Words.{body_word}
 use Rattle.picky_text.proofs.Base64Laws.{base64_is_read_back}
-use Rattle.picky_sshpub.specs.LineRefusal.{line_meaning}
-use Rattle.picky_sshpub.proofs.LineLaws.{line_meaning_of, line_meaning_says}
+use Rattle.picky_keys.specs.LineRefusal.{line_meaning}
+use Rattle.picky_keys.proofs.LineLaws.{line_meaning_of, line_meaning_says}
 use Rattle.picky_cert.specs.Certificate.{certificate, certified, said, signed_in}
 use Rattle.picky_cert.specs.Line.{IsCertificateLine}
 use Rattle.picky_cert.specs.LineRefusal.{line_meaning as certificate_of}

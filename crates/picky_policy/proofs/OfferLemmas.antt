@@ -7,7 +7,7 @@ use Rattle.std.specs.Prelude.{is_ok}
 use Rattle.picky_layout.specs.Flaw.{Why}
 use Rattle.picky_layout.specs.Outcome.{and_then, map_err}
 use Rattle.picky_text.specs.Words.{body_word, first_word}
-use Rattle.picky_sshpub.specs.LineRefusal.{comment_text, is_short, is_short_text}
+use Rattle.picky_keys.specs.LineRefusal.{comment_text, is_short, is_short_text}
 use Rattle.picky_cert_blob.specs.Layout.{body as signed_layout}
 use Rattle.picky_cert_blob.specs.Reason.{CertReason, why_in}
 use Rattle.picky_cert.specs.Certificate.{certificate, signed_in}

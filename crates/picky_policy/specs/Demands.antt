@@ -3,8 +3,8 @@ use Rattle.std.specs.Prelude.{◌≡◌, ◌==◌, ℕ, Bool, true, false, List,
 use Rattle.std.specs.Prelude.{length, if◌then◌else◌}
 use Rattle.std.specs.Option.{option_map}
 use Rattle.picky_layout.specs.Wire.{text}
-use Rattle.picky_cert_names.specs.declared.option_type.SshCriticalOptionType.{SshCriticalOptionType}
-use Rattle.picky_cert_names.specs.declared.option_type.SshCriticalOptionType.TheVariants.{ForceCommand, SourceAddress, VerifyRequired}
+use Rattle.picky_cert_parts.specs.declared.option_type.SshCriticalOptionType.{SshCriticalOptionType}
+use Rattle.picky_cert_parts.specs.declared.option_type.SshCriticalOptionType.TheVariants.{ForceCommand, SourceAddress, VerifyRequired}
 use Rattle.picky_cert_parts.specs.declared.critical_option.SshCriticalOption.{SshCriticalOption}
 use Rattle.picky_issuing.specs.Steps.{some_then}
 

@@ -4,9 +4,9 @@ use Rattle.picky_layout.specs.Numbers.{IsBytes}
 use Rattle.picky_layout.specs.Outcome.{map_err, map_ok}
 use Rattle.picky_text.specs.Base64.{base64_of, decoded}
 use Rattle.picky_text.specs.Words.{body_word}
-use Rattle.picky_sshpub.specs.Line.{IsPublicLine}
-use Rattle.picky_sshpub.specs.LineRefusal.{line_meaning}
-use Rattle.picky_sshpub.specs.declared.error.SshPublicKeyError.TheVariants as public
+use Rattle.picky_keys.specs.Line.{IsPublicLine}
+use Rattle.picky_keys.specs.LineRefusal.{line_meaning}
+use Rattle.picky_keys.specs.declared.error.SshPublicKeyError.TheVariants as public
 use Rattle.picky_cert.specs.Certificate.{signed_in}
 use Rattle.picky_cert.specs.Line.{IsCertificateLine}
 use Rattle.picky_cert.specs.LineRefusal.{line_meaning as certificate_of}

@@ -2,7 +2,7 @@
 use Rattle.std.specs.Prelude.{◌≡◌, ◌↔◌, ℕ, Bool, true, IsTrue, List, Option, Some, None, Result, IfOk, IsErr, OnErr, OnOk}
 use Rattle.picky_wire.specs.Count.{Calls, Rose, count_one, failed, next_fails, passed}
 use Rattle.picky_wire.specs.declared.error.Failed.{Failed}
-use Rattle.picky_sshpub.specs.declared.key.SshBasePublicKey.{SshBasePublicKey}
+use Rattle.picky_keys.specs.declared.key.SshBasePublicKey.{SshBasePublicKey}
 use Rattle.picky_cert_parts.specs.declared.signature.SshSignature.{SshSignature}
 
 -- which signatures are good: under a key, of a message

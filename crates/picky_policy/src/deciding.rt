@@ -20,7 +20,7 @@ use crate::rules::judge;
 use crate::verifier::Verifier;
 use picky_authorized::{AuthEntry, AuthOption, CERT_AUTHORITY, PRINCIPALS};
 use picky_cert::SshCertificate;
-use picky_sshpub::SshPublicKey;
+use picky_keys::SshPublicKey;
 use picky_wire::{List, NoMemory, Text, Timestamp, TryClone};
 use std::alloc::Global;
 use thiserror::Error;

@@ -2,13 +2,13 @@
 
 ghost use Rattle.std.specs.Prelude.{◌≡◌, ◌↔◌, ◌-◌, ◌^◌, ℕ, List, Some, min};
 ghost use Rattle.std.proofs.Common.{arith};
-ghost use Rattle.picky_sshpub.specs.declared.key.SshBasePublicKey.{SshBasePublicKey as BaseKey};
+ghost use Rattle.picky_keys.specs.declared.key.SshBasePublicKey.{SshBasePublicKey as BaseKey};
 ghost use Rattle.picky_cert_parts.specs.declared.signature.SshSignature.{SshSignature as Signature};
 ghost use Rattle.picky_policy.specs.Verifies.{Verifies, VerifiesAsHanded, HandedVerifierState, SaysAsHanded};
 
 use crate::verifier::Verifier;
 use picky_cert::SshSignature;
-use picky_sshpub::SshBasePublicKey;
+use picky_keys::SshBasePublicKey;
 use picky_wire::{Bytes, Failed};
 use std::marker::Model;
 

@@ -7,7 +7,7 @@ ghost use Rattle.picky_wire.specs.Equality.{IsEquality};
 ghost use Rattle.picky_wire.specs.declared.timestamp.Timestamp.{Timestamp as Moment};
 ghost use Rattle.picky_input.specs.Input.{input_limit};
 ghost use Rattle.picky_input.specs.SourceText.{IsSourceText};
-ghost use Rattle.picky_sshpub.specs.declared.key.SshBasePublicKey.{SshBasePublicKey as BaseKey};
+ghost use Rattle.picky_keys.specs.declared.key.SshBasePublicKey.{SshBasePublicKey as BaseKey};
 ghost use Rattle.picky_authorized.specs.declared.auth_option.AuthOption.{AuthOption as AnOption};
 ghost use Rattle.picky_authorized.specs.declared.entry.AuthEntry.{AuthEntry as Entry};
 ghost use Rattle.picky_cert.specs.Certificate.{said};

@@ -10,7 +10,7 @@ ghost use Rattle.picky_policy.specs.Offer.{message_in, message_of, offer_as, off
 
 use picky_cert::{CertView, SshCertificate, SshCertificateError};
 use picky_key_text::{Form, ReadError, form_of};
-use picky_sshpub::{SshPublicKey, SshPublicKeyError};
+use picky_keys::{SshPublicKey, SshPublicKeyError};
 use picky_text::{Base64Error, decode, split_word};
 use picky_wire::{Bytes, NoMemory};
 use std::alloc::Global;

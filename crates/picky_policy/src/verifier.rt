@@ -1,12 +1,12 @@
 //! The verification of signatures that callers hand in.
 
 ghost use Rattle.std.specs.Prelude.{◌^◌, ◌<◌, ℕ, List};
-ghost use Rattle.picky_sshpub.specs.declared.key.SshBasePublicKey.{SshBasePublicKey as BaseKey};
+ghost use Rattle.picky_keys.specs.declared.key.SshBasePublicKey.{SshBasePublicKey as BaseKey};
 ghost use Rattle.picky_cert_parts.specs.declared.signature.SshSignature.{SshSignature as Signature};
 ghost use Rattle.picky_policy.specs.Verifies.{Verifies};
 
 use picky_cert::SshSignature;
-use picky_sshpub::SshBasePublicKey;
+use picky_keys::SshBasePublicKey;
 use picky_wire::Failed;
 
 /// A device that verifies signatures. Which ones are good is a relation that no call changes.

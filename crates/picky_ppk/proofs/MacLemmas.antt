@@ -4,7 +4,7 @@ use Rattle.std.proofs.Common.{refl, sym, ◌∙◌}
 use Rattle.picky_layout.specs.carried.Outcome.{passed_ok}
 use Rattle.picky_kv_words.specs.ChoiceFields.{encryption_field}
 use Rattle.picky_kv.specs.AlgorithmField.{algorithm_field}
-use Rattle.picky_sshpub.specs.LineRefusal.{is_short}
+use Rattle.picky_keys.specs.LineRefusal.{is_short}
 use Rattle.picky_ppk_parts.specs.declared.error.PuttyError.TheVariants as errors
 use Rattle.picky_ppk_parts.specs.Mac.{input_bytes, mac_input}
 use Rattle.picky_ppk_file.specs.declared.file.PpkFile.{PpkFile}

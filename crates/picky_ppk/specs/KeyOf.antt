@@ -13,7 +13,7 @@ use Rattle.picky_ppk_parts.specs.declared.error.PuttyError.{PuttyError}
 use Rattle.picky_ppk_parts.specs.declared.error.PuttyError.TheVariants as errors
 use Rattle.picky_ppk_parts.specs.PartsRefusal.{parts_key, key_in_blob}
 use Rattle.picky_ppk_parts.specs.Unsupported.{no_hardware_keys}
-use Rattle.picky_putty_public.specs.PuttyRefusal.{plain_key}
+use Rattle.picky_ppk_file.specs.PuttyRefusal.{plain_key}
 use Rattle.picky_ppk_file.specs.declared.file.PpkFile.{PpkFile}
 use Rattle.picky_ppk.specs.Changed.{open_file}
 

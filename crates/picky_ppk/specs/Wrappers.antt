@@ -3,7 +3,7 @@ use Rattle.std.specs.Prelude.{List, ℕ, Option, Result, Ok, Err, if◌then◌el
 use Rattle.picky_layout.specs.Outcome.{and_then, map_err}
 use Rattle.picky_keys.specs.declared.private_key.PrivateKey.{PrivateKey}
 use Rattle.picky_keys.specs.declared.public_key.PublicKey.{PublicKey}
-use Rattle.picky_sshpub.specs.declared.key.SshBasePublicKey.{SshBasePublicKey}
+use Rattle.picky_keys.specs.declared.key.SshBasePublicKey.{SshBasePublicKey}
 use Rattle.picky_sshkey_blob.specs.declared.key.SshBasePrivateKey.{SshBasePrivateKey}
 use Rattle.picky_sshkey.specs.declared.private_key.SshPrivateKey.{SshPrivateKey}
 use Rattle.picky_sshkey.specs.Made.{key_made}
@@ -12,7 +12,7 @@ use Rattle.picky_ppk_parts.specs.declared.key_parts.KeyParts.{KeyParts}
 use Rattle.picky_ppk_parts.specs.KeyParts.{blob_within, key_parts}
 use Rattle.picky_ppk_parts.specs.PartsRefusal.{parts_key, key_in_blob}
 use Rattle.picky_ppk_parts.specs.Unsupported.{no_hardware_keys}
-use Rattle.picky_putty_public.specs.PuttyRefusal.{is_hardware, plain_key}
+use Rattle.picky_ppk_file.specs.PuttyRefusal.{is_hardware, plain_key}
 use Rattle.picky_ppk.specs.declared.wrappers.PuttyBasePublicKey.{PuttyBasePublicKey}
 use Rattle.picky_ppk.specs.declared.wrappers.PuttyBasePrivateKey.{PuttyBasePrivateKey}
 use Rattle.picky_ppk.specs.declared.wrappers.PuttyPrivateKey.{PuttyPrivateKey}

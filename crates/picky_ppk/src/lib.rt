@@ -20,7 +20,7 @@ pub use picky_ppk_parts::{
     Argon2Flavour, Argon2Params, KeyMaterialV2, KeyMaterialV3, MAC_SIZE_V3, PpkEncryptionConfig,
     PpkEncryptionConfigBuilder, PpkKeyAlgorithm, PpkVersion, PuttyError, flavour_of,
 };
-pub use picky_putty_public::PuttyPublicKey;
+pub use picky_ppk_file::PuttyPublicKey;
 pub use ppk::Ppk;
 pub use sealing::can_derive_by;
 pub use wrappers::{PuttyBasePrivateKey, PuttyBasePublicKey, PuttyPrivateKey};

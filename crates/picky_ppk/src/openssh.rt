@@ -6,7 +6,7 @@ ghost use Rattle.picky_layout.specs.Outcome.{and_then, map_err};
 ghost use Rattle.picky_wire.specs.Gives.{Gives};
 ghost use Rattle.picky_sshkey.specs.Made.{key_made};
 ghost use Rattle.picky_ppk_parts.specs.PartsRefusal.{key_in_blob as key_in_blob_of};
-ghost use Rattle.picky_putty_public.specs.PuttyRefusal.{plain_key as plain_key_of};
+ghost use Rattle.picky_ppk_file.specs.PuttyRefusal.{plain_key as plain_key_of};
 ghost use Rattle.picky_ppk.specs.Mac.{CarriesMac};
 ghost use Rattle.picky_ppk.specs.Changed.{of_openssh, of_base_key, file_of_parts as file_of_parts_of};
 ghost use Rattle.picky_ppk.specs.KeyOf.{base_key_of, to_openssh, private_key_of, public_key_of, made_error};
@@ -15,11 +15,10 @@ ghost use Rattle.picky_ppk.specs.KeyOf.{plain_private as plain_private_of};
 use crate::changing::remade;
 use crate::ppk::Ppk;
 use picky_keys::{PrivateKey, PublicKey};
-use picky_ppk_file::{PpkFile, PpkSealing};
+use picky_ppk_file::{PpkFile, PpkSealing, PuttyPublicKey, plain_key};
 use picky_ppk_parts::{
     KeyParts, PpkVersion, PuttyError, key_in_blob, no_hardware_keys, private_key_of as key_of_parts,
 };
-use picky_putty_public::{PuttyPublicKey, plain_key};
 use picky_sshkey::{SshBasePrivateKey, SshPrivateKey, SshPrivateKeyError};
 use picky_suite::Suite;
 use picky_wire::{Bytes, NoMemory, Text, TryClone, both};

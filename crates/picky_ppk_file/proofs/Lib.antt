@@ -1,3 +1,14 @@
+pub mod QuotedLemmas
+pub mod BodyLemmas
+pub mod HeaderLemmas
+pub mod PuttyLemmas
+pub mod LawLemmas
+pub mod BodyLaws
+pub mod CommentLaws
+pub mod KeyLaws
+pub mod MeaningLaws
+pub mod PuttyLaws
+pub mod QuoteMarks
 pub mod LineSteps
 pub mod FrontLaws
 pub mod FileLaws

@@ -14,8 +14,8 @@ use Rattle.picky_kv_words.specs.declared.choices.PpkVersionKey.{PpkVersionKey}
 use Rattle.picky_kv_words.specs.declared.choices.PpkVersionKey.TheVariants.{V2, V3}
 use Rattle.picky_kv_words.specs.declared.choices.PpkEncryptionValue.{PpkEncryptionValue}
 use Rattle.picky_kv_words.specs.declared.choices.PpkEncryptionValue.TheVariants.{None, Aes256Cbc}
-use Rattle.picky_kv_values.specs.Values.{AreFewBytes, is_long, comment_row, base64_row, hex_row, hex_decoded}
-use Rattle.picky_kv_values.specs.ValueFields.{comment_field, base64_field, hex_field}
+use Rattle.picky_kv_words.specs.Values.{AreFewBytes, is_long, comment_row, base64_row, hex_row, hex_decoded}
+use Rattle.picky_kv_words.specs.ValueFields.{comment_field, base64_field, hex_field}
 use Rattle.picky_kv.specs.NumberFields.{u32_field}
 use Rattle.picky_kv.specs.Numbers.{u32_row, number_below}
 use Rattle.picky_kv.specs.Parts.{IsPair, IsBlock}
@@ -29,7 +29,7 @@ use Rattle.picky_ppk_file.specs.File.{AreParams, IsSealing, IsFile}
 use Rattle.picky_ppk_file.specs.FileText.{SaysArgon2, SaysSealing}
 use Rattle.picky_ppk_file.specs.FileRefusal.{file_meaning}
 use Rattle.picky_ppk_file.proofs.LineSteps.{judged_ok}
-use Rattle.picky_block.proofs.LineBytes.{EachByte, AreBytes, lines_are_bytes, joined_is_bytes, each_by_place}
+use Rattle.picky_kv.proofs.LineBytes.{EachByte, AreBytes, lines_are_bytes, joined_is_bytes, each_by_place}
 use Rattle.picky_ppk_file.proofs.FileLaws.{meaning_is_said}
 
 -- ---- what each text gives

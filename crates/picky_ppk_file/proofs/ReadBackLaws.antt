@@ -18,7 +18,7 @@ use Rattle.picky_kv_words.specs.Argon2Keys.{argon2_salt_key_row}
 use Rattle.picky_kv_words.specs.Choices.{version_row}
 use Rattle.picky_kv_words.specs.ChoiceFields.{version_field, encryption_field, flavour_field}
 use Rattle.picky_kv_words.specs.declared.choices.PpkVersionKey.TheVariants.{V2, V3}
-use Rattle.picky_kv_values.specs.ValueFields.{comment_field, hex_field}
+use Rattle.picky_kv_words.specs.ValueFields.{comment_field, hex_field}
 use Rattle.picky_kv.specs.AlgorithmField.{algorithm_field}
 use Rattle.picky_kv.specs.NumberFields.{u32_field}
 use Rattle.picky_kv.specs.carried.Pairs.{version_field_is_plain, encryption_key_is_plain, comment_key_is_plain}
@@ -29,7 +29,7 @@ use Rattle.picky_kv.specs.carried.Pairs.{argon2_passes_key_is_plain}
 use Rattle.picky_kv.specs.carried.Pairs.{argon2_parallelism_key_is_plain, argon2_salt_key_is_plain}
 use Rattle.picky_kv.proofs.OneLineLemmas.{algorithms_are_one_line, encryptions_are_one_line, flavours_are_one_line}
 use Rattle.picky_kv.proofs.OneLineLemmas.{numbers_are_one_line, hex_is_one_line}
-use Rattle.picky_sshpub.specs.LineRefusal.{is_short}
+use Rattle.picky_keys.specs.LineRefusal.{is_short}
 use Rattle.picky_ppk_parts.specs.declared.error.PuttyError.TheVariants as errors
 use Rattle.picky_ppk_parts.specs.declared.material.Argon2Params.{Argon2Params}
 use Rattle.picky_ppk_file.specs.declared.file.PpkSealing.{PpkSealing}

@@ -9,7 +9,7 @@ use Rattle.picky_kv_words.specs.declared.choices.PpkVersionKey.{PpkVersionKey}
 use Rattle.picky_kv_words.specs.declared.choices.PpkVersionKey.TheVariants.{V2, V3}
 use Rattle.picky_kv_words.specs.declared.choices.PpkEncryptionValue.{PpkEncryptionValue}
 use Rattle.picky_kv_words.specs.declared.choices.PpkEncryptionValue.TheVariants.{None, Aes256Cbc}
-use Rattle.picky_kv_values.specs.ValueFields.{comment_field, base64_field, hex_field}
+use Rattle.picky_kv_words.specs.ValueFields.{comment_field, base64_field, hex_field}
 use Rattle.picky_kv.specs.AlgorithmField.{algorithm_field}
 use Rattle.picky_kv.specs.NumberFields.{u32_field}
 use Rattle.picky_kv.specs.Parts.{IsPair, IsBlock}

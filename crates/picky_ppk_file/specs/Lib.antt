@@ -1,3 +1,5 @@
+pub mod PuttyPublic
+pub mod PuttyRefusal
 pub mod File
 pub mod FileText
 pub mod FileRefusal

@@ -10,11 +10,11 @@ use Rattle.picky_kv_words.specs.Argon2Keys.{argon2_parallelism_key, argon2_salt_
 use Rattle.picky_kv_words.specs.ChoiceFields.{version_field, encryption_field, flavour_field}
 use Rattle.picky_kv_words.specs.declared.choices.PpkVersionKey.{PpkVersionKey}
 use Rattle.picky_kv_words.specs.declared.choices.PpkVersionKey.TheVariants.{V2, V3}
-use Rattle.picky_kv_values.specs.ValueFields.{comment_field, base64_field, hex_field}
+use Rattle.picky_kv_words.specs.ValueFields.{comment_field, base64_field, hex_field}
 use Rattle.picky_kv.specs.AlgorithmField.{algorithm_field}
 use Rattle.picky_kv.specs.NumberFields.{u32_field}
 use Rattle.picky_kv.specs.Output.{pair_line, block_lines}
-use Rattle.picky_sshpub.specs.LineRefusal.{is_short}
+use Rattle.picky_keys.specs.LineRefusal.{is_short}
 use Rattle.picky_ppk_parts.specs.declared.error.PuttyError.{PuttyError}
 use Rattle.picky_ppk_parts.specs.declared.error.PuttyError.TheVariants as errors
 use Rattle.picky_ppk_parts.specs.declared.material.Argon2Params.{Argon2Params}

@@ -4,7 +4,11 @@
 
 mod file;
 pub mod laws;
+pub mod public_laws;
+mod putty_public;
 mod reading;
 mod writing;
 
 pub use file::{PpkFile, PpkSealing};
+pub use picky_ppk_parts::PuttyError;
+pub use putty_public::{PuttyPublicKey, is_hardware, plain_key};

@@ -6,9 +6,9 @@ use Rattle.picky_layout.specs.carried.Inside.{front_sound, front_complete}
 use Rattle.picky_layout.specs.Outcome.{and_then, map_err}
 use Rattle.picky_layout.specs.carried.Outcome.{and_then_ok, map_err_ok}
 use Rattle.picky_kv.specs.declared.algorithm.PpkKeyAlgorithmValue.{PpkKeyAlgorithmValue}
-use Rattle.picky_sshpub.specs.Blob.{blob as blob_layout}
-use Rattle.picky_sshpub.specs.LineRefusal.{blob_key}
-use Rattle.picky_sshpub.proofs.LineLaws.{blob_key_of, blob_key_fits}
+use Rattle.picky_keys.specs.Blob.{blob as blob_layout}
+use Rattle.picky_keys.specs.LineRefusal.{blob_key}
+use Rattle.picky_keys.proofs.LineLaws.{blob_key_of, blob_key_fits}
 use Rattle.picky_sshkey_blob.specs.declared.key.SshBasePrivateKey.{SshBasePrivateKey}
 use Rattle.picky_ppk_parts.specs.declared.error.PuttyError.TheVariants as errors
 use Rattle.picky_ppk_parts.specs.Algorithm.{ssh_key_of, key_under}

@@ -16,10 +16,10 @@ use Rattle.picky_kv.specs.declared.algorithm.PpkKeyAlgorithmValue.TheVariants as
 use Rattle.picky_keys.specs.declared.curve.EcCurve.{EcCurve}
 use Rattle.picky_keys.specs.declared.public_key.PublicKey.{PublicKey}
 use Rattle.picky_keys.specs.declared.public_key.PublicKey.TheVariants as plain
-use Rattle.picky_sshpub.specs.Key.{IsKey}
-use Rattle.picky_sshpub.specs.Blob.{blob as blob_layout, blob_of}
-use Rattle.picky_sshpub.specs.carried.Blob.{blob_spells}
-use Rattle.picky_sshpub.specs.LineRefusal.{is_short}
+use Rattle.picky_keys.specs.Key.{IsKey}
+use Rattle.picky_keys.specs.Blob.{blob as blob_layout, blob_of}
+use Rattle.picky_keys.specs.carried.Blob.{blob_spells}
+use Rattle.picky_keys.specs.LineRefusal.{is_short}
 use Rattle.picky_sshkey_blob.specs.declared.key.SshBasePrivateKey.{SshBasePrivateKey}
 use Rattle.picky_sshkey_blob.specs.declared.key.SshBasePrivateKey.TheVariants as keys
 use Rattle.picky_sshkey_blob.specs.Key.{IsPrivateKey, public_part}

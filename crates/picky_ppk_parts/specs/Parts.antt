@@ -3,7 +3,7 @@ use Rattle.std.specs.Prelude.{◌≡◌, List, ℕ}
 use Rattle.picky_layout.specs.Front.{Begins}
 use Rattle.picky_kv.specs.declared.algorithm.PpkKeyAlgorithmValue.{PpkKeyAlgorithmValue}
 use Rattle.picky_keys.specs.declared.public_key.PublicKey.{PublicKey}
-use Rattle.picky_sshpub.specs.Blob.{blob as blob_layout}
+use Rattle.picky_keys.specs.Blob.{blob as blob_layout}
 use Rattle.picky_sshkey_blob.specs.declared.key.SshBasePrivateKey.{SshBasePrivateKey}
 use Rattle.picky_ppk_parts.specs.Algorithm.{algorithm_of, ssh_key_of}
 use Rattle.picky_ppk_parts.specs.Secret.{ppk_secret_fields}

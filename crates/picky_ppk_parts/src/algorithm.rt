@@ -9,8 +9,7 @@ ghost use Rattle.picky_ppk_parts.specs.Algorithm.{curve_algorithm as curve_algor
 use crate::error::PuttyError;
 use crate::names::PpkKeyAlgorithm;
 use crate::unsupported::no_such_algorithm;
-use picky_keys::{EcCurve, PublicKey};
-use picky_sshpub::SshBasePublicKey;
+use picky_keys::{EcCurve, PublicKey, SshBasePublicKey};
 use std::alloc::Global;
 
 /// The key, where it is of the algorithm's kind and curve.

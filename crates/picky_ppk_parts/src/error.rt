@@ -1,6 +1,6 @@
 //! Why a PuTTY file is not read or made.
 
-use picky_sshpub::SshPublicKeyError;
+use picky_keys::SshPublicKeyError;
 use picky_wire::{IoKind, Text};
 use thiserror::Error;
 

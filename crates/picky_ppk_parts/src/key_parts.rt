@@ -13,7 +13,7 @@ use crate::joined::joined_pieces;
 use crate::names::PpkKeyAlgorithm;
 use crate::unsupported::no_hardware_keys;
 use picky_sshkey_blob::SshBasePrivateKey;
-use picky_sshpub::{SshBasePublicKey, SshPublicKeyError};
+use picky_keys::{SshBasePublicKey, SshPublicKeyError};
 use picky_wire::{Bytes, MAX_LEN, Mpint, NoMemory, Piece, TryClone};
 use std::alloc::Global;
 

@@ -8,9 +8,8 @@ use crate::algorithm::key_under;
 use crate::error::PuttyError;
 use crate::names::PpkKeyAlgorithm;
 use crate::secret::key_with_secret;
-use picky_keys::PublicKey;
+use picky_keys::{PublicKey, SshBasePublicKey, SshPublicKeyError};
 use picky_sshkey_blob::SshBasePrivateKey;
-use picky_sshpub::{SshBasePublicKey, SshPublicKeyError};
 use picky_wire::Bytes;
 use std::alloc::Global;
 

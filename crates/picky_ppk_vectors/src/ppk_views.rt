@@ -5,7 +5,7 @@ use crate::ppk_files::{p256_ppk, ppk_of, row_ppk};
 use crate::putty_public::shown;
 use picky_key_rows::{PPK_ROWS, PRIVATE_ROWS, PpkRow, SEALED_V3, VERSIONS};
 use picky_ppk::{Ppk, PpkVersion};
-use picky_sshpub::SshPublicKey;
+use picky_keys::SshPublicKey;
 use picky_wire::TryClone;
 use std::alloc::Global;
 use std::test::Fail;

@@ -6,7 +6,7 @@ use crate::putty_public::shown;
 use picky_key_rows::{PPK_ROWS, PRIVATE_ROWS, PpkRow, PrivateRow, unsealed};
 use picky_ppk::{PpkFile, PpkVersion, PuttyBasePrivateKey, PuttyBasePublicKey, PuttyPrivateKey};
 use picky_sshkey::SshPrivateKey;
-use picky_sshpub::SshPublicKey;
+use picky_keys::SshPublicKey;
 use picky_wire::TryClone;
 use std::alloc::Global;
 use std::mem::ManuallyDrop;

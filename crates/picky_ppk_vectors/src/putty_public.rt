@@ -3,9 +3,8 @@
 use crate::answers::{gives, is_text, kept};
 use crate::ppk_refusals::is_named;
 use picky_key_rows::KEY_ROWS;
-use picky_keys::{PublicKey, PublicKeyRef};
-use picky_putty_public::PuttyPublicKey;
-use picky_sshpub::SshPublicKey;
+use picky_keys::{PublicKey, PublicKeyRef, SshPublicKey};
+use picky_ppk_file::PuttyPublicKey;
 use picky_wire::TryClone;
 use std::alloc::{AllocError, Global};
 use std::mem::ManuallyDrop;

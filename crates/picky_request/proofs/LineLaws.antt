@@ -18,10 +18,10 @@ use Rattle.picky_text.proofs.ListLaws.{all_append, cut_at_first}
 use Rattle.picky_cert_parts.specs.declared.cert_type.SshCertType.{SshCertType}
 use Rattle.picky_cert_parts.specs.declared.cert_type.SshCertType.TheVariants.{Client, Host}
 use Rattle.picky_wire.specs.Moment.{moment}
-use Rattle.picky_sshpub.specs.declared.error.SshPublicKeyError.{SshPublicKeyError}
-use Rattle.picky_sshpub.specs.declared.key.SshPublicKey.{SshPublicKey}
-use Rattle.picky_sshpub.specs.LineRefusal.{is_short, line_meaning}
-use Rattle.picky_sshpub.proofs.LineLaws.{line_meaning_of, line_meaning_says}
+use Rattle.picky_keys.specs.declared.error.SshPublicKeyError.{SshPublicKeyError}
+use Rattle.picky_keys.specs.declared.key.SshPublicKey.{SshPublicKey}
+use Rattle.picky_keys.specs.LineRefusal.{is_short, line_meaning}
+use Rattle.picky_keys.proofs.LineLaws.{line_meaning_of, line_meaning_says}
 use Rattle.picky_issuing.specs.Steps.{some_then}
 use Rattle.picky_issuing.specs.Value.{cert_type_named, client, host, number_named}
 use Rattle.picky_request.specs.declared.request.CertRequestLine.{CertRequestLine}

@@ -6,8 +6,8 @@ use Rattle.std.specs.List.{after_first, before_first, position_or_len}
 use Rattle.std.specs.Result.{result_ok}
 use Rattle.picky_text.specs.Lines.{HasNo}
 use Rattle.picky_wire.specs.Moment.{moment}
-use Rattle.picky_sshpub.specs.Line.{IsPublicLine}
-use Rattle.picky_sshpub.specs.LineRefusal.{is_short, line_meaning}
+use Rattle.picky_keys.specs.Line.{IsPublicLine}
+use Rattle.picky_keys.specs.LineRefusal.{is_short, line_meaning}
 use Rattle.picky_issuing.specs.Steps.{some_then}
 use Rattle.picky_issuing.specs.Value.{cert_type_named, number_named}
 use Rattle.picky_request.specs.declared.request.CertRequestLine.{CertRequestLine}

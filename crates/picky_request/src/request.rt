@@ -2,7 +2,7 @@
 
 ghost use Rattle.std.specs.Prelude.{◌≡◌, ◌^◌, ◌<◌, length, IfOk};
 ghost use Rattle.std.specs.Result.{result_ok};
-ghost use Rattle.picky_sshpub.specs.LineRefusal.{line_meaning};
+ghost use Rattle.picky_keys.specs.LineRefusal.{line_meaning};
 ghost use Rattle.picky_request.specs.Request.{named, request_in, said_by};
 ghost use Rattle.picky_request.specs.inner.Shown.{words_shown};
 
@@ -10,7 +10,7 @@ use crate::names::{is_id, principals_of, text_of};
 use crate::words::{LineWords, words_of};
 use picky_cert_parts::SshCertType;
 use picky_issuing::{cert_type_of, number_of};
-use picky_sshpub::{SshPublicKey, SshPublicKeyError};
+use picky_keys::{SshPublicKey, SshPublicKeyError};
 use picky_wire::{List, MAX_LEN, NoMemory, Text, Timestamp};
 use std::alloc::Global;
 

@@ -7,7 +7,7 @@ use Rattle.picky_layout.specs.Numbers.{IsBytes}
 use Rattle.picky_layout.specs.Wire.{string_of}
 use Rattle.picky_layout.proofs.Numbers.{uint32_spells}
 use Rattle.picky_layout.proofs.Strings.{text_spells}
-use Rattle.picky_sshpub.proofs.ByteLaws.{bytes_first, bytes_joined, no_bytes, number_bytes, string_bytes_each}
+use Rattle.picky_keys.proofs.ByteLaws.{bytes_first, bytes_joined, no_bytes, number_bytes, string_bytes_each}
 use Rattle.picky_sshkey_blob.specs.Blob.{secret_of}
 use Rattle.picky_sshkey.specs.declared.private_key.SshPrivateKey.{SshPrivateKey}
 use Rattle.picky_sshkey.specs.Kept.{IsSshPrivateKey}

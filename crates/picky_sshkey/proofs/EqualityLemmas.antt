@@ -4,10 +4,10 @@ use Rattle.std.specs.Option.{option_eq}
 use Rattle.std.proofs.Common.{rules, ap, refl}
 use Rattle.std.proofs.lemmas.Bool.Decides.{Decides-and, Decides-like}
 use lib.Pointwise.{pointwise}
-use Rattle.picky_sshpub.specs.declared.key.SshPublicKey.{SshPublicKey}
+use Rattle.picky_keys.specs.declared.key.SshPublicKey.{SshPublicKey}
 use Rattle.picky_sshkey_blob.specs.declared.key.SshBasePrivateKey.{SshBasePrivateKey}
 use Rattle.picky_sshkey_blob.specs.contracts.key.SshBasePrivateKeyPartialEq.TheImpl as base
-use Rattle.picky_sshpub.specs.contracts.key.SshPublicKeyPartialEq.TheImpl as public
+use Rattle.picky_keys.specs.contracts.key.SshPublicKeyPartialEq.TheImpl as public
 use Rattle.picky_sshkey.specs.contracts.kdf.KdfPartialEq.TheImpl as derivation
 use Rattle.picky_sshkey.specs.contracts.private_key.SshPrivateKeyPartialEq.TheImpl as whole
 use Rattle.picky_sshkey.specs.declared.kdf.Kdf.{Kdf}

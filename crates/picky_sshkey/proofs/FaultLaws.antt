@@ -11,10 +11,10 @@ use Rattle.picky_layout.specs.Front.{read_front}
 use Rattle.picky_layout.specs.Outcome.{map_err}
 use Rattle.picky_layout.specs.Table.{find_entry}
 use Rattle.picky_layout.specs.Wire.{text as utf8, uint32}
-use Rattle.picky_pem.specs.PemRefusal.{after_header, before_footer, of_body, pem_content, short_content}
-use Rattle.picky_pem.specs.Pem.{packed}
-use Rattle.picky_pem.specs.declared.error.PemError.{PemError}
-use Rattle.picky_pem.specs.declared.error.PemError.TheVariants as pem
+use Rattle.picky_sshkey_blob.specs.PemRefusal.{after_header, before_footer, of_body, pem_content, short_content}
+use Rattle.picky_sshkey_blob.specs.Pem.{packed}
+use Rattle.picky_sshkey_blob.specs.declared.pem_error.PemError.{PemError}
+use Rattle.picky_sshkey_blob.specs.declared.pem_error.PemError.TheVariants as pem
 use Rattle.picky_suite.specs.Meanings.{Meanings}
 use Rattle.picky_suite.specs.Ranges.{bcrypt_fits}
 use Rattle.picky_text.specs.Base64.{decoded}

@@ -9,15 +9,15 @@ use Rattle.picky_layout.specs.Numbers.{IsBytes}
 use Rattle.picky_layout.specs.Outcome.{and_then, map_err}
 use Rattle.picky_layout.specs.carried.Outcome.{and_then_ok}
 use Rattle.picky_layout.proofs.Numbers.{bytes_in_front}
-use Rattle.picky_pem.specs.Pem.{pem_text}
-use Rattle.picky_pem.proofs.TextLaws.{text_is_long, text_read_back}
+use Rattle.picky_sshkey_blob.specs.Pem.{pem_text}
+use Rattle.picky_sshkey_blob.proofs.TextLaws.{text_is_long, text_read_back}
 use Rattle.picky_suite.specs.Meanings.{Meanings}
 use Rattle.picky_suite.proofs.RangeLemmas.{bcrypt_decides}
 use Rattle.picky_text.proofs.WordLaws.{IsUtf8-trim_end, trim_end-trim_end, trim_end_front}
-use Rattle.picky_sshpub.specs.Blob.{blob_of}
-use Rattle.picky_sshpub.specs.Key.{IsText}
-use Rattle.picky_sshpub.specs.carried.Blob.{blob_spells}
-use Rattle.picky_sshpub.proofs.LineLaws.{chosen}
+use Rattle.picky_keys.specs.Blob.{blob_of}
+use Rattle.picky_keys.specs.Key.{IsText}
+use Rattle.picky_keys.specs.carried.Blob.{blob_spells}
+use Rattle.picky_keys.proofs.LineLaws.{chosen}
 use Rattle.picky_sshkey_blob.specs.Key.{public_part}
 use Rattle.picky_sshkey_blob.specs.declared.error.SshPrivateKeyError.TheVariants as errors
 use Rattle.picky_sshkey_blob.proofs.KeyLaws.{public_part_is_key}

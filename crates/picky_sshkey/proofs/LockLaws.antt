@@ -15,7 +15,7 @@ use Rattle.picky_layout.proofs.Numbers.{front_bytes, back_bytes}
 use Rattle.picky_suite.specs.Meanings.{Meanings}
 use Rattle.picky_suite.specs.Ranges.{bcrypt_fits}
 use Rattle.picky_suite.proofs.RangeLemmas.{bcrypt_decides}
-use Rattle.picky_sshpub.proofs.LineLaws.{chosen, some_of}
+use Rattle.picky_keys.proofs.LineLaws.{chosen, some_of}
 use Rattle.picky_sshkey_blob.specs.declared.error.SshPrivateKeyError.TheVariants as errors
 use Rattle.picky_sshkey.specs.declared.cipher.Cipher.{Cipher}
 use Rattle.picky_sshkey.specs.declared.kdf.KdfOption.{KdfOption}

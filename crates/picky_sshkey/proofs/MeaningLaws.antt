@@ -10,13 +10,13 @@ use Rattle.picky_layout.specs.Outcome.{and_then, map_err}
 use Rattle.picky_layout.specs.carried.Inside.{front_complete, front_sound}
 use Rattle.picky_layout.specs.carried.Outcome.{and_then_ok, map_err_ok}
 use Rattle.picky_layout.proofs.Numbers.{bytes_in_front}
-use Rattle.picky_pem.specs.PemRefusal.{pem_content}
-use Rattle.picky_pem.proofs.MeaningLaws.{pem_means, pem_says}
+use Rattle.picky_sshkey_blob.specs.PemRefusal.{pem_content}
+use Rattle.picky_sshkey_blob.proofs.MeaningLaws.{pem_means, pem_says}
 use Rattle.picky_suite.specs.Meanings.{Meanings}
-use Rattle.picky_sshpub.specs.Blob.{blob}
-use Rattle.picky_sshpub.specs.LineRefusal.{is_short_text}
-use Rattle.picky_sshpub.specs.declared.key.SshBasePublicKey.{SshBasePublicKey}
-use Rattle.picky_sshpub.proofs.LineLaws.{chosen}
+use Rattle.picky_keys.specs.Blob.{blob}
+use Rattle.picky_keys.specs.LineRefusal.{is_short_text}
+use Rattle.picky_keys.specs.declared.key.SshBasePublicKey.{SshBasePublicKey}
+use Rattle.picky_keys.proofs.LineLaws.{chosen}
 use Rattle.picky_sshkey_blob.specs.Key.{IsPrivateKey, public_part}
 use Rattle.picky_sshkey_blob.specs.declared.error.SshPrivateKeyError.TheVariants as errors
 use Rattle.picky_sshkey_blob.specs.declared.key.SshBasePrivateKey.{SshBasePrivateKey}

@@ -3,9 +3,9 @@ use Rattle.std.specs.Prelude.{List, [], ◌∷◌, ℕ, ◌<◌, ◌^◌}
 use Rattle.std.proofs.Common.{arith, subst, sym}
 use Rattle.picky_layout.specs.Numbers.{IsBytes}
 use Rattle.picky_layout.proofs.Numbers.{bytes_in_front, bytes_behind, uint32_exact}
-use Rattle.picky_sshpub.proofs.ByteLaws.{no_bytes}
-use Rattle.picky_sshpub.specs.Key.{IsText}
-use Rattle.picky_sshpub.proofs.KeyLaws.{string_keeps, text_keeps}
+use Rattle.picky_keys.proofs.ByteLaws.{no_bytes}
+use Rattle.picky_keys.specs.Key.{IsText}
+use Rattle.picky_keys.proofs.KeyLaws.{string_keeps, text_keeps}
 use Rattle.picky_sshkey_blob.specs.Key.{IsPrivateKey}
 use Rattle.picky_sshkey_blob.proofs.KeyLaws.{spelled_is_key}
 use Rattle.picky_sshkey.specs.declared.kdf.KdfOption.{KdfOption}

@@ -9,14 +9,14 @@ use Rattle.picky_layout.specs.Outcome.{and_then, map_err}
 use Rattle.picky_layout.specs.carried.Outcome.{and_then_ok}
 use Rattle.picky_layout.proofs.Grammar.{one_front}
 use Rattle.picky_layout.proofs.Numbers.{bytes_in_front}
-use Rattle.picky_sshpub.specs.Blob.{blob, blob_of}
-use Rattle.picky_sshpub.specs.BlobRefusal.{blob_error, read_blob}
-use Rattle.picky_sshpub.specs.Key.{IsKey}
-use Rattle.picky_sshpub.specs.LineRefusal.{blob_key}
-use Rattle.picky_sshpub.specs.carried.Blob.{blob_spells}
-use Rattle.picky_sshpub.specs.declared.error.SshPublicKeyError.{SshPublicKeyError}
-use Rattle.picky_sshpub.specs.declared.key.SshBasePublicKey.{SshBasePublicKey}
-use Rattle.picky_sshpub.proofs.KeyLaws.{spelled_is_key}
+use Rattle.picky_keys.specs.Blob.{blob, blob_of}
+use Rattle.picky_keys.specs.BlobRefusal.{blob_error, read_blob}
+use Rattle.picky_keys.specs.Key.{IsKey}
+use Rattle.picky_keys.specs.LineRefusal.{blob_key}
+use Rattle.picky_keys.specs.carried.Blob.{blob_spells}
+use Rattle.picky_keys.specs.declared.error.SshPublicKeyError.{SshPublicKeyError}
+use Rattle.picky_keys.specs.declared.key.SshBasePublicKey.{SshBasePublicKey}
+use Rattle.picky_keys.proofs.KeyLaws.{spelled_is_key}
 use Rattle.picky_sshkey_blob.specs.Key.{IsPrivateKey, public_part}
 use Rattle.picky_sshkey_blob.specs.declared.key.SshBasePrivateKey.{SshBasePrivateKey}
 use Rattle.picky_sshkey_blob.proofs.KeyLaws.{public_part_is_key}

@@ -5,8 +5,8 @@ use Rattle.std.proofs.Common.{arith, subst, sym}
 use Rattle.picky_layout.specs.Numbers.{IsBytes}
 use Rattle.picky_layout.proofs.Numbers.{bytes_in_front}
 use Rattle.picky_suite.specs.Meanings.{Meanings}
-use Rattle.picky_sshpub.specs.Key.{IsString, IsText}
-use Rattle.picky_sshpub.proofs.ByteLaws.{no_bytes}
+use Rattle.picky_keys.specs.Key.{IsString, IsText}
+use Rattle.picky_keys.proofs.ByteLaws.{no_bytes}
 use Rattle.picky_sshkey_blob.specs.declared.key.SshBasePrivateKey.{SshBasePrivateKey}
 use Rattle.picky_sshkey_blob.specs.Key.{IsPrivateKey}
 use Rattle.picky_sshkey.specs.declared.private_key.SshPrivateKey.{SshPrivateKey}

@@ -11,9 +11,9 @@ use Rattle.picky_layout.specs.Wire.{string_of}
 use Rattle.picky_layout.proofs.Fixed.{fixed_uint32_spells, raw_spells}
 use Rattle.picky_layout.proofs.Numbers.{byte_spells}
 use Rattle.picky_layout.proofs.Strings.{string_spells, text_spells}
-use Rattle.picky_sshpub.specs.Blob.{blob_of}
-use Rattle.picky_sshpub.proofs.ByteLaws.{bytes_by_test, bytes_first, bytes_joined, no_bytes, number_bytes, string_bytes_each}
-use Rattle.picky_sshpub.proofs.LineLaws.{blob_is_bytes}
+use Rattle.picky_keys.specs.Blob.{blob_of}
+use Rattle.picky_keys.proofs.ByteLaws.{bytes_by_test, bytes_first, bytes_joined, no_bytes, number_bytes, string_bytes_each}
+use Rattle.picky_keys.proofs.LineLaws.{blob_is_bytes}
 use Rattle.picky_sshkey_blob.specs.Key.{public_part}
 use Rattle.picky_sshkey_blob.proofs.KeyLaws.{public_part_is_key}
 use Rattle.picky_sshkey.specs.declared.kdf.KdfOption.{KdfOption}

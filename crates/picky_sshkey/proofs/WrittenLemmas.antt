@@ -7,7 +7,7 @@ use Rattle.std.proofs.lemmas.List.{append-nil, append_assoc}
 use Rattle.picky_layout.specs.Wire.{string_of}
 use Rattle.picky_suite.specs.Ranges.{BcryptOk}
 use Rattle.picky_suite.proofs.RangeLemmas.{bcrypt_decides}
-use Rattle.picky_sshpub.specs.Blob.{blob_of}
+use Rattle.picky_keys.specs.Blob.{blob_of}
 use Rattle.picky_sshkey_blob.specs.Key.{public_part}
 use Rattle.picky_sshkey.specs.declared.kdf.KdfOption.{KdfOption}
 use Rattle.picky_sshkey.specs.declared.private_key.SshPrivateKey.{SshPrivateKey}

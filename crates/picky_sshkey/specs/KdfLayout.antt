@@ -7,7 +7,7 @@ use Rattle.picky_layout.specs.Wire.{string}
 use Rattle.picky_wire.specs.Flaws.{wire_error}
 use Rattle.picky_wire.specs.declared.error.WireError.{WireError}
 use Rattle.picky_wire.specs.declared.error.WireError.TheVariants as errors
-use Rattle.picky_sshpub.specs.Key.{IsString}
+use Rattle.picky_keys.specs.Key.{IsString}
 use Rattle.picky_sshkey.specs.declared.kdf.KdfOption.{KdfOption}
 use Rattle.picky_sshkey.specs.Kdf.{kdf_option, option_inside}
 

@@ -2,7 +2,7 @@
 use Rattle.std.specs.Prelude.{◌<◌, ◌^◌, []}
 use Rattle.std.specs.Option.{IfSome}
 use Rattle.std.specs.Str.{trim_end}
-use Rattle.picky_sshpub.specs.Key.{IsText}
+use Rattle.picky_keys.specs.Key.{IsText}
 use Rattle.picky_sshkey_blob.specs.Key.{IsPrivateKey, public_part}
 use Rattle.picky_sshkey.specs.declared.private_key.SshPrivateKey.{SshPrivateKey}
 use Rattle.picky_sshkey.specs.KdfLayout.{IsOption}

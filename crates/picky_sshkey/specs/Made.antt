@@ -2,7 +2,7 @@
 use Rattle.std.specs.Prelude.{List, [], ℕ, ◌&&◌, Option, None, Some, Result, Ok, Err, if◌then◌else◌}
 use Rattle.picky_keys.specs.declared.private_key.PrivateKey.{PrivateKey}
 use Rattle.picky_keys.specs.declared.private_key.PrivateKey.TheVariants as plain
-use Rattle.picky_sshpub.specs.LineRefusal.{is_short, is_short_text}
+use Rattle.picky_keys.specs.LineRefusal.{is_short, is_short_text}
 use Rattle.picky_sshkey_blob.specs.declared.error.SshPrivateKeyError.{SshPrivateKeyError}
 use Rattle.picky_sshkey_blob.specs.declared.error.SshPrivateKeyError.TheVariants as errors
 use Rattle.picky_sshkey_blob.specs.declared.key.SshBasePrivateKey.{SshBasePrivateKey}

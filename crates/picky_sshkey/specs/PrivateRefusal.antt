@@ -8,13 +8,13 @@ use Rattle.picky_layout.specs.Flaw.{Why, Reason, Flawed, Length, Magic, Name, Nu
 use Rattle.picky_layout.specs.Front.{read_front}
 use Rattle.picky_layout.specs.Outcome.{and_then, map_err}
 use Rattle.picky_layout.specs.Table.{find_entry}
-use Rattle.picky_pem.specs.PemRefusal.{pem_content}
+use Rattle.picky_sshkey_blob.specs.PemRefusal.{pem_content}
 use Rattle.picky_suite.specs.Meanings.{Meanings}
 use Rattle.picky_suite.specs.Ranges.{bcrypt_fits}
-use Rattle.picky_sshpub.specs.Blob.{blob, blob_of}
-use Rattle.picky_sshpub.specs.LineRefusal.{is_short_text}
-use Rattle.picky_sshpub.specs.declared.key.SshBasePublicKey.{SshBasePublicKey}
-use Rattle.picky_pem.specs.declared.error.PemError.{PemError}
+use Rattle.picky_keys.specs.Blob.{blob, blob_of}
+use Rattle.picky_keys.specs.LineRefusal.{is_short_text}
+use Rattle.picky_keys.specs.declared.key.SshBasePublicKey.{SshBasePublicKey}
+use Rattle.picky_sshkey_blob.specs.declared.pem_error.PemError.{PemError}
 use Rattle.picky_sshkey_blob.specs.declared.error.SshPrivateKeyError.{SshPrivateKeyError}
 use Rattle.picky_sshkey_blob.specs.declared.error.SshPrivateKeyError.TheVariants as errors
 use Rattle.picky_sshkey_blob.specs.declared.key.SshBasePrivateKey.{SshBasePrivateKey}

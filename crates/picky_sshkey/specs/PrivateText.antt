@@ -2,10 +2,10 @@
 use Rattle.std.specs.Prelude.{◌≡◌, ◌⊎◌, ◌<◌, ◌^◌, List, [], ℕ, true, Option, None, Some, length}
 use Rattle.std.specs.Str.{trim_end}
 use Rattle.picky_layout.specs.Grammar.{Fits}
-use Rattle.picky_pem.specs.Pem.{IsPem}
+use Rattle.picky_sshkey_blob.specs.Pem.{IsPem}
 use Rattle.picky_suite.specs.Meanings.{Meanings}
 use Rattle.picky_suite.specs.Ranges.{BcryptOk, IsWhole}
-use Rattle.picky_sshpub.specs.Blob.{blob}
+use Rattle.picky_keys.specs.Blob.{blob}
 use Rattle.picky_sshkey_blob.specs.Key.{public_part}
 use Rattle.picky_sshkey.specs.declared.private_key.SshPrivateKey.{SshPrivateKey}
 use Rattle.picky_sshkey.specs.Cipher.{is_cbc}

@@ -5,10 +5,10 @@ use Rattle.std.specs.Int.{w32, to_be_bytes}
 use Rattle.std.specs.List.{concat}
 use Rattle.picky_layout.specs.Outcome.{and_then}
 use Rattle.picky_layout.specs.Wire.{string_of}
-use Rattle.picky_pem.specs.Pem.{pem_text}
+use Rattle.picky_sshkey_blob.specs.Pem.{pem_text}
 use Rattle.picky_suite.specs.Meanings.{Meanings}
 use Rattle.picky_suite.specs.Ranges.{bcrypt_fits}
-use Rattle.picky_sshpub.specs.Blob.{blob_of}
+use Rattle.picky_keys.specs.Blob.{blob_of}
 use Rattle.picky_sshkey_blob.specs.declared.error.SshPrivateKeyError.{SshPrivateKeyError}
 use Rattle.picky_sshkey_blob.specs.declared.error.SshPrivateKeyError.TheVariants as errors
 use Rattle.picky_sshkey_blob.specs.Blob.{secret_of}

@@ -2,15 +2,15 @@
 
 ghost use Rattle.std.specs.Prelude.{◌≡◌, ◌⊎◌, ◌^◌, ◌<◌, ◌≤◌, ◌++◌, ℕ, List, true, false, length, IfOk, IfErr, OnOk};
 ghost use Rattle.std.specs.Option.{IfSome};
-ghost use Rattle.picky_sshpub.specs.Blob.{blob_of};
-ghost use Rattle.picky_sshpub.specs.Key.{IsString, IsText};
+ghost use Rattle.picky_keys.specs.Blob.{blob_of};
+ghost use Rattle.picky_keys.specs.Key.{IsString, IsText};
 ghost use Rattle.picky_sshkey_blob.specs.Key.{IsPrivateKey, public_part};
 ghost use Rattle.picky_sshkey.specs.Written.{envelope_of, may_derive as may_derive_of, padding_of, plain_block};
 ghost use Rattle.picky_sshkey.specs.inner.Draft.{IsDraft};
 
 use crate::private_key::SshPrivateKey;
 use picky_sshkey_blob::{SshBasePrivateKey, SshPrivateKeyError, secret_pieces};
-use picky_sshpub::SshPublicKeyError;
+use picky_keys::SshPublicKeyError;
 use picky_suite::bcrypt_ok;
 use picky_wire::{Bytes, MAX_LEN, NoMemory, Piece, push_pieces};
 use std::alloc::{AllocError, Global};
@@ -73,7 +73,7 @@ pub fn private_key_draft(alloc: Global, key: &SshPrivateKey) -> Result<PrivateKe
 }
 
 /// The blob of the key's public part. Refuses, in order: `TooLong`, where it has 2^32 bytes or more.
-#[tactic(auto, unfolding(picky_sshpub::specs::LineRefusal::blob_bytes))]
+#[tactic(auto, unfolding(picky_keys::specs::LineRefusal::blob_bytes))]
 fn outer_of(alloc: Global, base: &SshBasePrivateKey) -> Result<Bytes, SshPrivateKeyError>
     ensures ok { IfOk result (λ blob. blob ≡ blob_of (public_part base.now)) }
     ensures err { IfErr result (λ e. (e ≡ SshPrivateKeyError.NoMemory)

@@ -4,7 +4,7 @@ ghost use Rattle.std.specs.Prelude.{◌≡◌, ◌^◌, ◌<◌, [], true, false
 ghost use Rattle.std.specs.Option.{option_copied};
 ghost use Rattle.std.specs.Str.{trim_end};
 ghost use Rattle.picky_wire.specs.Gives.{Gives};
-ghost use Rattle.picky_sshpub.specs.LineRefusal.{is_short_text};
+ghost use Rattle.picky_keys.specs.LineRefusal.{is_short_text};
 ghost use Rattle.picky_sshkey_blob.specs.Key.{IsPrivateKey, public_part as public_part_of};
 ghost use Rattle.picky_sshkey_blob.specs.View.{key_seen};
 ghost use Rattle.picky_sshkey.specs.PrivateRefusal.{is_public_part, key_of_block as key_of_block_of};
@@ -17,7 +17,7 @@ use crate::kdf::{Kdf, option_of};
 use crate::kept::{kept_pass, name_text};
 use crate::private_key::{SshPrivateKey, public_key_of};
 use picky_sshkey_blob::{SshBasePrivateKey, SshPrivateKeyError};
-use picky_sshpub::{SshBasePublicKey, SshPublicKey, SshPublicKeyError};
+use picky_keys::{SshBasePublicKey, SshPublicKey, SshPublicKeyError};
 use picky_wire::{NoMemory, Text, both};
 use std::alloc::Global;
 

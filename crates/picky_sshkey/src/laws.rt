@@ -3,7 +3,7 @@
 ghost use Rattle.std.specs.Prelude.{◌≡◌, ◌≢◌, ◌++◌, List, ℕ, Option, Ok, Err, length};
 ghost use Rattle.std.specs.Option.{IfSome};
 ghost use Rattle.picky_layout.specs.Numbers.{IsBytes};
-ghost use Rattle.picky_pem.specs.declared.error.PemError.TheVariants as pem_errors;
+ghost use Rattle.picky_sshkey_blob.specs.declared.pem_error.PemError.TheVariants as pem_errors;
 ghost use Rattle.picky_suite.specs.Meanings.{Meanings};
 ghost use Rattle.picky_wire.specs.Equality.{IsEquality, IsEqualityOf};
 ghost use Rattle.picky_sshkey_blob.specs.declared.error.SshPrivateKeyError.TheVariants as errors;
@@ -11,7 +11,7 @@ ghost use Rattle.picky_sshkey.specs.declared.kdf.KdfOption.{KdfOption as Salted}
 ghost use Rattle.picky_sshkey.specs.declared.private_key.SshPrivateKey.{SshPrivateKey as Key};
 ghost use Rattle.picky_sshkey.specs.Kept.{IsSshPrivateKey, read_again};
 ghost use Rattle.picky_sshkey.specs.Made.{made_of, private_shown};
-ghost use Rattle.picky_sshpub.specs.Key.{IsString, IsText};
+ghost use Rattle.picky_keys.specs.Key.{IsString, IsText};
 ghost use Rattle.picky_sshkey_blob.specs.Key.{IsPrivateKey};
 ghost use Rattle.picky_sshkey_blob.specs.declared.key.SshBasePrivateKey.{SshBasePrivateKey as BaseKey};
 ghost use Rattle.picky_sshkey.specs.Opened.{Lock, opened};

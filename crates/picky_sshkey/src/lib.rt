@@ -16,6 +16,6 @@ mod sealing;
 mod writing;
 
 pub use kdf::{Kdf, KdfOption};
-pub use picky_pem::{Pem, PemError, parse_pem};
+pub use picky_sshkey_blob::{Pem, PemError, parse_pem};
 pub use picky_sshkey_blob::{PrivateView, SshBasePrivateKey, SshPrivateKeyError};
 pub use private_key::{PrivateKeyRef, SshPrivateKey};

@@ -10,9 +10,8 @@ ghost use Rattle.picky_sshkey.specs.Written.{written_cipher, written_kdf};
 use crate::cipher::Cipher;
 use crate::kdf::{Kdf, NONE, bcrypt_kdf};
 use crate::kept::{kept_pass, kept_text, name_text};
-use picky_keys::{EcCurve, PrivateKey};
+use picky_keys::{EcCurve, PrivateKey, SshPublicKey};
 use picky_sshkey_blob::{SshBasePrivateKey, SshPrivateKeyError};
-use picky_sshpub::SshPublicKey;
 use picky_wire::{Bytes, Mpint, NoMemory, Text, TryClone, both};
 use std::alloc::Global;
 

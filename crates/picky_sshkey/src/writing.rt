@@ -7,9 +7,9 @@ ghost use Rattle.picky_suite.specs.Asked.{GivesAsked, LeavesSuite};
 ghost use Rattle.picky_layout.specs.Wire.{string_of};
 ghost use Rattle.picky_wire.specs.Count.{Rose};
 ghost use Rattle.picky_wire.specs.Gives.{Gives};
-ghost use Rattle.picky_pem.specs.Pem.{pem_text as pem_text_of};
-ghost use Rattle.picky_sshpub.specs.Blob.{blob_of};
-ghost use Rattle.picky_sshpub.specs.Key.{IsString, IsText};
+ghost use Rattle.picky_sshkey_blob.specs.Pem.{pem_text as pem_text_of};
+ghost use Rattle.picky_keys.specs.Blob.{blob_of};
+ghost use Rattle.picky_keys.specs.Key.{IsString, IsText};
 ghost use Rattle.picky_sshkey_blob.specs.Key.{IsPrivateKey, public_part};
 ghost use Rattle.picky_sshkey.specs.Encodes.{Encodes};
 ghost use Rattle.picky_sshkey.specs.Kdf.{HasRoom, kdf_option_of};
@@ -25,8 +25,7 @@ use crate::draft::{PrivateKeyDraft, private_key_draft};
 use crate::kdf::{BCRYPT, KdfOption, NONE, kdf_pieces};
 use crate::private_key::SshPrivateKey;
 use crate::sealing::open;
-use picky_pem::{Pem, pem_text, pem_text_len};
-use picky_sshkey_blob::SshPrivateKeyError;
+use picky_sshkey_blob::{Pem, SshPrivateKeyError, pem_text, pem_text_len};
 use picky_suite::Suite;
 use picky_wire::{Bytes, Failed, MAX_LEN, Piece, Sink, Text, push_pieces, write_all};
 use std::alloc::{AllocError, Global};
@@ -123,7 +122,7 @@ fn content_of_key<S: Suite>(
 }
 
 /// Its text.
-#[tactic(auto, unfolding(crate::specs::Written::key_text, crate::specs::Written::text_writing_asks, crate::specs::Written::sealable), using(picky_pem::proofs::TextLaws::text_is_long))]
+#[tactic(auto, unfolding(crate::specs::Written::key_text, crate::specs::Written::text_writing_asks, crate::specs::Written::sealable), using(picky_sshkey_blob::proofs::TextLaws::text_is_long))]
 fn text_of_key<S: Suite>(
     alloc: Global,
     suite: &mut S,

@@ -10,11 +10,11 @@ use Rattle.picky_keys.specs.declared.kind.KeyKind.{KeyKind}
 use Rattle.picky_keys.specs.declared.kind.KeyKind.TheVariants as kinds
 use Rattle.picky_keys.specs.declared.curve.EcCurve.{EcCurve}
 use Rattle.picky_keys.specs.declared.curve.EdAlgorithm.TheVariants.{Ed25519}
-use Rattle.picky_keys.specs.NameTables.{key_types}
-use Rattle.picky_keys.specs.Names.{kind_name}
-use Rattle.picky_keys.proofs.Names.{key_is_name}
-use Rattle.picky_sshpub.specs.Blob.{key_type}
-use Rattle.picky_sshpub.proofs.BlobExact.{number_exact, any_text, ed_exact, joined_is}
+use Rattle.picky_keys.specs.KeyNameTables.{key_types}
+use Rattle.picky_keys.specs.KeyNames.{kind_name}
+use Rattle.picky_keys.proofs.KeyNames.{key_is_name}
+use Rattle.picky_keys.specs.Blob.{key_type}
+use Rattle.picky_keys.proofs.BlobExact.{number_exact, any_text, ed_exact, joined_is}
 use Rattle.picky_sshkey_blob.specs.declared.key.SshBasePrivateKey.{SshBasePrivateKey}
 use Rattle.picky_sshkey_blob.specs.Key.{kind_of}
 use Rattle.picky_sshkey_blob.specs.Blob.{ed_secret, rsa_fields, ec_fields, ed_fields, sk_ecdsa_fields, sk_ed_fields}

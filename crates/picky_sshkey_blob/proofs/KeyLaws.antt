@@ -6,8 +6,8 @@ use Rattle.picky_layout.proofs.Numbers.{bytes_in_front, bytes_behind, byte_exact
 use Rattle.picky_keys.specs.declared.kind.KeyKind.{KeyKind}
 use Rattle.picky_keys.specs.declared.kind.KeyKind.TheVariants as kinds
 use Rattle.picky_keys.specs.declared.curve.EcCurve.{EcCurve}
-use Rattle.picky_sshpub.specs.Key.{IsKey, IsEdKey}
-use Rattle.picky_sshpub.proofs.KeyLaws.{number_keeps, string_keeps, text_keeps, ed_keeps}
+use Rattle.picky_keys.specs.Key.{IsKey, IsEdKey}
+use Rattle.picky_keys.proofs.KeyLaws.{number_keeps, string_keeps, text_keeps, ed_keeps}
 use Rattle.picky_sshkey_blob.specs.declared.key.SshBasePrivateKey.{SshBasePrivateKey}
 use Rattle.picky_sshkey_blob.specs.declared.key.SshBasePrivateKey.TheVariants as keys
 use Rattle.picky_sshkey_blob.specs.Key.{IsPrivateKey, public_part}

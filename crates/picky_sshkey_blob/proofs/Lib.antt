@@ -1,3 +1,11 @@
+pub mod FooterLaws
+pub mod PackedLaws
+pub mod RowLemmas
+pub mod ParseLemmas
+pub mod MeaningLaws
+pub mod TextLaws
+pub mod WrittenLemmas
+pub mod PemLawLemmas
 pub mod RefusedLemmas
 pub mod TakesLemmas
 pub mod NoNameLemmas

@@ -10,7 +10,7 @@ use Rattle.picky_layout.specs.Mpint.{mpint}
 use Rattle.picky_keys.specs.declared.kind.KeyKind.{KeyKind}
 use Rattle.picky_keys.specs.declared.kind.KeyKind.TheVariants as kinds
 use Rattle.picky_keys.specs.declared.curve.EcCurve.{EcCurve}
-use Rattle.picky_sshpub.specs.Blob.{ed_key}
+use Rattle.picky_keys.specs.Blob.{ed_key}
 use Rattle.picky_sshkey_blob.specs.Copy.{before_copy}
 use Rattle.picky_sshkey_blob.specs.Blob.{ed_secret, rsa_fields, ec_fields, ed_fields, sk_ecdsa_fields, sk_ed_fields}
 use Rattle.picky_sshkey_blob.specs.Blob.{private_key_fields}

@@ -9,16 +9,16 @@ use Rattle.picky_layout.specs.Wire.{byte_array, uint32, string, string_of, text}
 use Rattle.picky_keys.specs.declared.kind.KeyKind.{KeyKind}
 use Rattle.picky_keys.specs.declared.kind.KeyKind.TheVariants as kinds
 use Rattle.picky_keys.specs.declared.curve.EdAlgorithm.TheVariants.{Ed25519}
-use Rattle.picky_keys.specs.NameTables.{key_types}
-use Rattle.picky_keys.specs.Names.{kind_name}
-use Rattle.picky_keys.proofs.Names.{kind_name_spells}
+use Rattle.picky_keys.specs.KeyNameTables.{key_types}
+use Rattle.picky_keys.specs.KeyNames.{kind_name}
+use Rattle.picky_keys.specs.carried.KeyNamePieces.{kind_name_spells}
 use Rattle.picky_wire.specs.declared.error.WireError.TheVariants as wire
 use Rattle.picky_wire.specs.declared.error.IoKind.TheVariants as io_kinds
 use Rattle.picky_wire.specs.declared.stop.Stop.{Stop}
 use Rattle.picky_wire.specs.declared.stop.Stop.TheVariants as stops
 use Rattle.picky_wire.specs.Takes.{HasCause, Refuses, causes_of}
 use Rattle.picky_wire.proofs.CauseLemmas.{mpint_is_too_long, first_is_too_long}
-use Rattle.picky_sshpub.specs.Blob.{key_type, ed_key}
+use Rattle.picky_keys.specs.Blob.{key_type, ed_key}
 use Rattle.picky_sshkey_blob.specs.declared.error.SshPrivateKeyError.TheVariants as errors
 use Rattle.picky_sshkey_blob.specs.FromWire.{private_key_error}
 use Rattle.picky_sshkey_blob.specs.Blob.{secret, private_key_fields, rsa_fields, ed_fields, ed_secret}

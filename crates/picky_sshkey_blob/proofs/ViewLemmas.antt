@@ -14,14 +14,14 @@ use Rattle.picky_layout.specs.Entry.{entry}
 use Rattle.picky_layout.specs.Table.{find_entry}
 use Rattle.picky_layout.specs.Wire.{string, text, of_length}
 use Rattle.picky_keys.specs.declared.kind.KeyKind.{KeyKind}
-use Rattle.picky_keys.specs.NameTables.{key_types}
+use Rattle.picky_keys.specs.KeyNameTables.{key_types}
 use Rattle.picky_wire.specs.declared.view.Stuck.{Stuck}
 use Rattle.picky_wire.specs.declared.view.Stuck.TheVariants as stucks
 use Rattle.picky_wire.specs.declared.view.Part.{Part}
 use Rattle.picky_wire.specs.View.{Seen, Lies, end_of, part_bytes, why_in, why_of}
-use Rattle.picky_sshpub.specs.Key.{IsText}
-use Rattle.picky_sshpub.specs.Blob.{key_type, ed_key}
-use Rattle.picky_sshpub.proofs.KeyLaws.{text_keeps}
+use Rattle.picky_keys.specs.Key.{IsText}
+use Rattle.picky_keys.specs.Blob.{key_type, ed_key}
+use Rattle.picky_keys.proofs.KeyLaws.{text_keeps}
 use Rattle.picky_sshkey_blob.specs.declared.view.PrivateView.{PrivateView}
 use Rattle.picky_sshkey_blob.specs.declared.view.Stopped.{Stopped}
 use Rattle.picky_sshkey_blob.specs.Key.{IsPrivateKey}

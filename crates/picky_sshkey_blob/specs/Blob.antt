@@ -12,8 +12,8 @@ use Rattle.picky_keys.specs.declared.curve.EcCurve.{EcCurve}
 use Rattle.picky_keys.specs.declared.curve.EcCurve.TheVariants.{NistP256}
 use Rattle.picky_keys.specs.declared.kind.KeyKind.{KeyKind}
 use Rattle.picky_keys.specs.declared.kind.KeyKind.TheVariants as kinds
-use Rattle.picky_keys.specs.Names.{kind_name, curve_identifier}
-use Rattle.picky_sshpub.specs.Blob.{key_type, ed_key}
+use Rattle.picky_keys.specs.KeyNames.{kind_name, curve_identifier}
+use Rattle.picky_keys.specs.Blob.{key_type, ed_key}
 use Rattle.picky_sshkey_blob.specs.declared.key.SshBasePrivateKey.{SshBasePrivateKey}
 use Rattle.picky_sshkey_blob.specs.declared.key.SshBasePrivateKey.TheVariants as keys
 use Rattle.picky_sshkey_blob.specs.Key.{kind_of}

@@ -1,3 +1,5 @@
+pub mod Pem
+pub mod PemRefusal
 pub mod FromWire
 pub mod Key
 pub mod Before

@@ -4,8 +4,8 @@ use Rattle.std.specs.Int.{w8, to_be_bytes}
 use Rattle.std.specs.List.{concat}
 use Rattle.picky_layout.specs.Row.{Row}
 use Rattle.picky_layout.specs.Wire.{string_of}
-use Rattle.picky_keys.specs.Names.{kind_name}
-use Rattle.picky_sshpub.specs.BlobSpelled.{NumberSpelled, AnyText}
+use Rattle.picky_keys.specs.KeyNames.{kind_name}
+use Rattle.picky_keys.specs.BlobSpelled.{NumberSpelled, AnyText}
 use Rattle.picky_sshkey_blob.specs.declared.key.SshBasePrivateKey.{SshBasePrivateKey}
 use Rattle.picky_sshkey_blob.specs.declared.key.SshBasePrivateKey.TheVariants as keys
 use Rattle.picky_sshkey_blob.specs.Key.{kind_of}

@@ -9,8 +9,8 @@ use Rattle.picky_layout.specs.Mpint.{mpint}
 use Rattle.picky_wire.specs.declared.view.Stuck.{Stuck}
 use Rattle.picky_wire.specs.declared.view.Stuck.TheVariants as stucks
 use Rattle.picky_wire.specs.View.{Lies, Places, end_of, stuck_shown, why_of}
-use Rattle.picky_sshpub.specs.Key.{IsText}
-use Rattle.picky_sshpub.specs.Blob.{ed_key}
+use Rattle.picky_keys.specs.Key.{IsText}
+use Rattle.picky_keys.specs.Blob.{ed_key}
 use Rattle.picky_sshkey_blob.specs.declared.key.SshBasePrivateKey.{SshBasePrivateKey}
 use Rattle.picky_sshkey_blob.specs.declared.key.SshBasePrivateKey.TheVariants as keys
 use Rattle.picky_sshkey_blob.specs.declared.error.SshPrivateKeyError.{SshPrivateKeyError}

@@ -1,6 +1,6 @@
 //! Why a private key is not read or written.
 
-use picky_pem::PemError;
+use crate::pem_error::PemError;
 use picky_wire::{CodecError, IoKind, Stop, Text, WireError, error_of_wire};
 use thiserror::Error;
 

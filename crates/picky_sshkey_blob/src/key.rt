@@ -3,8 +3,7 @@
 ghost use Rattle.std.specs.Prelude.{◌≡◌, IfOk};
 ghost use Rattle.picky_sshkey_blob.specs.Key.{kind_of, public_part};
 
-use picky_keys::{EcCurve, EdAlgorithm, KeyKind};
-use picky_sshpub::SshBasePublicKey;
+use picky_keys::{EcCurve, EdAlgorithm, KeyKind, SshBasePublicKey};
 use picky_wire::{Bytes, Mpint, NoMemory, Text, TryClone, both};
 use std::alloc::Global;
 

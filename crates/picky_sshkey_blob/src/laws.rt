@@ -7,7 +7,7 @@ ghost use Rattle.picky_layout.specs.Numbers.{IsBytes};
 ghost use Rattle.picky_layout.specs.Grammar.{Fits};
 ghost use Rattle.picky_wire.specs.View.{Sees, why_in};
 ghost use Rattle.picky_wire.specs.Equality.{IsEquality, IsEqualityOf};
-ghost use Rattle.picky_sshpub.specs.Key.{IsKey};
+ghost use Rattle.picky_keys.specs.Key.{IsKey};
 ghost use Rattle.picky_sshkey_blob.specs.declared.key.SshBasePrivateKey.{SshBasePrivateKey as BaseKey};
 ghost use Rattle.picky_sshkey_blob.specs.declared.view.PrivateView.{PrivateView as View};
 ghost use Rattle.picky_sshkey_blob.specs.declared.view.Stopped.{Stopped as Stop};

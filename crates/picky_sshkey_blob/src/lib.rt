@@ -5,6 +5,9 @@ mod blob;
 mod error;
 mod key;
 pub mod laws;
+mod pem;
+mod pem_error;
+pub mod pem_laws;
 mod pieces;
 mod read;
 mod refuse;
@@ -14,6 +17,8 @@ mod view_read;
 
 pub use error::SshPrivateKeyError;
 pub use key::SshBasePrivateKey;
+pub use pem::{Pem, parse_pem, pem_text, pem_text_len};
+pub use pem_error::PemError;
 pub use pieces::secret_pieces;
 pub use refuse::private_view_refusal;
 pub use view::{PrivateView, Stopped};

@@ -2,7 +2,7 @@
 
 ghost use Rattle.std.specs.Prelude.{◌≡◌, ◌==◌, ◌&&◌, nat_le, length, take, drop, bytes_eq, Some, None, if◌then◌else◌};
 ghost use Rattle.picky_wire.specs.Flaws.{TakesLayout};
-ghost use Rattle.picky_sshpub.specs.Blob.{ed_key};
+ghost use Rattle.picky_keys.specs.Blob.{ed_key};
 ghost use Rattle.picky_sshkey_blob.specs.Blob.{ed_secret, rsa_fields, ec_fields, ed_fields, sk_ecdsa_fields, sk_ed_fields, private_key_fields};
 ghost use Rattle.picky_sshkey_blob.specs.inner.Stop.{secret_stop};
 
@@ -115,7 +115,7 @@ fn take_sk_ed<S: Source>(alloc: Global, stream: &mut S) -> Result<SshBasePrivate
 }
 
 /// A public key of Ed25519.
-#[tactic(auto, unfolding(picky_sshpub::specs::Blob::ed_key))]
+#[tactic(auto, unfolding(picky_keys::specs::Blob::ed_key))]
 fn take_ed_key<S: Source>(alloc: Global, stream: &mut S) -> Result<[u8; 32], Stop>
     ensures { TakesLayout S.tells S.left S.known S.faults secret_stop (ed_key 1) result stream.old stream.new }
 {

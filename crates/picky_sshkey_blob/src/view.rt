@@ -2,7 +2,7 @@
 
 ghost use Rattle.std.specs.Prelude.{◌≡◌, ◌^◌, ◌<◌, length, IfOk};
 ghost use Rattle.picky_wire.specs.View.{Seen, end_of, why_in};
-ghost use Rattle.picky_sshpub.specs.Blob.{key_type};
+ghost use Rattle.picky_keys.specs.Blob.{key_type};
 ghost use Rattle.picky_sshkey_blob.specs.Key.{IsPrivateKey};
 ghost use Rattle.picky_sshkey_blob.specs.Blob.{secret as secret_layout};
 ghost use Rattle.picky_sshkey_blob.specs.BlobRefusal.{refused_place};
@@ -10,8 +10,7 @@ ghost use Rattle.picky_sshkey_blob.specs.View.{key_seen, PartsLie};
 
 use crate::key::SshBasePrivateKey;
 use crate::view_read::private_at;
-use picky_keys::EcCurve;
-use picky_sshpub::ed_key_of;
+use picky_keys::{EcCurve, ed_key_of};
 use picky_wire::{NoMemory, Part, Stuck, both};
 use std::alloc::Global;
 

@@ -6,13 +6,12 @@ ghost use Rattle.picky_layout.specs.Wire.{string, text};
 ghost use Rattle.picky_layout.specs.Numbers.{byte};
 ghost use Rattle.picky_layout.specs.Mpint.{mpint};
 ghost use Rattle.picky_wire.specs.View.{Lies, end_of, part_bytes};
-ghost use Rattle.picky_sshpub.specs.Blob.{key_type, ed_key};
+ghost use Rattle.picky_keys.specs.Blob.{key_type, ed_key};
 ghost use Rattle.picky_sshkey_blob.specs.Blob.{ed_secret};
 ghost use Rattle.picky_sshkey_blob.specs.View.{SeenAt};
 
 use crate::view::Stopped;
-use picky_keys::KeyKind;
-use picky_sshpub::{ed_key_at, kind_at};
+use picky_keys::{KeyKind, ed_key_at, kind_at};
 use picky_wire::{Part, Stuck, byte_at, mpint_at, string_at, text_at};
 
 /// How long the secret of Ed25519 is.

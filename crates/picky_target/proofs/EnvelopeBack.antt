@@ -5,11 +5,11 @@ use Rattle.std.specs.Str.{IsUtf8, trim_end}
 use Rattle.std.proofs.lemmas.Bool.{lt-ltb}
 use Rattle.std.proofs.lemmas.List.{append-nil, length-take}
 use Rattle.picky_layout.specs.Numbers.{IsBytes}
-use Rattle.picky_pem.specs.Pem.{pem_text}
-use Rattle.picky_pem.proofs.TextLaws.{text_is_ascii}
+use Rattle.picky_sshkey_blob.specs.Pem.{pem_text}
+use Rattle.picky_sshkey_blob.proofs.TextLaws.{text_is_ascii}
 use Rattle.picky_suite.specs.Meanings.{Meanings}
 use Rattle.picky_suite.proofs.RangeLemmas.{bcrypt_decides}
-use Rattle.picky_sshpub.specs.Key.{IsText}
+use Rattle.picky_keys.specs.Key.{IsText}
 use Rattle.picky_sshkey_blob.specs.declared.key.SshBasePrivateKey.{SshBasePrivateKey}
 use Rattle.picky_sshkey_blob.specs.Key.{IsPrivateKey}
 use Rattle.picky_sshkey.specs.declared.private_key.SshPrivateKey.{SshPrivateKey}

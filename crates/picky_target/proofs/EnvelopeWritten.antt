@@ -6,12 +6,12 @@ use Rattle.std.proofs.lemmas.Bool.{cases_Bool, leb-true, le-leb, ltb-false, lt-l
 use Rattle.std.proofs.lemmas.List.{length-append, length-take}
 use Rattle.picky_layout.specs.Wire.{string_of}
 use Rattle.picky_wire.proofs.WriteLemmas.{length-string_of}
-use Rattle.picky_pem.specs.Pem.{pem_text}
-use Rattle.picky_pem.proofs.TextLaws.{text_is_long}
+use Rattle.picky_sshkey_blob.specs.Pem.{pem_text}
+use Rattle.picky_sshkey_blob.proofs.TextLaws.{text_is_long}
 use Rattle.picky_suite.specs.Meanings.{Meanings}
 use Rattle.picky_suite.specs.Ranges.{bcrypt_fits}
 use Rattle.picky_suite.proofs.RangeLemmas.{bcrypt_decides}
-use Rattle.picky_sshpub.specs.LineRefusal.{is_short}
+use Rattle.picky_keys.specs.LineRefusal.{is_short}
 use Rattle.picky_sshkey_blob.specs.Blob.{secret_of}
 use Rattle.picky_sshkey_blob.specs.declared.key.SshBasePrivateKey.{SshBasePrivateKey}
 use Rattle.picky_sshkey.specs.declared.private_key.SshPrivateKey.{SshPrivateKey}

@@ -12,10 +12,10 @@ use Rattle.picky_kv_words.specs.declared.choices.PpkVersionKey.{PpkVersionKey}
 use Rattle.picky_kv_words.specs.declared.choices.PpkVersionKey.TheVariants.{V2, V3}
 use Rattle.picky_suite.specs.Meanings.{Meanings}
 use Rattle.picky_suite.specs.Ranges.{IsWhole}
-use Rattle.picky_sshpub.specs.Blob.{blob_of}
-use Rattle.picky_sshpub.specs.Key.{IsText}
-use Rattle.picky_sshpub.proofs.ByteLaws.{bytes_joined}
-use Rattle.picky_sshpub.proofs.LineLaws.{blob_is_bytes}
+use Rattle.picky_keys.specs.Blob.{blob_of}
+use Rattle.picky_keys.specs.Key.{IsText}
+use Rattle.picky_keys.proofs.ByteLaws.{bytes_joined}
+use Rattle.picky_keys.proofs.LineLaws.{blob_is_bytes}
 use Rattle.picky_sshkey_blob.specs.declared.key.SshBasePrivateKey.{SshBasePrivateKey}
 use Rattle.picky_sshkey_blob.specs.Key.{IsPrivateKey, public_part}
 use Rattle.picky_sshkey_blob.proofs.KeyLaws.{public_part_is_key}
@@ -34,7 +34,7 @@ use Rattle.picky_ppk_file.specs.FileRefusal.{file_meaning}
 use Rattle.picky_ppk_file.specs.Written.{end_of, file_text, fits_block}
 use Rattle.picky_ppk_file.proofs.FileLaws.{meaning_is_said}
 use Rattle.picky_ppk_file.proofs.ReadBackLaws.{text_is_read_back}
-use Rattle.picky_putty_public.specs.PuttyRefusal.{is_hardware}
+use Rattle.picky_ppk_file.specs.PuttyRefusal.{is_hardware}
 use Rattle.picky_ppk.specs.Keyed.{keys_under}
 use Rattle.picky_ppk.specs.Mac.{own_mac}
 use Rattle.picky_ppk.specs.Sealed.{sealing_under}

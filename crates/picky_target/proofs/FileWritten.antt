@@ -7,8 +7,8 @@ use Rattle.picky_layout.specs.Outcome.{and_then}
 use Rattle.picky_kv_words.specs.declared.choices.PpkVersionKey.{PpkVersionKey}
 use Rattle.picky_kv_words.specs.declared.choices.PpkVersionKey.TheVariants.{V2, V3}
 use Rattle.picky_suite.specs.Meanings.{Meanings}
-use Rattle.picky_sshpub.specs.Blob.{blob_of}
-use Rattle.picky_sshpub.specs.LineRefusal.{is_short}
+use Rattle.picky_keys.specs.Blob.{blob_of}
+use Rattle.picky_keys.specs.LineRefusal.{is_short}
 use Rattle.picky_sshkey_blob.specs.declared.key.SshBasePrivateKey.{SshBasePrivateKey}
 use Rattle.picky_sshkey_blob.specs.Key.{public_part}
 use Rattle.picky_ppk_parts.specs.declared.config.PpkEncryptionConfig.{PpkEncryptionConfig}
@@ -19,7 +19,7 @@ use Rattle.picky_ppk_file.specs.declared.file.PpkFile.{PpkFile}
 use Rattle.picky_ppk_file.specs.declared.file.PpkSealing.TheVariants.{Unsealed}
 use Rattle.picky_ppk_file.specs.File.{version_of}
 use Rattle.picky_ppk_file.specs.Written.{file_text, fits_block, written as file_written}
-use Rattle.picky_putty_public.specs.PuttyRefusal.{is_hardware}
+use Rattle.picky_ppk_file.specs.PuttyRefusal.{is_hardware}
 use Rattle.picky_ppk.specs.Changed.{of_base_key}
 use Rattle.picky_ppk.specs.Fresh.{can_derive_by}
 use Rattle.picky_ppk.specs.Keyed.{keys_under}

@@ -3,15 +3,15 @@ use Rattle.std.specs.Prelude.{Bool, true, false, if◌then◌else◌, is_some}
 use Rattle.std.proofs.Common.{◌≡◌, ℕ, List, [], ◌∷◌, ◌++◌, refl, ap, ◌∙◌}
 use Rattle.picky_layout.specs.Table.{find_entry}
 use Rattle.picky_text.proofs.WordLaws.{words_at_space}
-use Rattle.picky_sshpub.proofs.ByteLaws.{name_is_word}
-use Rattle.picky_cert_names.specs.Names.{cert_key_type_name}
-use Rattle.picky_cert_names.specs.NameTables.{cert_key_types}
+use Rattle.picky_keys.proofs.ByteLaws.{name_is_word}
+use Rattle.picky_cert_parts.specs.CertNames.{cert_key_type_name}
+use Rattle.picky_cert_parts.specs.CertNameTables.{cert_key_types}
 use Rattle.picky_keys.specs.declared.curve.EcCurve.TheVariants.{NistP256, NistP384, NistP521}
 use Rattle.picky_keys.specs.declared.curve.EdAlgorithm.TheVariants.{Ed25519}
 use Rattle.picky_keys.specs.declared.kind.KeyKind.{KeyKind}
 use Rattle.picky_keys.specs.declared.kind.KeyKind.TheVariants as kinds
-use Rattle.picky_keys.specs.Names.{curve_key_type, ed_key_type, kind_name}
-use Rattle.picky_pem.specs.Pem.{header, pem_lines, pem_text}
+use Rattle.picky_keys.specs.KeyNames.{curve_key_type, ed_key_type, kind_name}
+use Rattle.picky_sshkey_blob.specs.Pem.{header, pem_lines, pem_text}
 use Rattle.picky_text.specs.Lines.{text_of}
 use Rattle.picky_text.specs.declared.lines.LineEnd.{LineEnd}
 use Rattle.picky_kv_words.specs.ChoiceFields.{version_field}
@@ -19,13 +19,13 @@ use Rattle.picky_kv_words.specs.declared.choices.PpkVersionKey.{PpkVersionKey}
 use Rattle.picky_kv_words.specs.declared.choices.PpkVersionKey.TheVariants.{V2, V3}
 use Rattle.picky_kv.specs.AlgorithmField.{algorithm_field}
 use Rattle.picky_kv.specs.declared.algorithm.PpkKeyAlgorithmValue.{PpkKeyAlgorithmValue}
-use Rattle.picky_sshpub.specs.declared.key.SshPublicKey.{SshPublicKey}
-use Rattle.picky_sshpub.specs.Key.{kind_of}
-use Rattle.picky_sshpub.specs.Line.{line_body, line_of as public_line_of}
+use Rattle.picky_keys.specs.declared.key.SshPublicKey.{SshPublicKey}
+use Rattle.picky_keys.specs.Key.{kind_of}
+use Rattle.picky_keys.specs.Line.{line_body, line_of as public_line_of}
 use Rattle.picky_ppk_file.specs.declared.file.PpkFile.{PpkFile}
 use Rattle.picky_ppk_file.specs.File.{version_of}
 use Rattle.picky_ppk_file.specs.Written.{end_of, file_lines, file_text, line_of}
-use Rattle.picky_putty_public.specs.PuttyPublic.{putty_public, header as putty_header}
+use Rattle.picky_ppk_file.specs.PuttyPublic.{putty_public, header as putty_header}
 use Rattle.picky_key_text.specs.Form.{envelope_start, form_of, is_certificate, ppk_start, putty_public_start}
 use Rattle.picky_key_text.specs.declared.form.Form.TheVariants as forms
 

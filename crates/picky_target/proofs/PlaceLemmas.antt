@@ -7,16 +7,16 @@ use Rattle.std.proofs.lemmas.Bool.{and_parts, eq-eqb, ne_eqb, leb-true, le-leb, 
 use Rattle.std.proofs.lemmas.Slice.Eq.{bytes_eq-Decides}
 use Rattle.picky_kv_words.specs.declared.choices.PpkVersionKey.{PpkVersionKey}
 use Rattle.picky_kv_words.specs.declared.choices.PpkVersionKey.TheVariants.{V2, V3}
-use Rattle.picky_pem.specs.Pem.{pem_text}
-use Rattle.picky_pem.proofs.TextLaws.{length_text, length_lines}
+use Rattle.picky_sshkey_blob.specs.Pem.{pem_text}
+use Rattle.picky_sshkey_blob.proofs.TextLaws.{length_text, length_lines}
 use Rattle.picky_text.specs.Lines.{HasNo}
 use Rattle.picky_text.specs.Words.{ends_line}
 use Rattle.picky_suite.specs.Meanings.{Meanings, plain}
 use Rattle.picky_suite.proofs.RangeLemmas.{bcrypt_decides, argon2_decides}
-use Rattle.picky_sshpub.specs.Blob.{blob_of}
-use Rattle.picky_sshpub.specs.Line.{line_of}
-use Rattle.picky_sshpub.specs.LineRefusal.{is_short}
-use Rattle.picky_sshpub.proofs.ByteLaws.{no_by_test}
+use Rattle.picky_keys.specs.Blob.{blob_of}
+use Rattle.picky_keys.specs.Line.{line_of}
+use Rattle.picky_keys.specs.LineRefusal.{is_short}
+use Rattle.picky_keys.proofs.ByteLaws.{no_by_test}
 use Rattle.picky_sshkey_blob.specs.declared.key.SshBasePrivateKey.{SshBasePrivateKey}
 use Rattle.picky_sshkey_blob.specs.Key.{public_part as public_part_of}
 use Rattle.picky_sshkey.specs.declared.private_key.SshPrivateKey.{SshPrivateKey}
@@ -24,8 +24,8 @@ use Rattle.picky_sshkey.specs.Written.{content_under, envelope_of, lock_kept, pl
 use Rattle.picky_sshkey.proofs.KeptLaws.{envelopes_alike, sealed_len as block_sealed_len}
 use Rattle.picky_ppk_parts.specs.declared.config.PpkEncryptionConfig.{PpkEncryptionConfig}
 use Rattle.picky_ppk_file.specs.Written.{file_text, fits_block}
-use Rattle.picky_putty_public.specs.PuttyPublic.{putty_public}
-use Rattle.picky_putty_public.specs.PuttyRefusal.{is_hardware}
+use Rattle.picky_ppk_file.specs.PuttyPublic.{putty_public}
+use Rattle.picky_ppk_file.specs.PuttyRefusal.{is_hardware}
 use Rattle.picky_key_text.specs.declared.meaning.Key.{Key}
 use Rattle.picky_key_text.specs.declared.meaning.Key.TheVariants as keys
 use Rattle.picky_key_text.specs.declared.meaning.Meaning.{Meaning}

@@ -5,15 +5,15 @@ use Rattle.std.specs.Str.{IsUtf8}
 use Rattle.std.proofs.lemmas.List.{append-nil}
 use Rattle.picky_layout.specs.Numbers.{IsBytes}
 use Rattle.picky_suite.specs.Meanings.{Meanings}
-use Rattle.picky_sshpub.specs.Key.{IsKey}
-use Rattle.picky_sshpub.specs.Blob.{blob_of}
-use Rattle.picky_sshpub.specs.Line.{IsPublicLine, line_of}
-use Rattle.picky_sshpub.proofs.LineLaws.{line_says}
+use Rattle.picky_keys.specs.Key.{IsKey}
+use Rattle.picky_keys.specs.Blob.{blob_of}
+use Rattle.picky_keys.specs.Line.{IsPublicLine, line_of}
+use Rattle.picky_keys.proofs.LineLaws.{line_says}
 use Rattle.picky_sshkey_blob.proofs.KeyLaws.{public_part_is_key}
 use Rattle.picky_kv_words.specs.declared.choices.PpkVersionKey.{PpkVersionKey}
 use Rattle.picky_ppk_parts.specs.declared.config.PpkEncryptionConfig.{PpkEncryptionConfig}
-use Rattle.picky_putty_public.specs.PuttyPublic.{putty_public}
-use Rattle.picky_putty_public.proofs.PuttyLaws.{putty_public_means}
+use Rattle.picky_ppk_file.specs.PuttyPublic.{putty_public}
+use Rattle.picky_ppk_file.proofs.PuttyLaws.{putty_public_means}
 use Rattle.picky_key_text.specs.declared.meaning.Key.{Key}
 use Rattle.picky_key_text.specs.declared.meaning.Key.TheVariants as keys
 use Rattle.picky_key_text.specs.declared.meaning.Meaning.{Meaning}

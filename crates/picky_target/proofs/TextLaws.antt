@@ -1,8 +1,8 @@
 -- A meaning has one text in each target.
 use Rattle.std.proofs.Common.{◌≡◌, ℕ, List, refl}
 use Rattle.picky_suite.specs.Meanings.{Meanings}
-use Rattle.picky_sshpub.specs.Blob.{blob_of}
-use Rattle.picky_putty_public.proofs.PuttyLaws.{putty_public_spells, putty_public_only}
+use Rattle.picky_keys.specs.Blob.{blob_of}
+use Rattle.picky_ppk_file.proofs.PuttyLaws.{putty_public_spells, putty_public_only}
 use Rattle.picky_key_text.specs.declared.meaning.Meaning.{Meaning}
 use Rattle.picky_key_text.specs.Key.{public_part}
 use Rattle.picky_target.specs.declared.target.KeyTarget.{KeyTarget}

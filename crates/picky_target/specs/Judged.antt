@@ -7,9 +7,9 @@ use Rattle.picky_kv_words.specs.declared.choices.PpkVersionKey.{PpkVersionKey}
 use Rattle.picky_kv_words.specs.declared.choices.PpkVersionKey.TheVariants.{V2, V3}
 use Rattle.picky_text.specs.Words.{ends_line}
 use Rattle.picky_suite.specs.Ranges.{bcrypt_fits}
-use Rattle.picky_sshpub.specs.Blob.{blob_of}
-use Rattle.picky_sshpub.specs.Line.{line_of}
-use Rattle.picky_sshpub.specs.LineRefusal.{is_short}
+use Rattle.picky_keys.specs.Blob.{blob_of}
+use Rattle.picky_keys.specs.Line.{line_of}
+use Rattle.picky_keys.specs.LineRefusal.{is_short}
 use Rattle.picky_sshkey_blob.specs.declared.error.SshPrivateKeyError.TheVariants as private
 use Rattle.picky_sshkey_blob.specs.declared.key.SshBasePrivateKey.{SshBasePrivateKey}
 use Rattle.picky_sshkey_blob.specs.Key.{public_part as public_part_of}
@@ -24,8 +24,8 @@ use Rattle.picky_ppk_file.specs.declared.file.PpkSealing.TheVariants.{Unsealed}
 use Rattle.picky_ppk_file.specs.Written.{file_text, fits_block}
 use Rattle.picky_ppk.specs.Fresh.{can_derive_by}
 use Rattle.picky_ppk.specs.Sealed.{sealing_under}
-use Rattle.picky_putty_public.specs.PuttyPublic.{putty_public}
-use Rattle.picky_putty_public.specs.PuttyRefusal.{is_hardware}
+use Rattle.picky_ppk_file.specs.PuttyPublic.{putty_public}
+use Rattle.picky_ppk_file.specs.PuttyRefusal.{is_hardware}
 use Rattle.picky_key_text.specs.declared.meaning.Key.{Key}
 use Rattle.picky_key_text.specs.declared.meaning.Key.TheVariants as keys
 use Rattle.picky_key_text.specs.declared.meaning.Meaning.{Meaning}

@@ -1,14 +1,14 @@
 -- The text of each target for a key and a comment.
 use Rattle.std.specs.Prelude.{◌≡◌, List, [], ℕ}
-use Rattle.picky_pem.specs.Pem.{pem_text}
+use Rattle.picky_sshkey_blob.specs.Pem.{pem_text}
 use Rattle.picky_suite.specs.Meanings.{Meanings}
-use Rattle.picky_sshpub.specs.Blob.{blob_of}
-use Rattle.picky_sshpub.specs.Line.{line_of}
+use Rattle.picky_keys.specs.Blob.{blob_of}
+use Rattle.picky_keys.specs.Line.{line_of}
 use Rattle.picky_sshkey_blob.specs.declared.key.SshBasePrivateKey.{SshBasePrivateKey}
 use Rattle.picky_sshkey.specs.declared.private_key.SshPrivateKey.{SshPrivateKey}
 use Rattle.picky_sshkey.specs.Written.{content_under, lock_kept}
 use Rattle.picky_ppk_file.specs.Written.{file_text}
-use Rattle.picky_putty_public.specs.PuttyPublic.{putty_public, SpellsPuttyPublic}
+use Rattle.picky_ppk_file.specs.PuttyPublic.{putty_public, SpellsPuttyPublic}
 use Rattle.picky_key_text.specs.declared.meaning.Key.{Key}
 use Rattle.picky_key_text.specs.declared.meaning.Key.TheVariants as keys
 use Rattle.picky_key_text.specs.declared.meaning.Meaning.{Meaning}

@@ -10,7 +10,7 @@ ghost use Rattle.picky_wire.specs.Gives.{Gives};
 ghost use Rattle.picky_sshkey_blob.specs.Key.{public_part};
 ghost use Rattle.picky_ppk_parts.specs.Secret.{secret_bytes};
 ghost use Rattle.picky_ppk_file.specs.File.{version_of};
-ghost use Rattle.picky_putty_public.specs.PuttyRefusal.{is_hardware as is_hardware_of};
+ghost use Rattle.picky_ppk_file.specs.PuttyRefusal.{is_hardware as is_hardware_of};
 ghost use Rattle.picky_ppk.specs.Sealed.{file_to_seal, is_sealable, padding_len as missing_len};
 ghost use Rattle.picky_target.specs.Drafts.{padding_len as padding_len_of, plain_file as plain_file_of, salt_len as salt_len_of};
 ghost use Rattle.picky_target.specs.Judged.{mac_len};

@@ -10,13 +10,13 @@ use crate::error::ConvertError;
 use crate::target::KeyTarget;
 use picky_ppk::{PuttyError, PuttyPublicKey};
 use picky_ppk_parts::no_hardware_keys;
-use picky_putty_public::is_hardware;
-use picky_sshpub::{SshPublicKey, SshPublicKeyError};
+use picky_ppk_file::is_hardware;
+use picky_keys::{SshPublicKey, SshPublicKeyError};
 use picky_wire::Text;
 use std::alloc::Global;
 
 /// The public key line. Refuses, in order: `CommentNotCarried`, `TooLong`.
-#[tactic(auto, unfolding(picky_sshpub::specs::LineRefusal::line_text))]
+#[tactic(auto, unfolding(picky_keys::specs::LineRefusal::line_text))]
 pub fn write_line(alloc: Global, key: &SshPublicKey) -> Result<Text, ConvertError>
     ensures { Gives ConvertError.NoMemory (λ text. text) result (line_written key.now) }
 {

@@ -7,7 +7,7 @@ use picky_key_rows::{
 use picky_key_text::{Form, Key, Meaning, ReadError, form_of, public_key, read_text};
 use picky_ppk::{PpkVersion, PuttyError};
 use picky_sshkey::{SshBasePrivateKey, SshPrivateKeyError};
-use picky_sshpub::{SshPublicKey, SshPublicKeyError};
+use picky_keys::{SshPublicKey, SshPublicKeyError};
 use picky_suite::{MemorySuite, PlainSuite};
 use picky_wire::Text;
 use std::alloc::Global;

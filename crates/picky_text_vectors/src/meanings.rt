@@ -2,8 +2,7 @@
 
 use crate::key_texts::meaning_of;
 use picky_key_text::{Key, Meaning};
-use picky_keys::EcCurve;
-use picky_sshpub::SshBasePublicKey;
+use picky_keys::{EcCurve, SshBasePublicKey};
 use picky_wire::{Bytes, Mpint, Text, TryClone};
 use std::alloc::Global;
 use std::mem::ManuallyDrop;

@@ -6,7 +6,7 @@ use picky_cert_parts::{
     SshSignatureError,
 };
 use picky_key_text::ReadError;
-use picky_sshpub::SshPublicKeyError;
+use picky_keys::SshPublicKeyError;
 use picky_wire::IoKind;
 use std::mem::ManuallyDrop;
 use std::test::Fail;

@@ -2,7 +2,7 @@
 
 use picky_conversion::{ConversionGiven, convert_key};
 use picky_key_text::{ReadError, read_text};
-use picky_sshpub::{SshPublicKey, SshPublicKeyError};
+use picky_keys::{SshPublicKey, SshPublicKeyError};
 use picky_suite::PlainSuite;
 use picky_target::{ConvertError, KeyTarget};
 use picky_wire::{IoKind, MemorySource, SshComplexTypeDecode};

@@ -3,7 +3,7 @@
 use crate::runs::converts;
 use picky_convert::Target;
 use picky_key_rows::KEY_ROWS;
-use picky_sshpub::{SshPublicKey, SshPublicKeyError};
+use picky_keys::{SshPublicKey, SshPublicKeyError};
 use picky_wire::{MemorySink, MemorySource, SliceSource, SshComplexTypeDecode, TryClone};
 use std::alloc::Global;
 use std::mem::ManuallyDrop;

@@ -11,15 +11,15 @@ use Rattle.picky_layout.specs.Table.{find_entry}
 use Rattle.picky_text.specs.Base64.{decoded}
 use Rattle.picky_text.specs.Words.{first_word, body_word}
 use Rattle.picky_wire.specs.declared.error.WireError.TheVariants as wire
-use Rattle.picky_sshpub.specs.LineRefusal.{comment_text, is_short, is_short_text}
-use Rattle.picky_cert_names.specs.declared.cert_key_type.SshCertKeyType.{SshCertKeyType}
-use Rattle.picky_cert_names.specs.declared.cert_key_type.SshCertKeyType.TheVariants as key_types
-use Rattle.picky_cert_names.specs.declared.error.SshCertificateError.{SshCertificateError}
-use Rattle.picky_cert_names.specs.declared.error.SshCertificateError.TheVariants as errors
-use Rattle.picky_cert_names.specs.FromWire.{certificate_error}
-use Rattle.picky_cert_names.specs.Named.{entry_or}
-use Rattle.picky_cert_names.specs.Names.{cert_key_type_name}
-use Rattle.picky_cert_names.specs.NameTables.{cert_key_types}
+use Rattle.picky_keys.specs.LineRefusal.{comment_text, is_short, is_short_text}
+use Rattle.picky_cert_parts.specs.declared.cert_key_type.SshCertKeyType.{SshCertKeyType}
+use Rattle.picky_cert_parts.specs.declared.cert_key_type.SshCertKeyType.TheVariants as key_types
+use Rattle.picky_cert_parts.specs.declared.error.SshCertificateError.{SshCertificateError}
+use Rattle.picky_cert_parts.specs.declared.error.SshCertificateError.TheVariants as errors
+use Rattle.picky_cert_parts.specs.CertFromWire.{certificate_error}
+use Rattle.picky_cert_parts.specs.CertNamed.{entry_or}
+use Rattle.picky_cert_parts.specs.CertNames.{cert_key_type_name}
+use Rattle.picky_cert_parts.specs.CertNameTables.{cert_key_types}
 use Rattle.picky_cert_blob.specs.Reason.{CertReason}
 use Rattle.picky_cert_blob.specs.declared.part.CertPart.TheVariants as parts
 use Rattle.picky_cert.specs.Certificate.{certificate}

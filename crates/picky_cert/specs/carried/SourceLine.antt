@@ -2,9 +2,9 @@
 use Rattle.std.specs.Prelude.{◌≡◌, ◌≢◌, List, ℕ, Err}
 use Rattle.std.proofs.Common.{refl, sym, subst}
 use Rattle.picky_wire.specs.declared.error.WireError.TheVariants as wire
-use Rattle.picky_sshpub.specs.carried.SourceLine.{IsErrorOfLine, line_in_front_own}
-use Rattle.picky_cert_names.specs.declared.error.SshCertificateError.{SshCertificateError}
-use Rattle.picky_cert_names.specs.FromWire.{certificate_error}
+use Rattle.picky_keys.specs.carried.SourceLine.{IsErrorOfLine, line_in_front_own}
+use Rattle.picky_cert_parts.specs.declared.error.SshCertificateError.{SshCertificateError}
+use Rattle.picky_cert_parts.specs.CertFromWire.{certificate_error}
 use Rattle.picky_cert.specs.LineRefusal.{line_meaning}
 use Rattle.picky_cert.specs.SourceLine.{source_meaning}
 use Rattle.picky_cert.specs.Want.{WantsMemory}

@@ -8,13 +8,13 @@ use Rattle.picky_layout.specs.Table.{find_entry}
 use Rattle.picky_layout.specs.Wire.{byte_array, uint32}
 use Rattle.picky_layout.proofs.Numbers.{uint32_spells}
 use Rattle.picky_wire.specs.declared.error.WireError.TheVariants as wire
-use Rattle.picky_cert_names.specs.declared.error.SshCertTypeError.{SshCertTypeError}
-use Rattle.picky_cert_names.specs.declared.error.SshCertTypeError.TheVariants as errors
+use Rattle.picky_cert_parts.specs.declared.error.SshCertTypeError.{SshCertTypeError}
+use Rattle.picky_cert_parts.specs.declared.error.SshCertTypeError.TheVariants as errors
 use Rattle.picky_cert_parts.specs.declared.cert_type.SshCertType.{SshCertType}
 use Rattle.picky_cert_parts.specs.declared.cert_type.SshCertType.TheVariants.{Client, Host}
 use Rattle.picky_cert_parts.specs.Field.{field}
-use Rattle.picky_cert_names.specs.FromWire.{cert_type_error}
-use Rattle.picky_cert_names.specs.carried.FromWire.{cert_type_error_apart}
+use Rattle.picky_cert_parts.specs.CertFromWire.{cert_type_error}
+use Rattle.picky_cert_parts.specs.carried.CertFromWire.{cert_type_error_apart}
 use Rattle.picky_cert_parts.specs.NumberTable.{cert_types}
 use Rattle.picky_cert_parts.specs.CertType.{cert_type, cert_type_of}
 use Rattle.picky_cert_parts.specs.carried.Own.{field_owns, narrow_owns, entry_owns}

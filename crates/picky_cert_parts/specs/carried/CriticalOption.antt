@@ -10,16 +10,16 @@ use Rattle.picky_layout.proofs.Named.{named_spells}
 use Rattle.picky_layout.specs.Wire.{byte_array, uint32, string, string_of, text}
 use Rattle.picky_layout.proofs.Strings.{string_spells}
 use Rattle.picky_wire.specs.declared.error.WireError.TheVariants as wire
-use Rattle.picky_cert_names.specs.declared.error.SshCriticalOptionError.{SshCriticalOptionError}
-use Rattle.picky_cert_names.specs.declared.error.SshCriticalOptionError.TheVariants as errors
-use Rattle.picky_cert_names.specs.declared.option_type.SshCriticalOptionType.{SshCriticalOptionType}
-use Rattle.picky_cert_names.specs.declared.option_type.SshCriticalOptionType.TheVariants as options
+use Rattle.picky_cert_parts.specs.declared.error.SshCriticalOptionError.{SshCriticalOptionError}
+use Rattle.picky_cert_parts.specs.declared.error.SshCriticalOptionError.TheVariants as errors
+use Rattle.picky_cert_parts.specs.declared.option_type.SshCriticalOptionType.{SshCriticalOptionType}
+use Rattle.picky_cert_parts.specs.declared.option_type.SshCriticalOptionType.TheVariants as options
 use Rattle.picky_cert_parts.specs.declared.critical_option.SshCriticalOption.{SshCriticalOption}
 use Rattle.picky_cert_parts.specs.Field.{field}
-use Rattle.picky_cert_names.specs.FromWire.{option_error}
-use Rattle.picky_cert_names.specs.carried.FromWire.{option_error_apart}
-use Rattle.picky_cert_names.specs.Names.{option_name}
-use Rattle.picky_cert_names.specs.NameTables.{option_types}
+use Rattle.picky_cert_parts.specs.CertFromWire.{option_error}
+use Rattle.picky_cert_parts.specs.carried.CertFromWire.{option_error_apart}
+use Rattle.picky_cert_parts.specs.CertNames.{option_name}
+use Rattle.picky_cert_parts.specs.CertNameTables.{option_types}
 use Rattle.picky_cert_parts.specs.CriticalOption.{option_type, option_payload, option_made}
 use Rattle.picky_cert_parts.specs.CriticalOption.{option_rest, critical_option, option_of, IsOption}
 use Rattle.picky_layout.specs.Combine.{done}

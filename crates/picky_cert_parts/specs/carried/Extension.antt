@@ -9,19 +9,19 @@ use Rattle.picky_layout.proofs.Named.{named_spells}
 use Rattle.picky_layout.specs.Wire.{byte_array, uint32, string, string_of, text}
 use Rattle.picky_layout.proofs.Strings.{string_spells, text_spells}
 use Rattle.picky_wire.specs.declared.error.WireError.TheVariants as wire
-use Rattle.picky_cert_names.specs.declared.error.SshExtensionError.{SshExtensionError}
-use Rattle.picky_cert_names.specs.declared.known_extension.KnownExtension.{KnownExtension}
-use Rattle.picky_cert_names.specs.declared.known_extension.KnownExtension.TheVariants as known
-use Rattle.picky_cert_names.specs.declared.extension_type.SshExtensionType.{SshExtensionType}
-use Rattle.picky_cert_names.specs.declared.extension_type.SshExtensionType.TheVariants as extensions
+use Rattle.picky_cert_parts.specs.declared.error.SshExtensionError.{SshExtensionError}
+use Rattle.picky_cert_parts.specs.declared.known_extension.KnownExtension.{KnownExtension}
+use Rattle.picky_cert_parts.specs.declared.known_extension.KnownExtension.TheVariants as known
+use Rattle.picky_cert_parts.specs.declared.extension_type.SshExtensionType.{SshExtensionType}
+use Rattle.picky_cert_parts.specs.declared.extension_type.SshExtensionType.TheVariants as extensions
 use Rattle.picky_cert_parts.specs.declared.extension.SshExtension.{SshExtension}
 use Rattle.picky_cert_parts.specs.Field.{field}
-use Rattle.picky_cert_names.specs.FromWire.{extension_error}
-use Rattle.picky_cert_names.specs.carried.FromWire.{extension_error_apart}
-use Rattle.picky_cert_names.specs.Names.{known_name}
-use Rattle.picky_cert_names.proofs.ExtensionNames.{name_names}
-use Rattle.picky_cert_names.specs.NameTables.{known_extensions}
-use Rattle.picky_cert_names.specs.ExtensionType.{extension_name, extension_named, IsExtensionType}
+use Rattle.picky_cert_parts.specs.CertFromWire.{extension_error}
+use Rattle.picky_cert_parts.specs.carried.CertFromWire.{extension_error_apart}
+use Rattle.picky_cert_parts.specs.CertNames.{known_name}
+use Rattle.picky_cert_parts.specs.carried.ExtensionNames.{name_names}
+use Rattle.picky_cert_parts.specs.CertNameTables.{known_extensions}
+use Rattle.picky_cert_parts.specs.ExtensionType.{extension_name, extension_named, IsExtensionType}
 use Rattle.picky_cert_parts.specs.Extension.{extension_type, extension_payload, extension_made, extension_rest}
 use Rattle.picky_cert_parts.specs.Extension.{extension, extension_of, IsExtension}
 use Rattle.picky_cert_parts.specs.carried.Own.{Owns, field_owns, both_owns, narrow_owns}

@@ -15,16 +15,16 @@ use Rattle.picky_layout.specs.Numbers.{byte}
 use Rattle.picky_layout.specs.Wire.{byte_array, uint32, string, string_of, text}
 use Rattle.picky_layout.proofs.Numbers.{byte_spells, uint32_spells}
 use Rattle.picky_layout.proofs.Strings.{string_spells}
-use Rattle.picky_sshpub.specs.Key.{IsString}
+use Rattle.picky_keys.specs.Key.{IsString}
 use Rattle.picky_wire.specs.declared.error.WireError.TheVariants as wire
-use Rattle.picky_cert_names.specs.declared.error.SshSignatureError.{SshSignatureError}
-use Rattle.picky_cert_names.specs.declared.error.SshSignatureError.TheVariants as errors
-use Rattle.picky_cert_names.specs.declared.signature_format.SshSignatureFormat.{SshSignatureFormat}
-use Rattle.picky_cert_names.specs.declared.signature_format.SshSignatureFormat.TheVariants as formats
-use Rattle.picky_cert_names.specs.FromWire.{signature_error}
-use Rattle.picky_cert_names.specs.carried.FromWire.{signature_error_apart}
-use Rattle.picky_cert_names.specs.Names.{format_name, is_sk}
-use Rattle.picky_cert_names.specs.NameTables.{signature_formats}
+use Rattle.picky_cert_parts.specs.declared.error.SshSignatureError.{SshSignatureError}
+use Rattle.picky_cert_parts.specs.declared.error.SshSignatureError.TheVariants as errors
+use Rattle.picky_cert_parts.specs.declared.signature_format.SshSignatureFormat.{SshSignatureFormat}
+use Rattle.picky_cert_parts.specs.declared.signature_format.SshSignatureFormat.TheVariants as formats
+use Rattle.picky_cert_parts.specs.CertFromWire.{signature_error}
+use Rattle.picky_cert_parts.specs.carried.CertFromWire.{signature_error_apart}
+use Rattle.picky_cert_parts.specs.CertNames.{format_name, is_sk}
+use Rattle.picky_cert_parts.specs.CertNameTables.{signature_formats}
 use Rattle.picky_cert_parts.specs.declared.signature.SshSignature.{SshSignature}
 use Rattle.picky_cert_parts.specs.declared.signature.SshSignatureBlob.{SshSignatureBlob}
 use Rattle.picky_cert_parts.specs.declared.signature.SshSignatureBlob.TheVariants as blobs

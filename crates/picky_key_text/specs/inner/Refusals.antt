@@ -1,10 +1,10 @@
 -- A layer's refusal as the text's, where want of memory is the outer want.
-use Rattle.picky_sshpub.specs.declared.error.SshPublicKeyError.{SshPublicKeyError}
-use Rattle.picky_sshpub.specs.declared.error.SshPublicKeyError.TheVariants as public
+use Rattle.picky_keys.specs.declared.error.SshPublicKeyError.{SshPublicKeyError}
+use Rattle.picky_keys.specs.declared.error.SshPublicKeyError.TheVariants as public
 use Rattle.picky_sshkey_blob.specs.declared.error.SshPrivateKeyError.{SshPrivateKeyError}
 use Rattle.picky_sshkey_blob.specs.declared.error.SshPrivateKeyError.TheVariants as private
-use Rattle.picky_cert_names.specs.declared.error.SshCertificateError.{SshCertificateError}
-use Rattle.picky_cert_names.specs.declared.error.SshCertificateError.TheVariants as certificate
+use Rattle.picky_cert_parts.specs.declared.error.SshCertificateError.{SshCertificateError}
+use Rattle.picky_cert_parts.specs.declared.error.SshCertificateError.TheVariants as certificate
 use Rattle.picky_ppk_parts.specs.declared.error.PuttyError.{PuttyError}
 use Rattle.picky_ppk_parts.specs.declared.error.PuttyError.TheVariants as putty
 use Rattle.picky_key_text.specs.declared.error.ReadError.{ReadError}

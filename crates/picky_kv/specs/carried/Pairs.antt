@@ -9,7 +9,7 @@ use Rattle.picky_kv_words.specs.declared.choices.PpkVersionKey.TheVariants.{V2, 
 use Rattle.picky_kv_words.specs.ChoiceFields.{version_field}
 use Rattle.picky_kv_words.specs.Keys.{encryption_key, comment_key, public_lines_key, private_lines_key}
 use Rattle.picky_kv_words.specs.Keys.{private_mac_key}
-use Rattle.picky_kv_values.specs.ValueFields.{base64_field}
+use Rattle.picky_kv_words.specs.ValueFields.{base64_field}
 
 -- it is plain
 pub key_derivation_key_is_plain : IsPlain key_derivation_key

@@ -2,7 +2,7 @@
 use Rattle.std.specs.Prelude.{◌≡◌, ◌++◌, ℕ, List, Result, Ok, Err}
 use Rattle.picky_input.specs.Extent.{Extent, ToEnd}
 use Rattle.picky_suite.specs.Signs.{Relation}
-use Rattle.picky_sshpub.specs.declared.key.SshBasePublicKey.{SshBasePublicKey}
+use Rattle.picky_keys.specs.declared.key.SshBasePublicKey.{SshBasePublicKey}
 use Rattle.picky_ledger.specs.declared.apply.LedgerError.{LedgerError}
 use Rattle.picky_ledger.specs.declared.apply.LedgerError.TheVariants as errors
 use Rattle.picky_ledger.specs.declared.reply.Reply.{Reply}

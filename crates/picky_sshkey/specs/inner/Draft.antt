@@ -1,6 +1,6 @@
 -- What is written of a key, before its block is sealed.
 use Rattle.std.specs.Prelude.{◌≡◌, ◌<◌, ◌^◌, length, true}
-use Rattle.picky_sshpub.specs.Blob.{blob_of}
+use Rattle.picky_keys.specs.Blob.{blob_of}
 use Rattle.picky_sshkey_blob.specs.Key.{public_part}
 use Rattle.picky_sshkey.specs.declared.private_key.SshPrivateKey.{SshPrivateKey}
 use Rattle.picky_sshkey.specs.declared.draft.PrivateKeyDraft.{PrivateKeyDraft}

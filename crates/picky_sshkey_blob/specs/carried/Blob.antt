@@ -6,10 +6,10 @@ use Rattle.picky_layout.specs.Wire.{string_of}
 use Rattle.picky_layout.proofs.Strings.{string_spells, text_spells}
 use Rattle.picky_layout.proofs.Numbers.{byte_spells}
 use Rattle.picky_layout.proofs.Mpint.{mpint_spells}
-use Rattle.picky_keys.specs.Names.{kind_name, curve_identifier}
-use Rattle.picky_keys.proofs.Names.{kind_name_spells, identifier_spells}
+use Rattle.picky_keys.specs.KeyNames.{kind_name, curve_identifier}
+use Rattle.picky_keys.specs.carried.KeyNamePieces.{kind_name_spells, identifier_spells}
 use Rattle.picky_keys.specs.declared.curve.EcCurve.TheVariants.{NistP256}
-use Rattle.picky_sshpub.specs.Blob.{key_type, ed_key}
+use Rattle.picky_keys.specs.Blob.{key_type, ed_key}
 use Rattle.picky_sshkey_blob.specs.declared.key.SshBasePrivateKey.{SshBasePrivateKey}
 use Rattle.picky_sshkey_blob.specs.declared.key.SshBasePrivateKey.TheVariants as keys
 use Rattle.picky_sshkey_blob.specs.Key.{IsPrivateKey, kind_of}

@@ -7,7 +7,7 @@ use Rattle.picky_layout.specs.Row.{Solid}
 use Rattle.picky_layout.proofs.Solid.{refuses_empty}
 use Rattle.picky_layout.specs.Wire.{byte_array, uint32, string, text}
 use Rattle.picky_wire.specs.declared.error.WireError.TheVariants as wire
-use Rattle.picky_sshpub.specs.Blob.{key_type}
+use Rattle.picky_keys.specs.Blob.{key_type}
 use Rattle.picky_sshkey_blob.specs.declared.error.SshPrivateKeyError.{SshPrivateKeyError}
 use Rattle.picky_sshkey_blob.specs.declared.error.SshPrivateKeyError.TheVariants as errors
 use Rattle.picky_sshkey_blob.specs.FromWire.{private_key_error}

@@ -1,6 +1,6 @@
 -- The way of the key's kind.
 use Rattle.std.proofs.Common.{◌≡◌, ◌∙◌, Some, IfOk, Option, ap, subst, sym}
-use Rattle.picky_sshpub.specs.Key.{kind_of}
+use Rattle.picky_keys.specs.Key.{kind_of}
 use Rattle.picky_sshkey_blob.specs.Key.{public_part}
 use Rattle.picky_agent_state.specs.Kept.{machine}
 use Rattle.picky_agent_state.specs.Request.{sign_request}

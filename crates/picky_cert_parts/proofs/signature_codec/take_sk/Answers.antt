@@ -3,7 +3,7 @@ use Rattle.std.proofs.Common.{◌∙◌}
 use Rattle.picky_layout.specs.Numbers.{byte}
 use Rattle.picky_layout.specs.Wire.{uint32}
 use Rattle.picky_wire.specs.Takes.{causes_of}
-use Rattle.picky_cert_names.specs.FromWire.{signature_error}
+use Rattle.picky_cert_parts.specs.CertFromWire.{signature_error}
 use Rattle.picky_cert_parts.specs.Field.{field}
 use Rattle.picky_cert_parts.proofs.CauseLemmas.{counted_later}
 use Rattle.picky_cert_parts.proofs.SignatureLemmas.{flags_cause, counter_cause}

@@ -10,7 +10,7 @@ use Rattle.picky_conversion.specs.Made.{Whole}
 use Rattle.picky_conversion.specs.Outside.{outside}
 use Rattle.picky_conversion.proofs.CertifyLemmas.{plain_made}
 use Rattle.picky_conversion.proofs.CertifyLemmas.{still_leaves, still_signs}
-use Rattle.picky_sample.specs.Sample.{sample_text}
+use Rattle.picky_convert.specs.Sample.{sample_text}
 use Rattle.picky_convert.proofs.command.answer_to.Goals as goal
 
 pub returns-in-Ok-clause-gives : goal.returns-in-Ok-clause-gives

@@ -1,5 +1,5 @@
 -- A line that is taken goes behind the others.
-use Rattle.picky_block.specs.Joined.{joined_text}
+use Rattle.picky_kv.specs.Joined.{joined_text}
 use Rattle.picky_kv.proofs.BlockLemmas.{one_line_more}
 use Rattle.picky_kv.proofs.counted.take_counted.Goals as goal
 

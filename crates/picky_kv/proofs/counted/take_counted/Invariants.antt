@@ -1,5 +1,5 @@
 -- The lines so far and those that are left make the block.
-use Rattle.picky_block.specs.Joined.{joined_text}
+use Rattle.picky_kv.specs.Joined.{joined_text}
 use Rattle.picky_kv.proofs.BlockLemmas.{IsUnderWay}
 use Rattle.picky_kv.proofs.counted.take_counted.Given as goal
 

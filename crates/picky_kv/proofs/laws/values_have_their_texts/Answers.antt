@@ -17,7 +17,7 @@ use Rattle.picky_kv.proofs.LiteralLemmas.{literal_type_is}
 use Rattle.picky_kv.proofs.NumberLemmas.{number_field_is}
 use Rattle.picky_kv.proofs.ValueLemmas.{comment_field_is, base64_field_is, hex_field_is}
 use Rattle.picky_kv.proofs.ValueLemmas.{hex_is_lower}
-use Rattle.picky_kv_values.specs.ValueFields.{hex_field}
+use Rattle.picky_kv_words.specs.ValueFields.{hex_field}
 use Rattle.picky_kv.proofs.laws.values_have_their_texts.Goals as goal
 
 pub returns-clause-header : goal.returns-clause-header

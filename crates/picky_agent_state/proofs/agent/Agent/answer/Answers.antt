@@ -1,6 +1,6 @@
 -- What each arm's call says, as a step.
 use Rattle.std.proofs.Common.{subst}
-use Rattle.picky_sshpub.specs.View.{key_seen}
+use Rattle.picky_keys.specs.View.{key_seen}
 use Rattle.picky_sshkey_blob.specs.View.{key_seen as private_seen}
 use Rattle.picky_agent_state.specs.declared.identity.Identity.{Identity}
 use Rattle.picky_agent_state.specs.Kept.{Kept, machine}

@@ -1,6 +1,6 @@
 -- The signer is asked with the identity that has the key.
 use Rattle.std.proofs.Common.{◌≡◌, ◌∙◌, List, false, ap, get_or, subst}
-use Rattle.picky_sshpub.specs.View.{key_seen}
+use Rattle.picky_keys.specs.View.{key_seen}
 use Rattle.picky_agent_state.specs.declared.identity.Identity.{Identity}
 use Rattle.picky_agent_state.specs.Kept.{Kept, is_locked, machine}
 use Rattle.picky_agent_state.specs.Held.{IsAt}

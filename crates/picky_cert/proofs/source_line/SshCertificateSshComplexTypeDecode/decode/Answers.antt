@@ -1,6 +1,6 @@
 -- The line was taken, and is judged.
-use Rattle.picky_sshpub.proofs.SourceLemmas.{line_judged, line_cause, line_meant, line_left, no_line_takes, no_line_cause}
-use Rattle.picky_cert_names.specs.FromWire.{certificate_error}
+use Rattle.picky_keys.proofs.SourceLemmas.{line_judged, line_cause, line_meant, line_left, no_line_takes, no_line_cause}
+use Rattle.picky_cert_parts.specs.CertFromWire.{certificate_error}
 use Rattle.picky_cert.specs.LineRefusal.{line_meaning}
 use Rattle.picky_cert.specs.SourceLine.{source_meaning}
 use Rattle.picky_cert.proofs.source_line.SshCertificateSshComplexTypeDecode.decode.Goals as goal

@@ -1,7 +1,7 @@
 -- The payload is cut after a name, before which the count did not move.
 use Rattle.picky_layout.specs.Wire.{string}
 use Rattle.picky_wire.specs.Takes.{causes_of}
-use Rattle.picky_cert_names.specs.FromWire.{option_error}
+use Rattle.picky_cert_parts.specs.CertFromWire.{option_error}
 use Rattle.picky_cert_parts.specs.Field.{field}
 use Rattle.picky_cert_parts.proofs.CauseLemmas.{counted_later}
 use Rattle.picky_cert_parts.proofs.OptionLemmas.{option_payload_cause}

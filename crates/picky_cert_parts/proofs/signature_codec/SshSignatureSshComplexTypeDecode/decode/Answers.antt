@@ -1,7 +1,7 @@
 -- The format or what follows it is refused after fields before which the count did not move.
 use Rattle.std.proofs.Common.{◌∙◌}
 use Rattle.picky_wire.specs.Takes.{causes_of}
-use Rattle.picky_cert_names.specs.FromWire.{signature_error}
+use Rattle.picky_cert_parts.specs.CertFromWire.{signature_error}
 use Rattle.picky_cert_parts.specs.Signature.{signature_format, signature_rest}
 use Rattle.picky_cert_parts.proofs.CauseLemmas.{counted_later}
 use Rattle.picky_cert_parts.proofs.SignatureLemmas.{format_cause, rest_cause}

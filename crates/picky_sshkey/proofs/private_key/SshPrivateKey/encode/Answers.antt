@@ -1,5 +1,5 @@
 -- Where no envelope is made, nothing is written.
-use Rattle.picky_pem.specs.declared.pem.Pem.{Pem}
+use Rattle.picky_sshkey_blob.specs.declared.pem.Pem.{Pem}
 use Rattle.picky_sshkey.proofs.EncodeLemmas.{nothing_encoded}
 use Rattle.picky_sshkey.proofs.private_key.SshPrivateKey.encode.Goals as goal
 

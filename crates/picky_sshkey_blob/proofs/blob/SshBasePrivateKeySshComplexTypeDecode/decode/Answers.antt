@@ -1,10 +1,10 @@
 -- A blob is read by its name and then by its fields, with this layer's errors.
 use Rattle.std.proofs.Common.{◌<◌, ◌^◌, length, ap, sym, subst, ◌∙◌, Ok, Err}
 use Rattle.picky_layout.specs.Table.{find_entry}
-use Rattle.picky_keys.specs.NameTables.{key_types}
+use Rattle.picky_keys.specs.KeyNameTables.{key_types}
 use Rattle.picky_wire.specs.Count.{Rose}
 use Rattle.picky_wire.specs.Takes.{causes_of}
-use Rattle.picky_sshpub.specs.Blob.{key_type}
+use Rattle.picky_keys.specs.Blob.{key_type}
 use Rattle.picky_sshkey_blob.specs.FromWire.{private_key_error}
 use Rattle.picky_sshkey_blob.specs.Blob.{secret, private_key_fields}
 use Rattle.picky_sshkey_blob.specs.BlobRefusal.{read_secret, private_error, stop_error}

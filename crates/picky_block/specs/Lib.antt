@@ -1,4 +1,0 @@
-pub mod Block
-pub mod BlockRefusal
-pub mod Joined
-pub mod inner

@@ -1,3 +1,0 @@
-pub mod NameLaws
-pub mod ExtensionNames
-pub mod TypeNameLaws

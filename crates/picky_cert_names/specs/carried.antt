@@ -1,2 +1,0 @@
-pub mod FromWire
-pub mod Names

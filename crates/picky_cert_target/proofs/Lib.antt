@@ -1,3 +1,0 @@
-pub mod DraftedLaws
-pub mod ReadBackLemmas
-mod SignedLemmas

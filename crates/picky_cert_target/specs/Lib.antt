@@ -1,4 +1,0 @@
-pub mod Request
-pub mod Drafted
-pub mod Certified
-pub mod inner

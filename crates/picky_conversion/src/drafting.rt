@@ -1,0 +1,190 @@
+//! The certificate that is asked for a key and a comment, before a device signs it.
+
+ghost use Rattle.std.specs.Prelude.{◌≡◌, IfOk, length};
+ghost use Rattle.picky_layout.specs.Numbers.{IsBytes};
+ghost use Rattle.picky_layout.specs.Outcome.{map_ok};
+ghost use Rattle.picky_wire.specs.Gives.{Gives};
+ghost use Rattle.picky_cert.specs.Spelled.{signed_of};
+ghost use Rattle.picky_cert_builder.specs.Drafted.{IsWhole, draft_shown};
+ghost use Rattle.picky_cert_builder.specs.Keeps.{IsRequest};
+ghost use Rattle.picky_conversion.specs.Drafted.{drafted, drafted_of as drafted_by, line_drafted, nonce_in, unsigned_line, request_refusal as request_refusal_of};
+ghost use Rattle.picky_conversion.specs.inner.Signed.{IsReadBack};
+
+use crate::request::{CertRequest, builder_of};
+use picky_cert_builder::{
+    CertificateDraft, SshCertificateBuilder, SshCertificateGenerationError, request_keeps_its_ranges,
+};
+use picky_key_text::Meaning;
+use picky_target::{ConvertError, KeyTarget, carries_comment};
+use picky_wire::{Bytes, MAX_LEN, NoMemory};
+use std::alloc::Global;
+
+/// How many fresh bytes a nonce takes.
+const NONCE_LEN: usize = 32;
+
+/// The bytes that a device signs of the certificate that is asked for a key and a comment, with the first 32 fresh bytes as
+/// its nonce (OpenSSH's PROTOCOL.certkeys).
+///
+/// Refuses, in order: `CommentNotCarried`, where a line doesn't carry the comment; `Request`, as
+/// `picky_cert_builder::RequestTerms::judge`; `FreshTooShort`; `TooLong`, where there are 2^32 bytes or more.
+#[tactic(auto, unfolding(crate::specs::Drafted::drafted))]
+pub fn write_signed_bytes(
+    alloc: Global,
+    request: &CertRequest,
+    meaning: Meaning,
+    fresh: &[u8],
+) -> Result<Bytes, ConvertError>
+    ensures { Gives ConvertError.NoMemory (λ bytes. bytes) result
+        (map_ok (λ u. signed_of u.certificate) (drafted request.now meaning fresh.now)) }
+{
+    if !carries_comment(KeyTarget::OpenSshPublic, meaning.comment.as_str()) {
+        drop(meaning);
+        return Err(ConvertError::CommentNotCarried);
+    }
+    match builder_of(alloc, request, meaning) {
+        Ok(builder) => {
+            let bytes = bytes_of(alloc, &builder, fresh);
+            drop(builder);
+            bytes
+        }
+        Err(NoMemory) => Err(ConvertError::NoMemory),
+    }
+}
+
+/// The certificate whose line is to be written, and what a device signs of it.
+///
+/// Refuses, in order: as `write_signed_bytes`; `TooLong`, where the line has 2^32 bytes or more without a signature.
+#[tactic(auto, unfolding(crate::specs::Drafted::line_drafted))]
+pub fn draft_line(
+    alloc: Global,
+    request: &CertRequest,
+    meaning: Meaning,
+    fresh: &[u8],
+) -> Result<CertificateDraft, ConvertError>
+    ensures gives { Gives ConvertError.NoMemory draft_shown result (line_drafted request.now meaning fresh.now) }
+    ensures whole { IfOk result IsWhole }
+    ensures back { IfOk result (λ d. IsReadBack d.certificate) }
+{
+    match draft(alloc, request, meaning, fresh) {
+        Ok(draft) => {
+            if unsigned_line_len(&draft) > MAX_LEN {
+                drop(draft);
+                return Err(ConvertError::TooLong);
+            }
+            Ok(draft)
+        }
+        Err(e) => Err(e),
+    }
+}
+
+/// The certificate that is asked for, and what a device signs of it. Refuses as `write_signed_bytes`.
+#[tactic(auto, unfolding(crate::specs::Drafted::drafted))]
+fn draft(
+    alloc: Global,
+    request: &CertRequest,
+    meaning: Meaning,
+    fresh: &[u8],
+) -> Result<CertificateDraft, ConvertError>
+    ensures gives { Gives ConvertError.NoMemory draft_shown result (drafted request.now meaning fresh.now) }
+    ensures whole { IfOk result IsWhole }
+    ensures back { IfOk result (λ d. IsReadBack d.certificate) }
+{
+    if !carries_comment(KeyTarget::OpenSshPublic, meaning.comment.as_str()) {
+        drop(meaning);
+        return Err(ConvertError::CommentNotCarried);
+    }
+    match builder_of(alloc, request, meaning) {
+        Ok(builder) => {
+            let draft = builder_draft(alloc, &builder, fresh);
+            drop(builder);
+            draft
+        }
+        Err(NoMemory) => Err(ConvertError::NoMemory),
+    }
+}
+
+/// What is signed of what is asked for. Refuses, in order: `Request`; `FreshTooShort`; `TooLong`.
+#[tactic(auto, unfolding(crate::specs::Drafted::drafted_of))]
+fn bytes_of(
+    alloc: Global,
+    builder: &SshCertificateBuilder,
+    fresh: &[u8],
+) -> Result<Bytes, ConvertError>
+    ensures { Gives ConvertError.NoMemory (λ bytes. bytes) result (map_ok (λ u. signed_of u.certificate) (drafted_by builder.now fresh.now)) }
+{
+    match builder.terms().judge() {
+        Ok(_) => match nonce_of(fresh) {
+            Ok(nonce) => match builder.unsigned(alloc, &nonce) {
+                Ok(bytes) => Ok(bytes),
+                Err(e) => Err(request_refusal(e)),
+            },
+            Err(e) => Err(e),
+        },
+        Err(e) => Err(request_refusal(e)),
+    }
+}
+
+/// The certificate of what is asked for. Refuses, in order: `Request`; `FreshTooShort`; `TooLong`.
+#[tactic(auto, unfolding(crate::specs::Drafted::drafted_of))]
+fn builder_draft(
+    alloc: Global,
+    builder: &SshCertificateBuilder,
+    fresh: &[u8],
+) -> Result<CertificateDraft, ConvertError>
+    ensures gives { Gives ConvertError.NoMemory draft_shown result (drafted_by builder.now fresh.now) }
+    ensures whole { IfOk result IsWhole }
+    ensures ranges { IsRequest builder.now }
+    ensures bytes { IsBytes fresh.now }
+{
+    request_keeps_its_ranges(builder);
+    match builder.terms().judge() {
+        Ok(_) => match nonce_of(fresh) {
+            Ok(nonce) => match builder.draft(alloc, &nonce) {
+                Ok(draft) => Ok(draft),
+                Err(e) => Err(request_refusal(e)),
+            },
+            Err(e) => Err(e),
+        },
+        Err(e) => Err(request_refusal(e)),
+    }
+}
+
+/// The first fresh bytes. Refuses: `FreshTooShort`.
+fn nonce_of(fresh: &[u8]) -> Result<[u8; NONCE_LEN], ConvertError>
+    ensures { result ≡ nonce_in fresh.now }
+{
+    if fresh.len() < NONCE_LEN {
+        return Err(ConvertError::FreshTooShort);
+    }
+    let mut nonce = [0; NONCE_LEN];
+    let (front, _) = fresh.split_at(NONCE_LEN);
+    nonce.copy_from_slice(front);
+    Ok(nonce)
+}
+
+/// How long the line is without a signature.
+fn unsigned_line_len(draft: &CertificateDraft) -> usize
+    requires { IsWhole draft.now }
+    ensures { result ≡ length (unsigned_line draft.now.certificate) }
+{
+    let name = draft.certificate.cert_key_type.as_str();
+    let comment = draft.certificate.comment.as_str();
+    name.len() + 1 + (draft.message.as_slice().len() + 2) / 3 * 4 + 1 + comment.len() + 2
+}
+
+/// A refusal of the request as the conversion's: what is too long is the text.
+fn request_refusal(e: SshCertificateGenerationError) -> ConvertError
+    ensures { result ≡ request_refusal_of e }
+{
+    match e {
+        SshCertificateGenerationError::NoMemory => {
+            drop(e);
+            ConvertError::NoMemory
+        }
+        SshCertificateGenerationError::TooLong => {
+            drop(e);
+            ConvertError::TooLong
+        }
+        e => ConvertError::Request(e),
+    }
+}

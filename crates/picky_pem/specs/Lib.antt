@@ -1,2 +1,0 @@
-pub mod Pem
-pub mod PemRefusal

@@ -1,2 +1,0 @@
-pub mod PuttyPublic
-pub mod PuttyRefusal

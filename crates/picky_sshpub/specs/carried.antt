@@ -1,4 +1,0 @@
-pub mod Blob
-pub mod BlobLayout
-pub mod FromWire
-pub mod SourceLine
