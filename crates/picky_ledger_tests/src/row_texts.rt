@@ -5,7 +5,7 @@ use std::alloc::Global;
 use std::mem::ManuallyDrop;
 use std::test::Fail;
 
-// All by python3, with the functions beside picky_issue_vectors::zero_lines, and
+// All by python3, with the functions beside picky_issue_tests::zero_lines, and
 // def body(signed): return b64encode(signed + s(ed_signature)).decode()
 // ed_signature = s(b"ssh-ed25519") + s(bytes(64))
 // NAMES = [b"permit-X11-forwarding", b"permit-agent-forwarding", b"permit-port-forwarding", b"permit-pty", b"permit-user-rc"]
