@@ -1,28 +1,28 @@
 -- The words of the contracts: the definitions that public clauses of the crates below depend on. Written by check/facade.
-pub use Rattle.picky_layout.specs.ByteArray
-pub use Rattle.picky_layout.specs.Combine
-pub use Rattle.picky_layout.specs.Empty
-pub use Rattle.picky_layout.specs.Entry as LayoutEntry
-pub use Rattle.picky_layout.specs.Fixed
-pub use Rattle.picky_layout.specs.Flaw
-pub use Rattle.picky_layout.specs.Front
-pub use Rattle.picky_layout.specs.Grammar
-pub use Rattle.picky_layout.specs.Inside
-pub use Rattle.picky_layout.specs.Joined as LayoutJoined
-pub use Rattle.picky_layout.specs.Magnitude
-pub use Rattle.picky_layout.specs.Many
-pub use Rattle.picky_layout.specs.Mpint
-pub use Rattle.picky_layout.specs.Named as LayoutNamed
-pub use Rattle.picky_layout.specs.Narrowed
-pub use Rattle.picky_layout.specs.Numbers as LayoutNumbers
-pub use Rattle.picky_layout.specs.OrEmpty
-pub use Rattle.picky_layout.specs.Outcome
-pub use Rattle.picky_layout.specs.Row
-pub use Rattle.picky_layout.specs.Short
-pub use Rattle.picky_layout.specs.Table
-pub use Rattle.picky_layout.specs.When
-pub use Rattle.picky_layout.specs.Wire
-pub use Rattle.picky_layout.specs.Zeros as LayoutZeros
+pub use Rattle.picky_wire_base.specs.ByteArray
+pub use Rattle.picky_wire_base.specs.Combine
+pub use Rattle.picky_wire_base.specs.Empty
+pub use Rattle.picky_wire_base.specs.Entry as LayoutEntry
+pub use Rattle.picky_wire_base.specs.Fixed
+pub use Rattle.picky_wire_base.specs.Flaw
+pub use Rattle.picky_wire_base.specs.Front
+pub use Rattle.picky_wire_base.specs.Grammar
+pub use Rattle.picky_wire_base.specs.Inside
+pub use Rattle.picky_wire_base.specs.Joined as LayoutJoined
+pub use Rattle.picky_wire_base.specs.Magnitude
+pub use Rattle.picky_wire_base.specs.Many
+pub use Rattle.picky_wire_base.specs.Mpint
+pub use Rattle.picky_wire_base.specs.Named as LayoutNamed
+pub use Rattle.picky_wire_base.specs.Narrowed
+pub use Rattle.picky_wire_base.specs.Numbers as LayoutNumbers
+pub use Rattle.picky_wire_base.specs.OrEmpty
+pub use Rattle.picky_wire_base.specs.Outcome
+pub use Rattle.picky_wire_base.specs.Row
+pub use Rattle.picky_wire_base.specs.Short
+pub use Rattle.picky_wire_base.specs.Table
+pub use Rattle.picky_wire_base.specs.When
+pub use Rattle.picky_wire_base.specs.Wire
+pub use Rattle.picky_wire_base.specs.Zeros as LayoutZeros
 pub use Rattle.picky_text.specs.Appended
 pub use Rattle.picky_text.specs.Base64
 pub use Rattle.picky_text.specs.Lines as TextLines
@@ -30,19 +30,19 @@ pub use Rattle.picky_text.specs.Quote
 pub use Rattle.picky_text.specs.Rows as TextRows
 pub use Rattle.picky_text.specs.Words
 pub use Rattle.picky_wire.specs.Count
-pub use Rattle.picky_wire.specs.Equality
+pub use Rattle.picky_wire_base.specs.Equality
 pub use Rattle.picky_wire.specs.Flaws
-pub use Rattle.picky_wire.specs.Gives
+pub use Rattle.picky_wire_base.specs.Gives
 pub use Rattle.picky_wire.specs.Known
 pub use Rattle.picky_wire.specs.LengthFirst
 pub use Rattle.picky_wire.specs.Memory as WireMemory
 pub use Rattle.picky_wire.specs.Moment
 pub use Rattle.picky_wire.specs.Principals
 pub use Rattle.picky_wire.specs.Puts
-pub use Rattle.picky_wire.specs.Reading
+pub use Rattle.picky_wire_base.specs.Reading
 pub use Rattle.picky_wire.specs.Takes
 pub use Rattle.picky_wire.specs.Unread
-pub use Rattle.picky_wire.specs.View as WireView
+pub use Rattle.picky_wire_base.specs.View as WireView
 pub use Rattle.picky_input.specs.Extent
 pub use Rattle.picky_input.specs.Input
 pub use Rattle.picky_input.specs.SourceText

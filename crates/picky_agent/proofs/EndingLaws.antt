@@ -5,10 +5,10 @@ use Rattle.std.specs.Int.{w32, to_be_bytes}
 use Rattle.std.specs.List.{AllByRecursion}
 use Rattle.std.proofs.lemmas.List.{length-append}
 use Rattle.std.proofs.lemmas.List.Folds.{flat_map-map}
-use Rattle.picky_layout.specs.Wire.{string, string_of, uint32}
-use Rattle.picky_layout.proofs.Grammar.{one_front}
-use Rattle.picky_layout.proofs.Numbers.{uint32_spells}
-use Rattle.picky_layout.proofs.Strings.{string_spells}
+use Rattle.picky_wire_base.specs.Wire.{string, string_of, uint32}
+use Rattle.picky_wire_base.proofs.Grammar.{one_front}
+use Rattle.picky_wire_base.proofs.Numbers.{uint32_spells}
+use Rattle.picky_wire_base.proofs.Strings.{string_spells}
 use Rattle.picky_agent_state.specs.Kept.{Kept}
 use Rattle.picky_agent_state.specs.Message.{IsMessage}
 use Rattle.picky_agent_state.specs.Request.{Request, Identities, Sign, Add, Remove, RemoveAll, Lock, Unlock, Unfit, request_of}

@@ -5,18 +5,18 @@ use Rattle.std.specs.Prelude.{slice_index}
 use Rattle.std.specs.Int.{w32, from_be_bytes, to_be_bytes}
 use Rattle.std.proofs.lemmas.List.{length-append}
 use Rattle.std.proofs.lemmas.Nat.{be_bytes_4}
-use Rattle.picky_layout.specs.Flaw.{Flaw}
-use Rattle.picky_layout.specs.Numbers.{IsBytes}
-use Rattle.picky_layout.specs.Outcome.{map_err}
-use Rattle.picky_layout.specs.Wire.{byte_array, string_of}
-use Rattle.picky_layout.proofs.Numbers.{bytes_in_front}
+use Rattle.picky_wire_base.specs.Flaw.{Flaw}
+use Rattle.picky_wire_base.specs.Numbers.{IsBytes}
+use Rattle.picky_wire_base.specs.Outcome.{map_err}
+use Rattle.picky_wire_base.specs.Wire.{byte_array, string_of}
+use Rattle.picky_wire_base.proofs.Numbers.{bytes_in_front}
 use Rattle.picky_wire.specs.Count.{Rose}
 use Rattle.picky_wire.specs.Takes.{Calm, EndsIn}
 use Rattle.picky_wire.specs.Flaws.{wire_error}
 use Rattle.picky_wire.specs.declared.error.WireError.{WireError}
 use Rattle.picky_wire.specs.declared.error.WireError.TheVariants as wire
 use Rattle.picky_wire.proofs.ByteArrayLemmas.{piece_taken_by}
-use Rattle.picky_wire.proofs.ReadLemmas.{byte_array-refused}
+use Rattle.picky_wire_base.proofs.ReadLemmas.{byte_array-refused}
 use Rattle.picky_agent.specs.declared.frame.FrameError.{FrameError}
 use Rattle.picky_agent.specs.declared.frame.FrameError.TheVariants as errors
 use Rattle.picky_agent.specs.Frame.{Fronts, IsCut, TakesMessage, TakesPart, Walks, message_limit}

@@ -1,6 +1,6 @@
 -- Lemmas on one turn of serving.
 use Rattle.std.proofs.Common.{◌≡◌, ◌≢◌, ◌≤◌, ℕ, List, Result, Ok, Err, Some, None, refl, sym, subst, arith, inl, inr}
-use Rattle.picky_layout.specs.Wire.{string_of}
+use Rattle.picky_wire_base.specs.Wire.{string_of}
 use Rattle.picky_wire.specs.Puts.{Puts}
 use Rattle.picky_suite.specs.Signs.{Relation}
 use Rattle.picky_agent_state.specs.Kept.{Kept, machine}

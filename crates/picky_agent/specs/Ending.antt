@@ -1,7 +1,7 @@
 -- Where a stream ends: the messages that it begins with, and what stands behind them.
 use Rattle.std.specs.Prelude.{◌≡◌, ◌++◌, ⊤, ℕ, List, [], flat_map}
 use Rattle.std.specs.List.{AllByRecursion}
-use Rattle.picky_layout.specs.Wire.{string_of}
+use Rattle.picky_wire_base.specs.Wire.{string_of}
 use Rattle.picky_agent_state.specs.Message.{IsMessage}
 use Rattle.picky_agent_state.specs.Request.{Request, Sign, request_of}
 use Rattle.picky_agent.specs.declared.status.AgentStatus.{AgentStatus}

@@ -1,7 +1,7 @@
 -- Messages in a stream: each is the string of its bytes (draft-miller-ssh-agent-04).
 use Rattle.std.specs.Prelude.{◌≡◌, ◌≤◌, ◌<◌, ◌^◌, ◌++◌, ◌⊎◌, ℕ, List, [], length, Option, Some, None, Result, Ok, Err, IfOk, IfSome}
 use Rattle.std.specs.Int.{w32, to_be_bytes}
-use Rattle.picky_layout.specs.Wire.{string_of}
+use Rattle.picky_wire_base.specs.Wire.{string_of}
 use Rattle.picky_wire.specs.Count.{Rose}
 use Rattle.picky_wire.specs.Takes.{Calm, EndsIn}
 pub use Rattle.picky_agent_state.specs.Message.{message_limit, IsMessage}

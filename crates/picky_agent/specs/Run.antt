@@ -1,6 +1,6 @@
 -- A run of the machine over messages.
 use Rattle.std.specs.Prelude.{◌≡◌, List, [], ◌∷◌, ℕ, flat_map}
-use Rattle.picky_layout.specs.Wire.{string_of}
+use Rattle.picky_wire_base.specs.Wire.{string_of}
 use Rattle.picky_suite.specs.Signs.{Relation}
 use Rattle.picky_agent_state.specs.Kept.{Machine}
 use Rattle.picky_agent_state.specs.Message.{IsMessage}

@@ -1,14 +1,14 @@
 -- Lemmas on requests that are seen in their messages.
 use Rattle.std.proofs.Common.{◌≡◌, ◌∙◌, ℕ, List, ap, sym, refl, Result, Ok, Err}
-use Rattle.picky_layout.specs.Flaw.{Flaw, Flawed, Reason, Why}
-use Rattle.picky_layout.specs.Grammar.{Grammar}
-use Rattle.picky_layout.specs.Combine.{placed}
-use Rattle.picky_layout.specs.Inside.{begins}
-use Rattle.picky_layout.specs.Narrowed.{meant}
-use Rattle.picky_layout.specs.Outcome.{and_then, map_err}
-use Rattle.picky_layout.specs.Wire.{string}
-use Rattle.picky_wire.specs.declared.view.Stuck.{Stuck}
-use Rattle.picky_wire.specs.View.{Sees, why_in, why_of}
+use Rattle.picky_wire_base.specs.Flaw.{Flaw, Flawed, Reason, Why}
+use Rattle.picky_wire_base.specs.Grammar.{Grammar}
+use Rattle.picky_wire_base.specs.Combine.{placed}
+use Rattle.picky_wire_base.specs.Inside.{begins}
+use Rattle.picky_wire_base.specs.Narrowed.{meant}
+use Rattle.picky_wire_base.specs.Outcome.{and_then, map_err}
+use Rattle.picky_wire_base.specs.Wire.{string}
+use Rattle.picky_wire_base.specs.declared.view.Stuck.{Stuck}
+use Rattle.picky_wire_base.specs.View.{Sees, why_in, why_of}
 use Rattle.picky_keys.specs.declared.key.SshBasePublicKey.{SshBasePublicKey}
 use Rattle.picky_keys.specs.Blob.{blob}
 use Rattle.picky_agent_state.specs.declared.asked.Asked.{Asked}

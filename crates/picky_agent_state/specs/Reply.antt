@@ -1,7 +1,7 @@
 -- What an agent replies: a byte, its type, and then the fields of that type (draft-miller-ssh-agent-04).
 use Rattle.std.specs.Prelude.{ℕ, List, [], ◌∷◌, ◌++◌, ◌^◌, length, nat_lt, if◌then◌else◌, flat_map}
 use Rattle.std.specs.Int.{w32, to_be_bytes}
-use Rattle.picky_layout.specs.Wire.{string_of}
+use Rattle.picky_wire_base.specs.Wire.{string_of}
 use Rattle.picky_keys.specs.Blob.{blob_of}
 use Rattle.picky_sshkey_blob.specs.Key.{public_part}
 use Rattle.picky_cert_parts.specs.declared.signature_format.SshSignatureFormat.{SshSignatureFormat}

@@ -1,10 +1,10 @@
 -- What a message asks of an agent: a byte, its type, and then the fields of that type (draft-miller-ssh-agent-04).
 use Rattle.std.specs.Prelude.{ℕ, List, [], ◌∷◌, ◌==◌, if◌then◌else◌, Result, Ok, Err}
-use Rattle.picky_layout.specs.Flaw.{Reason}
-use Rattle.picky_layout.specs.Grammar.{Grammar}
-use Rattle.picky_layout.specs.Combine.{at, done, placed, ◌>>=◌}
-use Rattle.picky_layout.specs.Inside.{sub}
-use Rattle.picky_layout.specs.Wire.{string, text, uint32}
+use Rattle.picky_wire_base.specs.Flaw.{Reason}
+use Rattle.picky_wire_base.specs.Grammar.{Grammar}
+use Rattle.picky_wire_base.specs.Combine.{at, done, placed, ◌>>=◌}
+use Rattle.picky_wire_base.specs.Inside.{sub}
+use Rattle.picky_wire_base.specs.Wire.{string, text, uint32}
 use Rattle.picky_keys.specs.declared.key.SshBasePublicKey.{SshBasePublicKey}
 use Rattle.picky_keys.specs.Blob.{blob}
 use Rattle.picky_sshkey_blob.specs.Blob.{secret}

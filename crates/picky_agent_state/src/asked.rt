@@ -1,7 +1,7 @@
 //! What a message asks, seen where it stands.
 
 ghost use Rattle.std.specs.Prelude.{◌≡◌, ◌^◌, ◌<◌, ◌≤◌, length, IfOk};
-ghost use Rattle.picky_wire.specs.View.{Sees, why_in};
+ghost use Rattle.picky_wire_base.specs.View.{Sees, why_in};
 ghost use Rattle.picky_keys.specs.View.{key_seen};
 ghost use Rattle.picky_agent_state.specs.Message.{IsMessage, message_limit};
 ghost use Rattle.picky_agent_state.specs.Request.{add_fields, key_string, lock_fields, remove_fields, request_of, sign_fields, unlock_fields};

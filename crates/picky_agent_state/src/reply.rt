@@ -3,7 +3,7 @@
 ghost use Rattle.std.specs.Prelude.{◌≡◌, ◌∷◌, ◌++◌, [], ◌^◌, ◌<◌, ◌≤◌, ◌+◌, length, IfOk};
 ghost use Rattle.std.specs.Int.{w32, to_be_bytes};
 ghost use Rattle.std.specs.List.{concat};
-ghost use Rattle.picky_layout.specs.Wire.{string_of};
+ghost use Rattle.picky_wire_base.specs.Wire.{string_of};
 ghost use Rattle.picky_keys.specs.Blob.{blob_of};
 ghost use Rattle.picky_sshkey_blob.specs.Key.{public_part};
 ghost use Rattle.picky_agent_state.specs.Reply.{entry, failure as failure_reply, fitted, signed_reply, success as success_reply};

@@ -2,7 +2,7 @@
 
 ghost use Rattle.std.specs.Prelude.{None, []};
 ghost use Rattle.std.proofs.Common.{lit<};
-ghost use Rattle.picky_layout.specs.Numbers.{IsBytes};
+ghost use Rattle.picky_wire_base.specs.Numbers.{IsBytes};
 
 use crate::talks::{ENDS, LOCKING};
 use picky_agent::{Agent, AgentStatus, serve};

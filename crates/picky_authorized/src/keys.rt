@@ -1,7 +1,7 @@
 //! A text of authorized keys.
 
 ghost use Rattle.std.specs.Prelude.{◌≡◌, ◌^◌, ◌<◌, IfOk, length};
-ghost use Rattle.picky_wire.specs.Gives.{Gives};
+ghost use Rattle.picky_wire_base.specs.Gives.{Gives};
 ghost use Rattle.picky_authorized.specs.Entries.{entries_in, keys_in, AreFit};
 
 use crate::content::{content_of, strip_blanks};

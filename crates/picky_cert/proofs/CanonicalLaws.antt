@@ -4,9 +4,9 @@ use Rattle.std.specs.List.{position_or_len}
 use Rattle.std.proofs.Common.{sym, ◌∙◌, ap, subst, refl, arith}
 use Rattle.std.proofs.lemmas.Bool.{ltb-true}
 use Rattle.std.proofs.lemmas.List.{append-nil}
-use Rattle.picky_layout.specs.carried.Outcome.{and_then_ok, passed_ok, same_pair}
-use Rattle.picky_layout.specs.Numbers.{IsBytes}
-use Rattle.picky_layout.proofs.Numbers.{bytes_behind, bytes_in_front, front_bytes}
+use Rattle.picky_wire_base.specs.carried.Outcome.{and_then_ok, passed_ok, same_pair}
+use Rattle.picky_wire_base.specs.Numbers.{IsBytes}
+use Rattle.picky_wire_base.proofs.Numbers.{bytes_behind, bytes_in_front, front_bytes}
 use Rattle.picky_text.specs.Words.{ends_line, line_in_front, after_body, comment_of}
 use Rattle.picky_text.proofs.WordLaws.{rest_has_no_cr, rest_has_no_lf, rest_is_trimmed, rest_of_line_is_text}
 use Rattle.picky_keys.specs.LineRefusal.{is_short}

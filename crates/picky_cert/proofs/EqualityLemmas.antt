@@ -3,9 +3,9 @@ use Rattle.std.specs.Prelude.{◌≡◌, ◌↔◌, ◌&&◌, Bool, IsTrue, ℕ,
 use Rattle.std.specs.Option.{option_eq}
 use Rattle.std.proofs.Common.{rules, ap}
 use Rattle.std.proofs.lemmas.Bool.Decides.{Decides-and, Decides-like}
-use Rattle.picky_wire.specs.contracts.view.PartPartialEq.TheImpl as place
-use Rattle.picky_wire.specs.declared.view.Part.{Part}
-use Rattle.picky_wire.specs.View.{part_shown}
+use Rattle.picky_wire_base.specs.contracts.view.PartPartialEq.TheImpl as place
+use Rattle.picky_wire_base.specs.declared.view.Part.{Part}
+use Rattle.picky_wire_base.specs.View.{part_shown}
 use Rattle.picky_keys.specs.contracts.view.PublicViewPartialEq.TheImpl as seen
 use Rattle.picky_keys.specs.declared.view.PublicView.{PublicView}
 use Rattle.picky_keys.specs.View.{view_shown}

@@ -2,7 +2,7 @@
 use Rattle.std.specs.Prelude.{◌≡◌, ◌<◌, ◌^◌, true, List, ℕ, length, Ok}
 use Rattle.std.proofs.Common.{sym, arith, refl}
 use Rattle.std.proofs.lemmas.Bool.{lt-ltb, ltb-true}
-use Rattle.picky_layout.specs.carried.Outcome.{passed_ok}
+use Rattle.picky_wire_base.specs.carried.Outcome.{passed_ok}
 use Rattle.picky_keys.specs.LineRefusal.{is_short}
 use Rattle.picky_keys.proofs.LineLaws.{chosen}
 use Rattle.picky_cert_parts.specs.declared.error.SshCertificateError.TheVariants as errors

@@ -1,8 +1,8 @@
 -- Lemmas on the bytes of a certificate's line.
 use Rattle.std.specs.Prelude.{◌≡◌, ◌≢◌, ◌≤◌, ◌⊎◌, List, ℕ, length, Some, Ok, Err}
 use Rattle.std.proofs.Common.{sym, ◌∙◌, ap, arith, inl, inr}
-use Rattle.picky_layout.specs.Numbers.{IsBytes}
-use Rattle.picky_layout.specs.Outcome.{and_then, map_err, map_ok}
+use Rattle.picky_wire_base.specs.Numbers.{IsBytes}
+use Rattle.picky_wire_base.specs.Outcome.{and_then, map_err, map_ok}
 use Rattle.picky_text.specs.Base64.{decoded}
 use Rattle.picky_text.proofs.Base64Laws.{base64_is_of_what_it_gives, length_base64}
 use Rattle.picky_wire.specs.declared.error.WireError.TheVariants as wire

@@ -3,15 +3,15 @@ use Rattle.std.specs.Prelude.{◌≡◌, Bool, true, false, List, ℕ, length, O
 use Rattle.std.specs.Prelude.{◌<◌, ◌^◌, ◌==◌, IfErr}
 use Rattle.std.specs.Str.{IsUtf8}
 use Rattle.std.proofs.Common.{subst, arith}
-use Rattle.picky_layout.specs.Flaw.{Flaw, Reason, Why, Flawed, Length, Magic, Name, Number, Short, NotUtf8, Big}
-use Rattle.picky_layout.specs.Combine.{at, each, narrow, placed}
-use Rattle.picky_layout.specs.Entry.{entry}
-use Rattle.picky_layout.specs.Grammar.{Grammar}
-use Rattle.picky_layout.specs.Named.{named}
-use Rattle.picky_layout.specs.Mpint.{mpint}
-use Rattle.picky_layout.specs.Numbers.{byte, uint64}
-use Rattle.picky_layout.specs.Table.{find_entry}
-use Rattle.picky_layout.specs.Wire.{of_length, string, text, uint32}
+use Rattle.picky_wire_base.specs.Flaw.{Flaw, Reason, Why, Flawed, Length, Magic, Name, Number, Short, NotUtf8, Big}
+use Rattle.picky_wire_base.specs.Combine.{at, each, narrow, placed}
+use Rattle.picky_wire_base.specs.Entry.{entry}
+use Rattle.picky_wire_base.specs.Grammar.{Grammar}
+use Rattle.picky_wire_base.specs.Named.{named}
+use Rattle.picky_wire_base.specs.Mpint.{mpint}
+use Rattle.picky_wire_base.specs.Numbers.{byte, uint64}
+use Rattle.picky_wire_base.specs.Table.{find_entry}
+use Rattle.picky_wire_base.specs.Wire.{of_length, string, text, uint32}
 use Rattle.picky_wire.specs.Moment.{moment}
 use Rattle.picky_keys.specs.KeyNameTables.{key_types}
 use Rattle.picky_keys.specs.declared.curve.EcCurve.{EcCurve}
@@ -36,8 +36,8 @@ use Rattle.picky_cert_parts.specs.Field.{field}
 use Rattle.picky_cert_parts.specs.Signature.{fields_when, signature, signature_counter, signature_flags, signature_format}
 use Rattle.picky_cert_parts.specs.Signature.{signature_payload, signature_total, sk_fields, standard_fields}
 use Rattle.picky_wire.specs.Flaws.{wire_error}
-use Rattle.picky_wire.specs.declared.view.Stuck.{Stuck}
-use Rattle.picky_wire.specs.declared.view.Stuck.TheVariants as stucks
+use Rattle.picky_wire_base.specs.declared.view.Stuck.{Stuck}
+use Rattle.picky_wire_base.specs.declared.view.Stuck.TheVariants as stucks
 use Rattle.picky_cert_blob.specs.Items.{extension_item, option_item, principal_item}
 use Rattle.picky_cert_blob.specs.Layout.{body, cert_name, critical_options, extensions, grants, head, head_for, head_of, issuer, principals}
 use Rattle.picky_cert_blob.specs.Layout.{signature_part, terms, type_number, valid_after, valid_before}

@@ -3,18 +3,18 @@ use Rattle.std.specs.Prelude.{◌≡◌, Bool, true, false, List, [], ◌∷◌,
 use Rattle.std.specs.Prelude.{if◌then◌else◌, ok_or}
 use Rattle.std.specs.Str.{IsUtf8}
 use Rattle.std.proofs.Common.{ap, refl, subst, sym}
-use Rattle.picky_layout.specs.Flaw.{Flaw}
-use Rattle.picky_layout.specs.Combine.{narrow, tag}
-use Rattle.picky_layout.specs.carried.Outcome.{map_err_ok}
-use Rattle.picky_layout.specs.Entry.{entry}
-use Rattle.picky_layout.specs.Grammar.{Grammar}
-use Rattle.picky_layout.specs.Inside.{begins, inside}
-use Rattle.picky_layout.specs.Many.{row}
-use Rattle.picky_layout.specs.Narrowed.{Narrowing, meant}
-use Rattle.picky_layout.specs.Outcome.{and_then, map_err}
-use Rattle.picky_layout.specs.Row.{Solid, after, read_all, read_within}
-use Rattle.picky_layout.specs.Table.{Table, find_entry}
-use Rattle.picky_layout.specs.Wire.{string, text}
+use Rattle.picky_wire_base.specs.Flaw.{Flaw}
+use Rattle.picky_wire_base.specs.Combine.{narrow, tag}
+use Rattle.picky_wire_base.specs.carried.Outcome.{map_err_ok}
+use Rattle.picky_wire_base.specs.Entry.{entry}
+use Rattle.picky_wire_base.specs.Grammar.{Grammar}
+use Rattle.picky_wire_base.specs.Inside.{begins, inside}
+use Rattle.picky_wire_base.specs.Many.{row}
+use Rattle.picky_wire_base.specs.Narrowed.{Narrowing, meant}
+use Rattle.picky_wire_base.specs.Outcome.{and_then, map_err}
+use Rattle.picky_wire_base.specs.Row.{Solid, after, read_all, read_within}
+use Rattle.picky_wire_base.specs.Table.{Table, find_entry}
+use Rattle.picky_wire_base.specs.Wire.{string, text}
 
 -- each reason for which the reading is refused is such a one
 abbrev pub RefusesAs : {E A : Type 0} → (E → Type 0) → (List ℕ → Result (A × List ℕ) E) → Type 0

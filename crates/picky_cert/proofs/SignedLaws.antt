@@ -3,8 +3,8 @@ use Rattle.std.specs.Prelude.{◌≡◌, List, ℕ, ◌++◌, Ok, length, take, 
 use Rattle.std.proofs.Common.{◌∙◌, sym, ap, arith, refl}
 use Rattle.std.proofs.Math.Seq.{take-append_seam}
 use Rattle.std.proofs.lemmas.List.{length-append}
-use Rattle.picky_layout.specs.Grammar.{Grammar}
-use Rattle.picky_layout.specs.carried.Outcome.{and_then_ok, same_pair}
+use Rattle.picky_wire_base.specs.Grammar.{Grammar}
+use Rattle.picky_wire_base.specs.carried.Outcome.{and_then_ok, same_pair}
 use Rattle.picky_cert_blob.specs.Layout.{body, signature_part}
 use Rattle.picky_cert_blob.proofs.SignedLaws.{read_bodies_bind}
 use Rattle.picky_cert_blob.proofs.SpellLaws.{body_reads_back}

@@ -6,17 +6,17 @@ use Rattle.std.specs.Str.{trim_end}
 use Rattle.std.proofs.Common.{sym, ◌∙◌, ap, subst, refl, inl, inr}
 use Rattle.std.proofs.lemmas.Bool.{cases_Bool, lt-ltb}
 use Rattle.std.proofs.lemmas.Str.{IsUtf8-nil}
-use Rattle.picky_layout.specs.Flaw.{Why}
-use Rattle.picky_layout.specs.Front.{read_front}
-use Rattle.picky_layout.specs.Numbers.{IsBytes}
-use Rattle.picky_layout.specs.Outcome.{and_then, map_err}
+use Rattle.picky_wire_base.specs.Flaw.{Why}
+use Rattle.picky_wire_base.specs.Front.{read_front}
+use Rattle.picky_wire_base.specs.Numbers.{IsBytes}
+use Rattle.picky_wire_base.specs.Outcome.{and_then, map_err}
 use Rattle.picky_text.specs.Base64.{base64_of}
 use Rattle.picky_text.specs.Words.{IsWord, after_word, body_word, ends_word, first_word, rest_of_line, rest_text}
 use Rattle.picky_text.proofs.Base64Laws.{base64_is_read_back}
 use Rattle.picky_text.proofs.ListLaws.{none_before_first, uncut}
 use Rattle.picky_text.proofs.WordLaws.{base64_is_word, rest_text_is, trim_end_front, words_at_space}
-use Rattle.picky_wire.specs.Gives.{Gives}
-use Rattle.picky_wire.specs.View.{Sees}
+use Rattle.picky_wire_base.specs.Gives.{Gives}
+use Rattle.picky_wire_base.specs.View.{Sees}
 use Rattle.picky_keys.specs.LineRefusal.{comment_text}
 use Rattle.picky_cert_parts.specs.declared.cert_key_type.SshCertKeyType.{SshCertKeyType}
 use Rattle.picky_cert_parts.specs.declared.error.SshCertificateError.{SshCertificateError}

@@ -2,7 +2,7 @@
 use Rattle.std.specs.Prelude.{◌≡◌, true, List, [], ℕ, ◌++◌, ◌<◌, ◌^◌, Ok}
 use Rattle.std.proofs.Common.{sym, ◌∙◌, refl}
 use Rattle.std.proofs.lemmas.List.{append-nil}
-use Rattle.picky_layout.proofs.Grammar.{one_front}
+use Rattle.picky_wire_base.proofs.Grammar.{one_front}
 use Rattle.picky_cert_parts.specs.Signature.{blob_fits, signature_of, total_of}
 use Rattle.picky_cert_parts.specs.carried.Signature.{behind_spells}
 use Rattle.picky_cert_blob.specs.Layout.{body, signature_part}

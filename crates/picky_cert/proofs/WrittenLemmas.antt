@@ -5,8 +5,8 @@ use Rattle.std.specs.List.{concat}
 use Rattle.std.proofs.Common.{◌∙◌, ap, arith, refl, append_assoc}
 use Rattle.std.proofs.lemmas.Bool.{ltb-false}
 use Rattle.std.proofs.lemmas.List.{append-nil, length-append}
-use Rattle.picky_layout.specs.Wire.{string_of}
-use Rattle.picky_wire.proofs.WriteLemmas.{length-string_of}
+use Rattle.picky_wire_base.specs.Wire.{string_of}
+use Rattle.picky_wire_base.proofs.PieceLemmas.{length-string_of}
 use Rattle.picky_text.proofs.Base64Laws.{length_base64}
 use Rattle.picky_keys.specs.Blob.{blob_of as key_blob_of}
 use Rattle.picky_cert_parts.specs.declared.error.SshSignatureError.{SshSignatureError}

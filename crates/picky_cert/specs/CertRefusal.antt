@@ -1,6 +1,6 @@
 -- The part of a certificate that doesn't fit, as the certificate's error.
 use Rattle.std.specs.Prelude.{List, ℕ, bytes_eq, if◌then◌else◌}
-use Rattle.picky_layout.specs.Flaw.{Why, Flawed, Length, Magic, Name, Number}
+use Rattle.picky_wire_base.specs.Flaw.{Why, Flawed, Length, Magic, Name, Number}
 use Rattle.picky_wire.specs.Flaws.{wire_error}
 use Rattle.picky_keys.specs.BlobRefusal.{why_error as key_error}
 use Rattle.picky_cert_parts.specs.declared.cert_key_type.SshCertKeyType.TheVariants as key_types

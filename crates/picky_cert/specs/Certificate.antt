@@ -1,7 +1,7 @@
 -- A certificate (OpenSSH's PROTOCOL.certkeys): all that is signed, and the signature.
 use Rattle.std.specs.Prelude.{List, [], ℕ, Option, Some, None, Result, Ok, Err, take}
-use Rattle.picky_layout.specs.Grammar.{Grammar}
-use Rattle.picky_layout.specs.Combine.{done, ◌>>=◌}
+use Rattle.picky_wire_base.specs.Grammar.{Grammar}
+use Rattle.picky_wire_base.specs.Combine.{done, ◌>>=◌}
 use Rattle.picky_keys.specs.declared.key.SshBasePublicKey.{SshBasePublicKey}
 use Rattle.picky_keys.specs.declared.key.SshPublicKey.{SshPublicKey}
 use Rattle.picky_cert_parts.specs.declared.signature.SshSignature.{SshSignature}

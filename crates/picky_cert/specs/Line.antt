@@ -2,8 +2,8 @@
 -- a comment.
 use Rattle.std.specs.Prelude.{◌≡◌, ◌++◌, ◌∷◌, List, ℕ, ◌<◌, ◌^◌, length, IsUtf8, true}
 use Rattle.std.specs.Str.{trim_end}
-use Rattle.picky_layout.specs.Numbers.{IsBytes}
-use Rattle.picky_layout.specs.Grammar.{Fits}
+use Rattle.picky_wire_base.specs.Numbers.{IsBytes}
+use Rattle.picky_wire_base.specs.Grammar.{Fits}
 use Rattle.picky_text.specs.Base64.{base64_of}
 use Rattle.picky_text.specs.Words.{first_word, body_word, line_in_front, after_body, comment_of}
 use Rattle.picky_text.specs.Lines.{HasNo}

@@ -3,8 +3,8 @@
 use Rattle.std.specs.Prelude.{List, ℕ, Option, Result, Ok, Err, if◌then◌else◌, ◌&&◌}
 use Rattle.std.specs.Option.{ok_or}
 use Rattle.std.specs.Str.{is_utf8}
-use Rattle.picky_layout.specs.Front.{read_front}
-use Rattle.picky_layout.specs.Outcome.{and_then, map_err}
+use Rattle.picky_wire_base.specs.Front.{read_front}
+use Rattle.picky_wire_base.specs.Outcome.{and_then, map_err}
 use Rattle.picky_text.specs.Base64.{decoded}
 use Rattle.picky_text.specs.Words.{first_word, body_word}
 use Rattle.picky_keys.specs.LineRefusal.{comment_text, is_short, is_short_text}

@@ -1,6 +1,6 @@
 -- What a certificate's view shows: its values, and its parts with their places.
 use Rattle.std.specs.Prelude.{ℕ, Option}
-use Rattle.picky_wire.specs.View.{part_shown}
+use Rattle.picky_wire_base.specs.View.{part_shown}
 use Rattle.picky_cert_parts.specs.declared.signature_format.SshSignatureFormat.{SshSignatureFormat}
 use Rattle.picky_cert_blob.specs.Shown.{BodyShown, Placed, body_shown, signature_shown}
 use Rattle.picky_cert.specs.declared.view.CertView.{CertView}

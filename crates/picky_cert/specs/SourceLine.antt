@@ -1,6 +1,6 @@
 -- A certificate's line in front of a source's bytes: what it means, and the order of its refusals.
 use Rattle.std.specs.Prelude.{List, ℕ, Result, Ok}
-use Rattle.picky_layout.specs.Outcome.{and_then}
+use Rattle.picky_wire_base.specs.Outcome.{and_then}
 use Rattle.picky_keys.specs.SourceLine.{read_line}
 use Rattle.picky_cert_parts.specs.declared.error.SshCertificateError.{SshCertificateError}
 use Rattle.picky_cert_parts.specs.CertFromWire.{certificate_error}

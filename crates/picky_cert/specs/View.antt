@@ -1,9 +1,9 @@
 -- What a certificate's view shows, and where its parts lie.
 use Rattle.std.specs.Prelude.{◌≡◌, List, ℕ}
 use Rattle.picky_wire.specs.Principals.{IsPrincipal}
-use Rattle.picky_wire.specs.View.{Lies, end_of}
-use Rattle.picky_wire.specs.declared.view.Stuck.{Stuck}
-use Rattle.picky_wire.specs.declared.view.Stuck.TheVariants as stucks
+use Rattle.picky_wire_base.specs.View.{Lies, end_of}
+use Rattle.picky_wire_base.specs.declared.view.Stuck.{Stuck}
+use Rattle.picky_wire_base.specs.declared.view.Stuck.TheVariants as stucks
 use Rattle.picky_cert_blob.specs.declared.body.BodyView.{BodyView}
 use Rattle.picky_cert.specs.declared.certificate.SshCertificate.{SshCertificate}
 use Rattle.picky_cert_blob.specs.declared.signature.SignatureView.{SignatureView}

@@ -3,11 +3,11 @@
 ghost use Rattle.std.specs.Prelude.{◌≡◌, ◌++◌, ◌∷◌, [], ◌^◌, ◌<◌, ◌≤◌, ℕ, List, length, IfErr, IfOk, OnOk};
 ghost use Rattle.std.specs.Int.{w32, w64, to_be_bytes};
 ghost use Rattle.std.specs.List.{concat};
-ghost use Rattle.picky_layout.specs.Wire.{string_of};
+ghost use Rattle.picky_wire_base.specs.Wire.{string_of};
 ghost use Rattle.picky_keys.specs.Blob.{blob_of as key_blob_of};
 ghost use Rattle.picky_cert_blob.specs.Spelled.{grants_spelled, head_spelled, terms_spelled};
 ghost use Rattle.picky_cert_parts.specs.CertNumber.{cert_type_number};
-ghost use Rattle.picky_wire.specs.Gives.{Gives};
+ghost use Rattle.picky_wire_base.specs.Gives.{Gives};
 ghost use Rattle.picky_cert.specs.Certificate.{said};
 ghost use Rattle.picky_cert.specs.LineRefusal.{signed_text};
 ghost use Rattle.picky_cert.specs.Spelled.{signed_of};

@@ -1,13 +1,13 @@
 //! The laws of this crate, each as the contract of a function that does nothing else.
 
 ghost use Rattle.std.specs.Prelude.{◌≡◌, ◌++◌, ◌∷◌, List, ℕ, Some, Ok, Err, IsUtf8, ◌<◌, ◌^◌, length, true};
-ghost use Rattle.picky_layout.specs.Flaw.{Why};
-ghost use Rattle.picky_layout.specs.Numbers.{IsBytes};
-ghost use Rattle.picky_layout.specs.Outcome.{map_err};
+ghost use Rattle.picky_wire_base.specs.Flaw.{Why};
+ghost use Rattle.picky_wire_base.specs.Numbers.{IsBytes};
+ghost use Rattle.picky_wire_base.specs.Outcome.{map_err};
 ghost use Rattle.picky_text.specs.Base64.{base64_of};
 ghost use Rattle.picky_text.specs.Words.{after_body, line_in_front};
-ghost use Rattle.picky_wire.specs.Equality.{IsEquality, IsEqualityOf};
-ghost use Rattle.picky_wire.specs.View.{Sees};
+ghost use Rattle.picky_wire_base.specs.Equality.{IsEquality, IsEqualityOf};
+ghost use Rattle.picky_wire_base.specs.View.{Sees};
 ghost use Rattle.picky_cert_parts.specs.declared.cert_key_type.SshCertKeyType.{SshCertKeyType as KeyType};
 ghost use Rattle.picky_cert_parts.specs.declared.error.SshCertificateError.{SshCertificateError as CertificateError};
 ghost use Rattle.picky_cert_blob.specs.declared.part.CertPart.{CertPart as Part};

@@ -2,11 +2,11 @@
 
 ghost use Rattle.std.specs.Prelude.{◌≡◌, ◌≢◌, ◌^◌, ◌<◌, ℕ, List, Some, IfErr, length, not};
 ghost use Rattle.std.specs.Option.{option_copied};
-ghost use Rattle.picky_layout.specs.Front.{read_front};
-ghost use Rattle.picky_layout.specs.Numbers.{IsBytes};
-ghost use Rattle.picky_layout.specs.Outcome.{map_err, map_ok};
+ghost use Rattle.picky_wire_base.specs.Front.{read_front};
+ghost use Rattle.picky_wire_base.specs.Numbers.{IsBytes};
+ghost use Rattle.picky_wire_base.specs.Outcome.{map_err, map_ok};
 ghost use Rattle.picky_text.specs.Base64.{base64_of};
-ghost use Rattle.picky_wire.specs.Gives.{Gives};
+ghost use Rattle.picky_wire_base.specs.Gives.{Gives};
 ghost use Rattle.picky_wire.specs.declared.error.IoKind.TheVariants as io_kinds;
 ghost use Rattle.picky_keys.specs.LineRefusal.{is_short_text};
 ghost use Rattle.picky_cert_parts.specs.declared.cert_key_type.SshCertKeyType.{SshCertKeyType as KeyType};
@@ -187,7 +187,7 @@ fn with_comment(mut certificate: SshCertificate, comment: Text) -> SshCertificat
 }
 
 /// The type of certificates that a word names.
-#[tactic(auto, unfolding(crate::specs::LineRefusal::word_type), using(picky_wire::proofs::ViewLemmas::tests))]
+#[tactic(auto, unfolding(crate::specs::LineRefusal::word_type), using(picky_wire_base::proofs::ViewLemmas::tests))]
 fn type_of_word(alloc: Global, word: &[u8]) -> Result<SshCertKeyType, SshCertificateError>
     ensures gives { Gives SshCertificateError.NoMemory (λ row. row) result (word_type word.now) }
     ensures no_fault { IfErr result (λ e. e ≢ SshCertificateError.CertificateProcessingError io_kinds.ReadFault) }

@@ -2,7 +2,7 @@
 
 ghost use Rattle.std.specs.Prelude.{◌≡◌, ◌++◌, ◌^◌, ◌<◌, ◌≤◌, ℕ, List, length, IfErr, IfOk, OnOk};
 ghost use Rattle.std.specs.List.{flat_map};
-ghost use Rattle.picky_layout.specs.Wire.{string_of};
+ghost use Rattle.picky_wire_base.specs.Wire.{string_of};
 ghost use Rattle.picky_cert_parts.specs.CriticalOption.{option_of};
 ghost use Rattle.picky_cert_parts.specs.Extension.{extension_of};
 

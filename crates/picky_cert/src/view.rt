@@ -1,7 +1,7 @@
 //! A certificate's bytes, seen where they stand: its parts are slices of them.
 
 ghost use Rattle.std.specs.Prelude.{◌≡◌, ◌^◌, ◌<◌, ◌++◌, ℕ, List, Ok, IfErr, IfOk, length};
-ghost use Rattle.picky_wire.specs.View.{Seen};
+ghost use Rattle.picky_wire_base.specs.View.{Seen};
 ghost use Rattle.picky_cert.specs.Certificate.{certificate as certificate_layout, refused_part, said, signed_in};
 ghost use Rattle.picky_cert.specs.Keeps.{IsCertificate};
 ghost use Rattle.picky_cert.specs.declared.certificate.SshCertificate.{SshCertificate as Certificate};

@@ -1,11 +1,11 @@
 -- Two views are equal exactly where what they show is.
 use Rattle.std.specs.Prelude.{◌≡◌, ◌↔◌, ◌&&◌, Bool, true, false, IsTrue}
 use Rattle.std.proofs.Common.{rules, ◌∙◌, ap, refl}
-use Rattle.picky_wire.specs.contracts.view.PartPartialEq.TheImpl as place
-use Rattle.picky_wire.specs.declared.view.Part.{Part}
-use Rattle.picky_wire.specs.contracts.view.StuckPartialEq.TheImpl as stuck
-use Rattle.picky_wire.specs.declared.view.Stuck.{Stuck}
-use Rattle.picky_wire.specs.View.{part_shown, stuck_shown}
+use Rattle.picky_wire_base.specs.contracts.view.PartPartialEq.TheImpl as place
+use Rattle.picky_wire_base.specs.declared.view.Part.{Part}
+use Rattle.picky_wire_base.specs.contracts.view.StuckPartialEq.TheImpl as stuck
+use Rattle.picky_wire_base.specs.declared.view.Stuck.{Stuck}
+use Rattle.picky_wire_base.specs.View.{part_shown, stuck_shown}
 use Rattle.picky_keys.specs.contracts.view.PublicViewPartialEq.TheImpl as key
 use Rattle.picky_keys.specs.declared.view.PublicView.{PublicView}
 use Rattle.picky_keys.specs.View.{view_shown}

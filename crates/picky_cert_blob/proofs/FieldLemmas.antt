@@ -1,16 +1,16 @@
 -- Lemmas on the fields of a certificate, seen at their places.
 use Rattle.std.specs.Prelude.{◌≡◌, List, ℕ, drop, Some, Result, Ok, Err}
 use Rattle.std.proofs.Common.{ap}
-use Rattle.picky_layout.specs.Flaw.{Reason, Why}
-use Rattle.picky_layout.specs.Grammar.{Grammar}
-use Rattle.picky_layout.specs.Outcome.{map_err}
-use Rattle.picky_layout.specs.Table.{find_entry}
-use Rattle.picky_layout.specs.carried.Table.{found_has_key}
+use Rattle.picky_wire_base.specs.Flaw.{Reason, Why}
+use Rattle.picky_wire_base.specs.Grammar.{Grammar}
+use Rattle.picky_wire_base.specs.Outcome.{map_err}
+use Rattle.picky_wire_base.specs.Table.{find_entry}
+use Rattle.picky_wire_base.specs.carried.Table.{found_has_key}
 use Rattle.picky_cert_parts.specs.declared.cert_key_type.SshCertKeyType.{SshCertKeyType}
 use Rattle.picky_cert_parts.specs.CertNames.{cert_key_type_name}
 use Rattle.picky_cert_parts.specs.CertNameTables.{cert_key_types}
-use Rattle.picky_wire.specs.declared.view.Stuck.{Stuck}
-use Rattle.picky_wire.specs.View.{Seen, why_in, why_of}
+use Rattle.picky_wire_base.specs.declared.view.Stuck.{Stuck}
+use Rattle.picky_wire_base.specs.View.{Seen, why_in, why_of}
 use Rattle.picky_cert_blob.specs.declared.part.CertPart.{CertPart}
 use Rattle.picky_cert_blob.specs.Reason.{in_key, within}
 use Rattle.picky_cert_blob.specs.View.{SeenIn}

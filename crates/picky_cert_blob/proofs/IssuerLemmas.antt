@@ -1,10 +1,10 @@
 -- The issuer's key, seen inside its string.
 use Rattle.std.specs.Prelude.{◌≡◌, List, ℕ, ◌+◌, take, Ok, Err}
 use Rattle.std.proofs.Common.{subst, ◌∙◌, ap}
-use Rattle.picky_layout.specs.Wire.{string}
-use Rattle.picky_wire.specs.declared.view.Part.{Part}
-use Rattle.picky_wire.specs.declared.view.Stuck.{Stuck}
-use Rattle.picky_wire.specs.View.{Lies, Seen, end_of, part_bytes, why_in}
+use Rattle.picky_wire_base.specs.Wire.{string}
+use Rattle.picky_wire_base.specs.declared.view.Part.{Part}
+use Rattle.picky_wire_base.specs.declared.view.Stuck.{Stuck}
+use Rattle.picky_wire_base.specs.View.{Lies, Seen, end_of, part_bytes, why_in}
 use Rattle.picky_keys.specs.Blob.{blob as key_blob, key_type}
 use Rattle.picky_keys.specs.View.{key_seen, PartsLie}
 use Rattle.picky_keys.specs.declared.view.PublicView.{PublicView}

@@ -3,12 +3,12 @@ use Rattle.std.specs.Prelude.{◌≡◌, List, [], ◌∷◌, ℕ, ◌++◌, ◌
 use Rattle.std.proofs.Common.{refl, sym, ◌∙◌, ap, subst, arith}
 use Rattle.std.proofs.lemmas.List.{append-nil}
 use Rattle.std.proofs.lemmas.List.Elements.{All-cons}
-use Rattle.picky_layout.specs.Grammar.{Grammar}
-use Rattle.picky_layout.specs.Row.{Row}
-use Rattle.picky_layout.specs.Numbers.{IsBytes}
-use Rattle.picky_layout.proofs.Numbers.{bytes_in_front, bytes_behind, uint64_exact}
-use Rattle.picky_layout.specs.Wire.{string}
-use Rattle.picky_layout.proofs.Strings.{text_exact}
+use Rattle.picky_wire_base.specs.Grammar.{Grammar}
+use Rattle.picky_wire_base.specs.Row.{Row}
+use Rattle.picky_wire_base.specs.Numbers.{IsBytes}
+use Rattle.picky_wire_base.proofs.Numbers.{bytes_in_front, bytes_behind, uint64_exact}
+use Rattle.picky_wire_base.specs.Wire.{string}
+use Rattle.picky_wire_base.proofs.Strings.{text_exact}
 use Rattle.picky_wire.specs.declared.timestamp.Timestamp.{Timestamp}
 use Rattle.picky_wire.specs.Principals.{IsPrincipal}
 use Rattle.picky_keys.specs.declared.curve.EdAlgorithm.TheVariants.{Ed25519}

@@ -1,13 +1,13 @@
 -- A block that is items is read as the list of its elements, with the layer's own reasons.
 use Rattle.std.specs.Prelude.{◌≡◌, List, [], ◌∷◌, ℕ, zero, suc, length, Result, Ok, Err}
 use Rattle.std.proofs.Common.{sym, ◌∙◌, ap, refl}
-use Rattle.picky_layout.specs.Grammar.{Grammar}
-use Rattle.picky_layout.specs.Combine.{tag}
-use Rattle.picky_layout.specs.Outcome.{and_then, map_err}
-use Rattle.picky_layout.specs.carried.Outcome.{map_err_ok}
-use Rattle.picky_layout.specs.Row.{after, read_within, read_all}
-use Rattle.picky_layout.specs.Wire.{text}
-use Rattle.picky_wire.specs.declared.view.Part.{Part}
+use Rattle.picky_wire_base.specs.Grammar.{Grammar}
+use Rattle.picky_wire_base.specs.Combine.{tag}
+use Rattle.picky_wire_base.specs.Outcome.{and_then, map_err}
+use Rattle.picky_wire_base.specs.carried.Outcome.{map_err_ok}
+use Rattle.picky_wire_base.specs.Row.{after, read_within, read_all}
+use Rattle.picky_wire_base.specs.Wire.{text}
+use Rattle.picky_wire_base.specs.declared.view.Part.{Part}
 use Rattle.picky_wire.specs.Flaws.{wire_error}
 use Rattle.picky_wire.specs.Principals.{principal}
 use Rattle.picky_cert_parts.specs.CriticalOption.{critical_option}

@@ -2,18 +2,18 @@
 use Rattle.std.specs.Prelude.{◌≡◌, List, ℕ, ◌+◌, ◌-◌, ◌≤◌, length, take, drop, Result, Ok, Err}
 use Rattle.std.proofs.Common.{sym, ◌∙◌, ap, subst, arith}
 use Rattle.std.proofs.lemmas.List.{length-append, length-take-le, drop-take, take-take}
-use Rattle.picky_layout.specs.Flaw.{Why, Reason}
-use Rattle.picky_layout.specs.Front.{read_front}
-use Rattle.picky_layout.specs.Grammar.{Grammar}
-use Rattle.picky_layout.specs.Many.{read_many}
-use Rattle.picky_layout.specs.Outcome.{and_then, map_err}
-use Rattle.picky_layout.specs.carried.Outcome.{map_err_ok}
-use Rattle.picky_layout.specs.Row.{read_all}
-use Rattle.picky_layout.specs.Wire.{string, uint32, byte_array}
-use Rattle.picky_wire.specs.declared.view.Part.{Part}
-use Rattle.picky_wire.specs.declared.view.Stuck.{Stuck}
-use Rattle.picky_wire.specs.declared.view.Stuck.TheVariants as stucks
-use Rattle.picky_wire.specs.View.{Lies, Places, Seen, end_of, part_bytes, why_in, why_of}
+use Rattle.picky_wire_base.specs.Flaw.{Why, Reason}
+use Rattle.picky_wire_base.specs.Front.{read_front}
+use Rattle.picky_wire_base.specs.Grammar.{Grammar}
+use Rattle.picky_wire_base.specs.Many.{read_many}
+use Rattle.picky_wire_base.specs.Outcome.{and_then, map_err}
+use Rattle.picky_wire_base.specs.carried.Outcome.{map_err_ok}
+use Rattle.picky_wire_base.specs.Row.{read_all}
+use Rattle.picky_wire_base.specs.Wire.{string, uint32, byte_array}
+use Rattle.picky_wire_base.specs.declared.view.Part.{Part}
+use Rattle.picky_wire_base.specs.declared.view.Stuck.{Stuck}
+use Rattle.picky_wire_base.specs.declared.view.Stuck.TheVariants as stucks
+use Rattle.picky_wire_base.specs.View.{Lies, Places, Seen, end_of, part_bytes, why_in, why_of}
 use Rattle.picky_cert_blob.specs.declared.part.CertPart.{CertPart}
 use Rattle.picky_cert_blob.specs.declared.stopped.Stopped.{Stopped}
 use Rattle.picky_cert_blob.specs.Reason.{CertReason, in_key, in_part, the, within}

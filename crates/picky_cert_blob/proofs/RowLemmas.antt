@@ -2,14 +2,14 @@
 use Rattle.std.specs.Prelude.{◌≡◌, List, [], ◌∷◌, ℕ, zero, suc, ◌+◌, ◌++◌, ◌<◌, ◌≤◌, length, drop, Result, Ok, Err, ⊤}
 use Rattle.std.proofs.Common.{sym, subst, ◌∙◌, ap, refl, arith}
 use Rattle.std.proofs.lemmas.List.{length-drop}
-use Rattle.picky_layout.specs.Grammar.{Grammar}
-use Rattle.picky_layout.specs.Joined.{used_then}
-use Rattle.picky_layout.specs.Row.{Solid, read_all}
-use Rattle.picky_layout.specs.carried.Row.{shorter}
-use Rattle.picky_layout.proofs.Solid.{read_shortens}
-use Rattle.picky_layout.proofs.Steps.{following, taking_begins, taking_more, taking_ends, taking_refused}
-use Rattle.picky_wire.specs.declared.view.Part.{Part}
-use Rattle.picky_wire.specs.View.{end_of, part_bytes}
+use Rattle.picky_wire_base.specs.Grammar.{Grammar}
+use Rattle.picky_wire_base.specs.Joined.{used_then}
+use Rattle.picky_wire_base.specs.Row.{Solid, read_all}
+use Rattle.picky_wire_base.specs.carried.Row.{shorter}
+use Rattle.picky_wire_base.proofs.Solid.{read_shortens}
+use Rattle.picky_wire_base.proofs.Steps.{following, taking_begins, taking_more, taking_ends, taking_refused}
+use Rattle.picky_wire_base.specs.declared.view.Part.{Part}
+use Rattle.picky_wire_base.specs.View.{end_of, part_bytes}
 use Rattle.picky_cert_blob.specs.Reason.{CertReason}
 use Rattle.picky_cert_blob.specs.Used.{used_within, used_row}
 use Rattle.picky_cert_blob.specs.View.{ArePassed, IsPassed, NameLies, SeenIn, reason_of}

@@ -3,8 +3,8 @@ use Rattle.std.specs.Prelude.{◌≡◌, List, [], ℕ, ◌++◌, length, take, 
 use Rattle.std.proofs.Common.{sym, ◌∙◌, ap, subst, arith}
 use Rattle.std.proofs.Math.Seq.{take-append_seam}
 use Rattle.std.proofs.lemmas.List.{append-nil, length-append}
-use Rattle.picky_layout.specs.Grammar.{Grammar}
-use Rattle.picky_layout.proofs.Grammar.{one_front}
+use Rattle.picky_wire_base.specs.Grammar.{Grammar}
+use Rattle.picky_wire_base.proofs.Grammar.{one_front}
 use Rattle.picky_cert_blob.specs.Layout.{Body, body}
 use Rattle.picky_cert_blob.specs.Keeps.{IsBody, IsWellFormed}
 use Rattle.picky_cert_blob.specs.Spelled.{body_spelled}

@@ -3,11 +3,11 @@ use Rattle.std.specs.Prelude.{◌≡◌, List, [], ℕ, ◌++◌, ◌<◌, ◌^�
 use Rattle.std.specs.Int.{w64, to_be_bytes}
 use Rattle.std.proofs.Common.{refl, sym, subst, arith}
 use Rattle.std.proofs.lemmas.List.{append-nil}
-use Rattle.picky_layout.proofs.Named.{named_spells}
-use Rattle.picky_layout.proofs.Numbers.{uint64_spells}
-use Rattle.picky_layout.proofs.Row.{row_spells}
-use Rattle.picky_layout.proofs.Strings.{string_spells, text_spells}
-use Rattle.picky_layout.specs.Wire.{string_of}
+use Rattle.picky_wire_base.proofs.Named.{named_spells}
+use Rattle.picky_wire_base.proofs.Numbers.{uint64_spells}
+use Rattle.picky_wire_base.proofs.Row.{row_spells}
+use Rattle.picky_wire_base.proofs.Strings.{string_spells, text_spells}
+use Rattle.picky_wire_base.specs.Wire.{string_of}
 use Rattle.picky_wire.specs.declared.timestamp.Timestamp.{Timestamp}
 use Rattle.picky_wire.specs.Principals.{IsPrincipal}
 use Rattle.picky_keys.specs.declared.key.SshBasePublicKey.{SshBasePublicKey}

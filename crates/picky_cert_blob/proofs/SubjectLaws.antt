@@ -2,7 +2,7 @@
 use Rattle.std.specs.Prelude.{◌≡◌, ◌↔◌, true, Option, Some, None}
 use Rattle.std.proofs.Common.{refl, sym, ◌∙◌, ap}
 use Rattle.std.proofs.lemmas.Slice.Eq.{bytes_eq-Decides}
-use Rattle.picky_layout.specs.Table.{find_entry}
+use Rattle.picky_wire_base.specs.Table.{find_entry}
 use Rattle.picky_keys.specs.declared.kind.KeyKind.{KeyKind}
 use Rattle.picky_keys.specs.KeyNames.{kind_name}
 use Rattle.picky_keys.specs.KeyNameTables.{key_types}

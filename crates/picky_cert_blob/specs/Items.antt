@@ -1,8 +1,8 @@
 -- The items of a certificate's lists (OpenSSH's PROTOCOL.certkeys).
 use Rattle.std.specs.Prelude.{List, ℕ}
-use Rattle.picky_layout.specs.Grammar.{Grammar}
-use Rattle.picky_layout.specs.Combine.{tag}
-use Rattle.picky_layout.specs.Wire.{text}
+use Rattle.picky_wire_base.specs.Grammar.{Grammar}
+use Rattle.picky_wire_base.specs.Combine.{tag}
+use Rattle.picky_wire_base.specs.Wire.{text}
 use Rattle.picky_cert_parts.specs.declared.critical_option.SshCriticalOption.{SshCriticalOption}
 use Rattle.picky_cert_parts.specs.declared.extension.SshExtension.{SshExtension}
 use Rattle.picky_cert_parts.specs.CriticalOption.{critical_option}

@@ -1,11 +1,11 @@
 -- A certificate's bytes before its signature (OpenSSH's PROTOCOL.certkeys).
 use Rattle.std.specs.Prelude.{List, ℕ, Option, Some, None}
-use Rattle.picky_layout.specs.Flaw.{Name, Number}
-use Rattle.picky_layout.specs.Grammar.{Grammar}
-use Rattle.picky_layout.specs.Combine.{narrow, each, done, ◌>>=◌}
-use Rattle.picky_layout.specs.Entry.{entry}
-use Rattle.picky_layout.specs.Numbers.{uint64}
-use Rattle.picky_layout.specs.Wire.{string, text, uint32}
+use Rattle.picky_wire_base.specs.Flaw.{Name, Number}
+use Rattle.picky_wire_base.specs.Grammar.{Grammar}
+use Rattle.picky_wire_base.specs.Combine.{narrow, each, done, ◌>>=◌}
+use Rattle.picky_wire_base.specs.Entry.{entry}
+use Rattle.picky_wire_base.specs.Numbers.{uint64}
+use Rattle.picky_wire_base.specs.Wire.{string, text, uint32}
 use Rattle.picky_wire.specs.declared.timestamp.Timestamp.{Timestamp}
 use Rattle.picky_wire.specs.Moment.{moment}
 use Rattle.picky_keys.specs.declared.kind.KeyKind.{KeyKind}

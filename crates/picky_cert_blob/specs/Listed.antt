@@ -2,12 +2,12 @@
 -- piece.
 use Rattle.std.specs.Prelude.{List, ℕ, Err}
 use Rattle.std.proofs.Common.{refl}
-use Rattle.picky_layout.specs.Flaw.{Flaw}
-use Rattle.picky_layout.specs.Grammar.{Grammar}
-use Rattle.picky_layout.specs.Inside.{inside, begins}
-use Rattle.picky_layout.specs.Many.{row}
-use Rattle.picky_layout.specs.Narrowed.{Narrowing}
-use Rattle.picky_layout.specs.Row.{Solid}
+use Rattle.picky_wire_base.specs.Flaw.{Flaw}
+use Rattle.picky_wire_base.specs.Grammar.{Grammar}
+use Rattle.picky_wire_base.specs.Inside.{inside, begins}
+use Rattle.picky_wire_base.specs.Many.{row}
+use Rattle.picky_wire_base.specs.Narrowed.{Narrowing}
+use Rattle.picky_wire_base.specs.Row.{Solid}
 use Rattle.picky_cert_blob.specs.Used.{used_inside, used_row}
 use Rattle.picky_cert_blob.specs.carried.Listed.{inside_takes, refused_gives_none}
 

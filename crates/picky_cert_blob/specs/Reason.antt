@@ -1,7 +1,7 @@
 -- The part of a certificate that doesn't fit, and why (OpenSSH's PROTOCOL.certkeys).
-use Rattle.picky_layout.specs.Flaw.{Flaw, Why, Reason, Flawed, Length, Name, Short, NotUtf8, Big}
-use Rattle.picky_layout.specs.Grammar.{Grammar}
-use Rattle.picky_layout.specs.Combine.{tag}
+use Rattle.picky_wire_base.specs.Flaw.{Flaw, Why, Reason, Flawed, Length, Name, Short, NotUtf8, Big}
+use Rattle.picky_wire_base.specs.Grammar.{Grammar}
+use Rattle.picky_wire_base.specs.Combine.{tag}
 use Rattle.picky_cert_parts.specs.declared.error.SshCriticalOptionError.{SshCriticalOptionError}
 use Rattle.picky_cert_parts.specs.declared.error.SshCriticalOptionError.TheVariants as option_errors
 use Rattle.picky_cert_parts.specs.declared.error.SshExtensionError.{SshExtensionError}

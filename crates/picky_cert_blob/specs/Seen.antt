@@ -1,9 +1,9 @@
 -- What the parts of a certificate's view show, and where they lie.
 use Rattle.std.specs.Prelude.{◌≡◌, ◌+◌, List, ℕ, take, Option, Some, None}
-use Rattle.picky_layout.specs.Numbers.{uint64}
-use Rattle.picky_layout.specs.Wire.{string, text}
-use Rattle.picky_wire.specs.declared.view.Part.{Part}
-use Rattle.picky_wire.specs.View.{Lies, end_of}
+use Rattle.picky_wire_base.specs.Numbers.{uint64}
+use Rattle.picky_wire_base.specs.Wire.{string, text}
+use Rattle.picky_wire_base.specs.declared.view.Part.{Part}
+use Rattle.picky_wire_base.specs.View.{Lies, end_of}
 use Rattle.picky_keys.specs.Blob.{key_type}
 use Rattle.picky_keys.specs.declared.view.PublicView.{PublicView}
 use Rattle.picky_keys.specs.View.{key_seen, PartsLie}

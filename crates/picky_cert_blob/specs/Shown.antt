@@ -1,8 +1,8 @@
 -- What each view of a certificate's parts shows: its values, and its parts with their places.
 use Rattle.std.specs.Prelude.{List, ℕ, Option}
-use Rattle.picky_layout.specs.Flaw.{Why}
+use Rattle.picky_wire_base.specs.Flaw.{Why}
 use Rattle.picky_wire.specs.declared.timestamp.Timestamp.{Timestamp}
-use Rattle.picky_wire.specs.View.{part_shown, stuck_shown}
+use Rattle.picky_wire_base.specs.View.{part_shown, stuck_shown}
 use Rattle.picky_keys.specs.declared.key.SshBasePublicKey.{SshBasePublicKey}
 use Rattle.picky_keys.specs.View.{view_shown}
 use Rattle.picky_cert_parts.specs.declared.cert_key_type.SshCertKeyType.{SshCertKeyType}

@@ -2,7 +2,7 @@
 use Rattle.std.specs.Prelude.{List, [], ◌∷◌, ℕ}
 use Rattle.std.specs.Int.{w64, to_be_bytes}
 use Rattle.std.specs.List.{concat, flat_map}
-use Rattle.picky_layout.specs.Wire.{string_of}
+use Rattle.picky_wire_base.specs.Wire.{string_of}
 use Rattle.picky_keys.specs.Blob.{blob_of, fields_spelled}
 use Rattle.picky_cert_parts.specs.CertNames.{cert_key_type_name}
 use Rattle.picky_cert_parts.specs.CertType.{cert_type_of}

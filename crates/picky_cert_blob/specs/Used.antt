@@ -1,9 +1,9 @@
 -- Where a string is refused for what stands inside it: at the end of that.
 use Rattle.std.specs.Prelude.{List, [], ◌∷◌, ℕ, zero, suc, ◌+◌, length, Result, Ok, Err}
-use Rattle.picky_layout.specs.Flaw.{Flaw}
-use Rattle.picky_layout.specs.Grammar.{Grammar}
-use Rattle.picky_layout.specs.Joined.{used_then}
-use Rattle.picky_layout.specs.Wire.{string}
+use Rattle.picky_wire_base.specs.Flaw.{Flaw}
+use Rattle.picky_wire_base.specs.Grammar.{Grammar}
+use Rattle.picky_wire_base.specs.Joined.{used_then}
+use Rattle.picky_wire_base.specs.Wire.{string}
 
 -- the whole string, or its bytes up to the end of what is refused inside
 abbrev pub up_to : {E A : Type 0} → Result A E → (whole inner : ℕ) → ℕ

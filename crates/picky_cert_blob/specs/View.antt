@@ -1,12 +1,12 @@
 -- A certificate's bytes seen where they stand, and what a view is stopped by.
 use Rattle.std.specs.Prelude.{◌≡◌, ◌+◌, ◌≤◌, ◌<◌, List, [], ℕ, length, drop, Result, Ok, Err}
-use Rattle.picky_layout.specs.Grammar.{Grammar}
-use Rattle.picky_layout.specs.Outcome.{map_err}
-use Rattle.picky_layout.specs.Row.{read_all}
-use Rattle.picky_wire.specs.declared.view.Part.{Part}
-use Rattle.picky_wire.specs.declared.view.Stuck.{Stuck}
-use Rattle.picky_wire.specs.declared.view.Stuck.TheVariants as stucks
-use Rattle.picky_wire.specs.View.{Lies, Places, end_of, why_of}
+use Rattle.picky_wire_base.specs.Grammar.{Grammar}
+use Rattle.picky_wire_base.specs.Outcome.{map_err}
+use Rattle.picky_wire_base.specs.Row.{read_all}
+use Rattle.picky_wire_base.specs.declared.view.Part.{Part}
+use Rattle.picky_wire_base.specs.declared.view.Stuck.{Stuck}
+use Rattle.picky_wire_base.specs.declared.view.Stuck.TheVariants as stucks
+use Rattle.picky_wire_base.specs.View.{Lies, Places, end_of, why_of}
 use Rattle.picky_cert_blob.specs.Reason.{CertReason}
 use Rattle.picky_cert_blob.specs.Used.{used_row}
 use Rattle.picky_cert_blob.specs.declared.stopped.Stopped.{Stopped}

@@ -1,9 +1,9 @@
 //! The fields of a certificate, seen at their places, each with its part.
 
 ghost use Rattle.std.specs.Prelude.{◌≡◌, ⊤};
-ghost use Rattle.picky_layout.specs.Numbers.{uint64};
-ghost use Rattle.picky_layout.specs.Wire.{string, text, uint32};
-ghost use Rattle.picky_wire.specs.View.{Lies, end_of, part_bytes, word_bytes, WordLies};
+ghost use Rattle.picky_wire_base.specs.Numbers.{uint64};
+ghost use Rattle.picky_wire_base.specs.Wire.{string, text, uint32};
+ghost use Rattle.picky_wire_base.specs.View.{Lies, end_of, part_bytes, word_bytes, WordLies};
 ghost use Rattle.picky_cert_blob.specs.Reason.{the};
 ghost use Rattle.picky_cert_blob.specs.View.{SeenIn};
 

@@ -1,8 +1,8 @@
 //! What a certificate grants, and who issued it.
 
 ghost use Rattle.std.specs.Prelude.{◌^◌, ◌<◌, IfOk, length};
-ghost use Rattle.picky_layout.specs.Wire.{string};
-ghost use Rattle.picky_wire.specs.View.{Lies, end_of};
+ghost use Rattle.picky_wire_base.specs.Wire.{string};
+ghost use Rattle.picky_wire_base.specs.View.{Lies, end_of};
 ghost use Rattle.picky_keys.specs.View.{key_seen};
 ghost use Rattle.picky_cert_blob.specs.Items.{option_item, extension_item};
 ghost use Rattle.picky_cert_blob.specs.Layout.{critical_options, extensions as extensions_layout, grants as grants_layout, issuer as issuer_layout};

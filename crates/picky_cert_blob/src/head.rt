@@ -1,7 +1,7 @@
 //! Who is certified: the type of the certificate, its nonce and the subject's key.
 
 ghost use Rattle.std.specs.Prelude.{◌^◌, ◌<◌, length};
-ghost use Rattle.picky_wire.specs.View.{end_of};
+ghost use Rattle.picky_wire_base.specs.View.{end_of};
 ghost use Rattle.picky_keys.specs.Blob.{public_key_fields};
 ghost use Rattle.picky_keys.specs.View.{key_seen, PartsLie};
 ghost use Rattle.picky_cert_blob.specs.declared.part.CertPart.TheVariants as parts;

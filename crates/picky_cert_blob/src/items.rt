@@ -1,11 +1,11 @@
 //! The lists of a certificate, whose items are passed one after another.
 
 ghost use Rattle.std.specs.Prelude.{◌≤◌, IfOk, length};
-ghost use Rattle.picky_layout.specs.Grammar.{Grammar};
-ghost use Rattle.picky_layout.specs.Many.{read_many};
-ghost use Rattle.picky_layout.specs.Row.{Solid, read_all};
-ghost use Rattle.picky_layout.specs.Wire.{string};
-ghost use Rattle.picky_wire.specs.View.{Lies, end_of};
+ghost use Rattle.picky_wire_base.specs.Grammar.{Grammar};
+ghost use Rattle.picky_wire_base.specs.Many.{read_many};
+ghost use Rattle.picky_wire_base.specs.Row.{Solid, read_all};
+ghost use Rattle.picky_wire_base.specs.Wire.{string};
+ghost use Rattle.picky_wire_base.specs.View.{Lies, end_of};
 ghost use Rattle.picky_cert_blob.specs.Reason.{CertReason, in_part};
 ghost use Rattle.picky_cert_blob.specs.Used.{used_inside, used_row};
 ghost use Rattle.picky_cert_blob.specs.View.{AreItems, ArePassed, IsPassed, SeenBy, values_in};

@@ -1,11 +1,11 @@
 //! The laws of this crate, each as the contract of a function that does nothing else.
 
 ghost use Rattle.std.specs.Prelude.{◌≡◌, ◌↔◌, ◌++◌, List, ℕ, Some, Ok, take, true};
-ghost use Rattle.picky_layout.specs.Numbers.{IsBytes};
-ghost use Rattle.picky_layout.specs.Row.{read_all};
-ghost use Rattle.picky_wire.specs.Equality.{IsEquality, IsEqualityOf};
+ghost use Rattle.picky_wire_base.specs.Numbers.{IsBytes};
+ghost use Rattle.picky_wire_base.specs.Row.{read_all};
+ghost use Rattle.picky_wire_base.specs.Equality.{IsEquality, IsEqualityOf};
 ghost use Rattle.picky_wire.specs.Principals.{principal};
-ghost use Rattle.picky_wire.specs.declared.view.Part.{Part};
+ghost use Rattle.picky_wire_base.specs.declared.view.Part.{Part};
 ghost use Rattle.picky_keys.specs.Key.{kind_of};
 ghost use Rattle.picky_keys.specs.declared.key.SshBasePublicKey.{SshBasePublicKey};
 ghost use Rattle.picky_cert_parts.specs.declared.cert_key_type.SshCertKeyType.{SshCertKeyType};

@@ -1,7 +1,7 @@
 //! A certificate's signature.
 
 ghost use Rattle.std.specs.Prelude.{⊤};
-ghost use Rattle.picky_layout.specs.Numbers.{byte};
+ghost use Rattle.picky_wire_base.specs.Numbers.{byte};
 ghost use Rattle.picky_cert_parts.specs.Signature.{signature_format, signature_rest, sk_fields, standard_fields};
 ghost use Rattle.picky_cert_blob.specs.declared.part.CertPart.TheVariants as parts;
 ghost use Rattle.picky_cert_blob.specs.Layout.{signature_part};

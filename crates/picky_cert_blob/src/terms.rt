@@ -1,8 +1,8 @@
 //! For what a certificate is, for whom, and how long it is valid.
 
 ghost use Rattle.std.specs.Prelude.{⊤, IfOk};
-ghost use Rattle.picky_layout.specs.Wire.{string};
-ghost use Rattle.picky_wire.specs.View.{Lies, end_of};
+ghost use Rattle.picky_wire_base.specs.Wire.{string};
+ghost use Rattle.picky_wire_base.specs.View.{Lies, end_of};
 ghost use Rattle.picky_cert_blob.specs.Items.{principal_item};
 ghost use Rattle.picky_cert_blob.specs.Layout.{principals as principals_layout, terms as terms_layout, type_number, valid_after, valid_before};
 ghost use Rattle.picky_cert_blob.specs.Seen.{terms_seen, TermsLie};

@@ -9,8 +9,8 @@ use Rattle.picky_keys.specs.declared.kind.KeyKind.{KeyKind}
 use Rattle.picky_keys.specs.KeyNames.{kind_name}
 use Rattle.picky_keys.specs.KeyNameTables.{key_types}
 use Rattle.picky_keys.proofs.KeyNames.{kind_of_name}
-use Rattle.picky_layout.specs.Table.{find_entry}
-use Rattle.picky_layout.specs.carried.Outcome.{and_then_ok}
+use Rattle.picky_wire_base.specs.Table.{find_entry}
+use Rattle.picky_wire_base.specs.carried.Outcome.{and_then_ok}
 use Rattle.picky_keys.specs.declared.key.SshPublicKey.{SshPublicKey}
 use Rattle.picky_keys.specs.Key.{kind_of}
 use Rattle.picky_keys.proofs.LineLaws.{chosen}

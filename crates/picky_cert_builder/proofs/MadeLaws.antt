@@ -7,7 +7,7 @@ use Rattle.std.proofs.Common.{refl, sym, ap, subst, arith}
 use Rattle.std.proofs.lemmas.Bool.{ltb-true}
 use Rattle.std.proofs.lemmas.List.Elements.{All-from_recursion, All-nil, All-cons, All-head, All-tail}
 use Rattle.std.proofs.lemmas.Str.{IsUtf8-nil}
-use Rattle.picky_layout.specs.carried.Outcome.{and_then_ok}
+use Rattle.picky_wire_base.specs.carried.Outcome.{and_then_ok}
 use Rattle.picky_keys.specs.declared.algorithm.HashAlgorithm.TheVariants as hashes
 use Rattle.picky_keys.specs.declared.algorithm.SignatureAlgorithm.{SignatureAlgorithm}
 use Rattle.picky_keys.specs.declared.algorithm.SignatureAlgorithm.TheVariants as algorithms

@@ -1,7 +1,7 @@
 -- The certificate that a request comes to, before it is signed, and when it is signed (OpenSSH's PROTOCOL.certkeys).
 use Rattle.std.specs.Prelude.{◌≡◌, List, [], ℕ, Option, Some, None, Result, Ok, Err, if◌then◌else◌}
 use Rattle.std.specs.Option.{ok_or}
-use Rattle.picky_layout.specs.Outcome.{and_then}
+use Rattle.picky_wire_base.specs.Outcome.{and_then}
 use Rattle.picky_keys.specs.declared.algorithm.SignatureAlgorithm.{SignatureAlgorithm}
 use Rattle.picky_keys.specs.declared.public_key.PublicKey.{PublicKey}
 use Rattle.picky_keys.specs.declared.key.SshPublicKey.{SshPublicKey}

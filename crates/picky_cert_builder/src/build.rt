@@ -1,9 +1,9 @@
 //! A certificate made and signed.
 
 ghost use Rattle.std.specs.Prelude.{◌≡◌, Ok, IfOk, OnOk, OnErr};
-ghost use Rattle.picky_layout.specs.Outcome.{map_ok};
+ghost use Rattle.picky_wire_base.specs.Outcome.{map_ok};
 ghost use Rattle.picky_wire.specs.Count.{Rose};
-ghost use Rattle.picky_wire.specs.Gives.{Gives};
+ghost use Rattle.picky_wire_base.specs.Gives.{Gives};
 ghost use Rattle.picky_cert.specs.Spelled.{signed_of};
 ghost use Rattle.picky_cert_builder.specs.Built.{IsBuilt, LeavesSigner};
 ghost use Rattle.picky_cert_builder.specs.Draft.{requested};

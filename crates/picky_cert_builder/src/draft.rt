@@ -2,7 +2,7 @@
 
 ghost use Rattle.std.specs.Prelude.{◌≡◌, true, Ok, Err, IfOk, if◌then◌else◌};
 ghost use Rattle.std.specs.Option.{IfSome};
-ghost use Rattle.picky_wire.specs.Gives.{Gives};
+ghost use Rattle.picky_wire_base.specs.Gives.{Gives};
 ghost use Rattle.picky_keys.specs.LineRefusal.{is_short};
 ghost use Rattle.picky_cert_blob.specs.Subject.{fits_subject};
 ghost use Rattle.picky_cert.specs.Spelled.{signed_of};

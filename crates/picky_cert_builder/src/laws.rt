@@ -3,7 +3,7 @@
 ghost use Rattle.std.specs.Prelude.{◌≡◌, ◌≢◌, ◌↔◌, ◌<◌, ◌^◌, ◌++◌, List, ℕ, Ok, Err, length, if◌then◌else◌};
 ghost use Rattle.std.specs.Str.{trim_end};
 ghost use Rattle.picky_text.specs.Lines.{HasNo};
-ghost use Rattle.picky_wire.specs.Equality.{IsEquality};
+ghost use Rattle.picky_wire_base.specs.Equality.{IsEquality};
 ghost use Rattle.picky_keys.specs.Key.{IsString};
 ghost use Rattle.picky_cert.specs.Keeps.{IsCertificate, IsWellFormed};
 ghost use Rattle.picky_cert.specs.LineRefusal.{line_meaning, line_text};

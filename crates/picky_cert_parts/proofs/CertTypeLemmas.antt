@@ -2,12 +2,12 @@
 use Rattle.std.specs.Prelude.{◌≡◌, ◌<◌, ◌^◌, ◌++◌, ℕ, List, [], Ok, Err, Option, Some, None, ok_or}
 use Rattle.std.specs.Int.{w32, to_be_bytes}
 use Rattle.std.proofs.Common.{ap, ◌∙◌, inr}
-use Rattle.picky_layout.specs.Entry.{entry}
-use Rattle.picky_layout.specs.Table.{find_entry}
-use Rattle.picky_layout.specs.Narrowed.{meant}
-use Rattle.picky_layout.specs.Outcome.{and_then, map_err}
-use Rattle.picky_layout.specs.Wire.{uint32}
-use Rattle.picky_layout.proofs.Numbers.{uint32_reads_back}
+use Rattle.picky_wire_base.specs.Entry.{entry}
+use Rattle.picky_wire_base.specs.Table.{find_entry}
+use Rattle.picky_wire_base.specs.Narrowed.{meant}
+use Rattle.picky_wire_base.specs.Outcome.{and_then, map_err}
+use Rattle.picky_wire_base.specs.Wire.{uint32}
+use Rattle.picky_wire_base.proofs.Numbers.{uint32_reads_back}
 use Rattle.picky_wire.specs.Flaws.{wire_error}
 use Rattle.picky_wire.specs.Takes.{HasCause, causes_of}
 use Rattle.picky_cert_parts.specs.declared.error.SshCertTypeError.{SshCertTypeError}

@@ -1,6 +1,6 @@
 -- Why an extension is refused.
-use Rattle.picky_layout.specs.Combine.{each, done}
-use Rattle.picky_layout.specs.Wire.{string, string_of, text}
+use Rattle.picky_wire_base.specs.Combine.{each, done}
+use Rattle.picky_wire_base.specs.Wire.{string, string_of, text}
 use Rattle.picky_wire.specs.Takes.{HasCause, causes_of}
 use Rattle.picky_cert_parts.specs.declared.error.SshExtensionError.{SshExtensionError}
 use Rattle.picky_cert_parts.specs.declared.extension_type.SshExtensionType.TheVariants as extensions

@@ -2,8 +2,8 @@
 use Rattle.std.specs.Prelude.{◌≡◌, ◌<◌, ◌^◌, List, ℕ, Option, Some, None, length, IsUtf8}
 use Rattle.std.specs.Prelude.{true, nat_lt, if◌then◌else◌, Ok, Err}
 use Rattle.std.proofs.Common.{refl, sym, ap, subst, ◌∙◌}
-use Rattle.picky_layout.specs.Table.{find_entry}
-use Rattle.picky_layout.specs.carried.Table.{found_has_key}
+use Rattle.picky_wire_base.specs.Table.{find_entry}
+use Rattle.picky_wire_base.specs.carried.Table.{found_has_key}
 use Rattle.picky_wire.specs.Principals.{IsPrincipal}
 use Rattle.picky_cert_parts.specs.declared.known_extension.KnownExtension.{KnownExtension}
 use Rattle.picky_cert_parts.specs.declared.known_extension.KnownExtension.TheVariants as known

@@ -1,9 +1,9 @@
 -- What the laws state.
 use Rattle.std.specs.Prelude.{◌≡◌, ◌++◌, ◌<◌, ◌^◌, List, ℕ, Some, None, Ok, true}
-use Rattle.picky_layout.specs.Grammar.{OneFront}
-use Rattle.picky_layout.proofs.Grammar.{one_front}
-use Rattle.picky_layout.specs.Table.{find_entry}
-use Rattle.picky_layout.specs.carried.Table.{found_has_key}
+use Rattle.picky_wire_base.specs.Grammar.{OneFront}
+use Rattle.picky_wire_base.proofs.Grammar.{one_front}
+use Rattle.picky_wire_base.specs.Table.{find_entry}
+use Rattle.picky_wire_base.specs.carried.Table.{found_has_key}
 use Rattle.picky_cert_parts.specs.CertNumber.{cert_type_number}
 use Rattle.picky_cert_parts.specs.carried.CertNumber.{own_number}
 use Rattle.picky_cert_parts.specs.NumberTable.{cert_types}

@@ -1,12 +1,12 @@
 -- Reading never refuses a signature for a blob that doesn't fit its format.
 use Rattle.std.specs.Prelude.{◌≢◌, Bool, true, false, List, ℕ, Err}
 use Rattle.std.proofs.Common.{refl}
-use Rattle.picky_layout.specs.Flaw.{Flaw, Short, NotUtf8, Big}
-use Rattle.picky_layout.specs.Combine.{done, ◌>>=◌}
-use Rattle.picky_layout.specs.Entry.{entry}
-use Rattle.picky_layout.specs.Table.{find_entry}
-use Rattle.picky_layout.specs.Numbers.{byte}
-use Rattle.picky_layout.specs.Wire.{uint32, string, text}
+use Rattle.picky_wire_base.specs.Flaw.{Flaw, Short, NotUtf8, Big}
+use Rattle.picky_wire_base.specs.Combine.{done, ◌>>=◌}
+use Rattle.picky_wire_base.specs.Entry.{entry}
+use Rattle.picky_wire_base.specs.Table.{find_entry}
+use Rattle.picky_wire_base.specs.Numbers.{byte}
+use Rattle.picky_wire_base.specs.Wire.{uint32, string, text}
 use Rattle.picky_wire.specs.Flaws.{wire_error}
 use Rattle.picky_cert_parts.specs.declared.error.SshSignatureError.{SshSignatureError}
 use Rattle.picky_cert_parts.specs.declared.error.SshSignatureError.TheVariants as errors

@@ -1,7 +1,7 @@
 -- The entries of the tables and their names.
 use Rattle.std.specs.Prelude.{◌≡◌, List, ℕ, Some}
-use Rattle.picky_layout.specs.Table.{find_entry}
-use Rattle.picky_layout.specs.carried.Table.{found_has_key}
+use Rattle.picky_wire_base.specs.Table.{find_entry}
+use Rattle.picky_wire_base.specs.carried.Table.{found_has_key}
 use Rattle.picky_cert_parts.specs.CertNameTables.{cert_key_types, option_types, signature_formats}
 use Rattle.picky_cert_parts.specs.CertNames.{cert_key_type_name, option_name, format_name}
 use Rattle.picky_cert_parts.specs.carried.CertNames.{own_cert_key_type, own_option, own_format}

@@ -1,9 +1,9 @@
 -- Why a critical option is refused.
 use Rattle.std.specs.Prelude.{◌≡◌, ◌<◌, ◌^◌, ℕ, List, length, None, IsUtf8}
-use Rattle.picky_layout.specs.Combine.{done}
-use Rattle.picky_layout.specs.Entry.{entry}
-use Rattle.picky_layout.specs.Table.{find_entry}
-use Rattle.picky_layout.specs.Wire.{string, string_of, text}
+use Rattle.picky_wire_base.specs.Combine.{done}
+use Rattle.picky_wire_base.specs.Entry.{entry}
+use Rattle.picky_wire_base.specs.Table.{find_entry}
+use Rattle.picky_wire_base.specs.Wire.{string, string_of, text}
 use Rattle.picky_wire.specs.Takes.{HasCause, causes_of}
 use Rattle.picky_cert_parts.specs.declared.error.SshCriticalOptionError.{SshCriticalOptionError}
 use Rattle.picky_cert_parts.specs.declared.error.SshCriticalOptionError.TheVariants as errors

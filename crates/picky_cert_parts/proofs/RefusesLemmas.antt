@@ -1,11 +1,11 @@
 -- For which reasons a layout is refused: what holds of the reasons of its fields holds of its own.
 use Rattle.std.specs.Prelude.{◌≡◌, List, ℕ, Result, Ok, Err, Option, Some, None, ok_or}
 use Rattle.std.proofs.Common.{ap, subst}
-use Rattle.picky_layout.specs.Flaw.{Flaw}
-use Rattle.picky_layout.specs.Grammar.{Grammar}
-use Rattle.picky_layout.specs.Combine.{narrow, ◌>>=◌}
-use Rattle.picky_layout.specs.Narrowed.{Narrowing, meant}
-use Rattle.picky_layout.specs.Outcome.{and_then, map_err}
+use Rattle.picky_wire_base.specs.Flaw.{Flaw}
+use Rattle.picky_wire_base.specs.Grammar.{Grammar}
+use Rattle.picky_wire_base.specs.Combine.{narrow, ◌>>=◌}
+use Rattle.picky_wire_base.specs.Narrowed.{Narrowing, meant}
+use Rattle.picky_wire_base.specs.Outcome.{and_then, map_err}
 use Rattle.picky_wire.specs.declared.error.WireError.{WireError}
 use Rattle.picky_wire.specs.Flaws.{wire_error}
 use Rattle.picky_cert_parts.specs.Field.{field}

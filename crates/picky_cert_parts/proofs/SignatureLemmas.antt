@@ -2,14 +2,14 @@
 use Rattle.std.specs.Prelude.{◌≡◌, ◌<◌, ◌^◌, ℕ, List, [], length, None, IsUtf8}
 use Rattle.std.specs.Int.{w8, w32, to_be_bytes}
 use Rattle.std.proofs.Common.{arith, refl}
-use Rattle.picky_layout.specs.Combine.{done, ◌>>=◌}
-use Rattle.picky_layout.specs.Entry.{entry}
-use Rattle.picky_layout.specs.Grammar.{Grammar}
-use Rattle.picky_layout.specs.Table.{find_entry}
-use Rattle.picky_layout.specs.Numbers.{byte}
-use Rattle.picky_layout.specs.Wire.{uint32, string, string_of, text}
-use Rattle.picky_layout.proofs.Numbers.{byte_spells, uint32_spells}
-use Rattle.picky_layout.proofs.Strings.{string_spells}
+use Rattle.picky_wire_base.specs.Combine.{done, ◌>>=◌}
+use Rattle.picky_wire_base.specs.Entry.{entry}
+use Rattle.picky_wire_base.specs.Grammar.{Grammar}
+use Rattle.picky_wire_base.specs.Table.{find_entry}
+use Rattle.picky_wire_base.specs.Numbers.{byte}
+use Rattle.picky_wire_base.specs.Wire.{uint32, string, string_of, text}
+use Rattle.picky_wire_base.proofs.Numbers.{byte_spells, uint32_spells}
+use Rattle.picky_wire_base.proofs.Strings.{string_spells}
 use Rattle.picky_wire.specs.Takes.{HasCause, causes_of}
 use Rattle.picky_cert_parts.specs.declared.error.SshSignatureError.{SshSignatureError}
 use Rattle.picky_cert_parts.specs.declared.error.SshSignatureError.TheVariants as errors

@@ -4,12 +4,12 @@ use Rattle.std.specs.Int.{w8, w32, to_be_bytes}
 use Rattle.std.specs.List.{concat}
 use Rattle.std.proofs.Common.{refl, sym, ap, subst, ◌∙◌, arith}
 use Rattle.std.proofs.lemmas.List.{length-append}
-use Rattle.picky_layout.specs.Grammar.{Grammar}
-use Rattle.picky_layout.specs.Numbers.{IsBytes}
-use Rattle.picky_layout.proofs.Numbers.{bytes_in_front, bytes_behind, byte_exact, uint32_exact}
-use Rattle.picky_layout.specs.Wire.{string_of}
-use Rattle.picky_layout.proofs.Strings.{string_exact, text_exact}
-use Rattle.picky_layout.proofs.Named.{named_exact}
+use Rattle.picky_wire_base.specs.Grammar.{Grammar}
+use Rattle.picky_wire_base.specs.Numbers.{IsBytes}
+use Rattle.picky_wire_base.proofs.Numbers.{bytes_in_front, bytes_behind, byte_exact, uint32_exact}
+use Rattle.picky_wire_base.specs.Wire.{string_of}
+use Rattle.picky_wire_base.proofs.Strings.{string_exact, text_exact}
+use Rattle.picky_wire_base.proofs.Named.{named_exact}
 use Rattle.picky_keys.specs.Key.{IsString}
 use Rattle.picky_keys.proofs.BlobExact.{first_is}
 use Rattle.picky_cert_parts.specs.declared.option_type.SshCriticalOptionType.{SshCriticalOptionType}

@@ -1,9 +1,9 @@
 -- The names of the types of certificates are text.
 use Rattle.std.specs.Prelude.{◌≡◌, true, IsUtf8}
 use Rattle.std.proofs.Common.{refl, sym, subst, ◌∙◌}
-use Rattle.picky_layout.specs.Named.{is_name}
-use Rattle.picky_layout.specs.Wire.{text}
-use Rattle.picky_layout.proofs.Named.{named_spells}
+use Rattle.picky_wire_base.specs.Named.{is_name}
+use Rattle.picky_wire_base.specs.Wire.{text}
+use Rattle.picky_wire_base.proofs.Named.{named_spells}
 use Rattle.picky_cert_parts.specs.declared.cert_key_type.SshCertKeyType.{SshCertKeyType}
 use Rattle.picky_cert_parts.specs.declared.cert_key_type.SshCertKeyType.TheVariants as keytypes
 use Rattle.picky_cert_parts.specs.CertNames.{cert_key_type_name}

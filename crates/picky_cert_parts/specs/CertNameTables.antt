@@ -1,7 +1,7 @@
 -- The tables by name.
 use Rattle.std.specs.Prelude.{List, ℕ}
-use Rattle.picky_layout.specs.Table.{Table}
-use Rattle.picky_layout.specs.Named.{names}
+use Rattle.picky_wire_base.specs.Table.{Table}
+use Rattle.picky_wire_base.specs.Named.{names}
 use Rattle.picky_cert_parts.specs.declared.cert_key_type.SshCertKeyType.{SshCertKeyType}
 use Rattle.picky_cert_parts.specs.CertNames.{cert_key_type_name, cert_key_types_in_order}
 use Rattle.picky_cert_parts.specs.carried.CertNames.{own_cert_key_type}

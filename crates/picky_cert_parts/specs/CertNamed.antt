@@ -1,6 +1,6 @@
 -- What is answered for a name: the entry of a table that has it, or a refusal with the name.
 use Rattle.std.specs.Prelude.{◌^◌, ℕ, List, length, nat_lt, if◌then◌else◌, Option, Some, None, Result, Ok, Err}
-use Rattle.picky_layout.specs.Table.{Table, find_entry}
+use Rattle.picky_wire_base.specs.Table.{Table, find_entry}
 
 -- a name that no entry has is refused with itself, where it is short enough for a refusal
 abbrev pub entry_or : {E A : Type 0} → (List ℕ → E) → E → List ℕ → Option A → Result A E

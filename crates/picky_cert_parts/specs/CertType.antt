@@ -1,10 +1,10 @@
 -- The type of a certificate on the wire: a uint32 (OpenSSH's PROTOCOL.certkeys, "type").
 use Rattle.std.specs.Prelude.{List, ℕ}
 use Rattle.std.specs.Int.{w32, to_be_bytes}
-use Rattle.picky_layout.specs.Grammar.{Grammar}
-use Rattle.picky_layout.specs.Combine.{narrow}
-use Rattle.picky_layout.specs.Entry.{entry}
-use Rattle.picky_layout.specs.Wire.{uint32}
+use Rattle.picky_wire_base.specs.Grammar.{Grammar}
+use Rattle.picky_wire_base.specs.Combine.{narrow}
+use Rattle.picky_wire_base.specs.Entry.{entry}
+use Rattle.picky_wire_base.specs.Wire.{uint32}
 use Rattle.picky_cert_parts.specs.declared.error.SshCertTypeError.{SshCertTypeError}
 use Rattle.picky_cert_parts.specs.declared.error.SshCertTypeError.TheVariants as errors
 use Rattle.picky_cert_parts.specs.declared.cert_type.SshCertType.{SshCertType}

@@ -1,10 +1,10 @@
 -- A critical option (OpenSSH's PROTOCOL.certkeys, "Critical options").
 use Rattle.std.specs.Prelude.{List, [], ◌∷◌, ℕ}
 use Rattle.std.specs.List.{concat}
-use Rattle.picky_layout.specs.Grammar.{Grammar}
-use Rattle.picky_layout.specs.Combine.{narrow, done, ◌>>=◌}
-use Rattle.picky_layout.specs.Entry.{entry}
-use Rattle.picky_layout.specs.Wire.{string, string_of, text}
+use Rattle.picky_wire_base.specs.Grammar.{Grammar}
+use Rattle.picky_wire_base.specs.Combine.{narrow, done, ◌>>=◌}
+use Rattle.picky_wire_base.specs.Entry.{entry}
+use Rattle.picky_wire_base.specs.Wire.{string, string_of, text}
 use Rattle.picky_keys.specs.Key.{IsString}
 use Rattle.picky_cert_parts.specs.declared.error.SshCriticalOptionError.{SshCriticalOptionError}
 use Rattle.picky_cert_parts.specs.declared.error.SshCriticalOptionError.TheVariants as errors

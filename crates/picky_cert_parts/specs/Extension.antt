@@ -1,9 +1,9 @@
 -- An extension (OpenSSH's PROTOCOL.certkeys, "Extensions"). One that isn't known is kept by its name.
 use Rattle.std.specs.Prelude.{List, [], ◌∷◌, ℕ}
 use Rattle.std.specs.List.{concat}
-use Rattle.picky_layout.specs.Grammar.{Grammar}
-use Rattle.picky_layout.specs.Combine.{narrow, each, done, ◌>>=◌}
-use Rattle.picky_layout.specs.Wire.{string, string_of, text}
+use Rattle.picky_wire_base.specs.Grammar.{Grammar}
+use Rattle.picky_wire_base.specs.Combine.{narrow, each, done, ◌>>=◌}
+use Rattle.picky_wire_base.specs.Wire.{string, string_of, text}
 use Rattle.picky_keys.specs.Key.{IsString}
 use Rattle.picky_cert_parts.specs.declared.error.SshExtensionError.{SshExtensionError}
 use Rattle.picky_cert_parts.specs.declared.extension_type.SshExtensionType.{SshExtensionType}

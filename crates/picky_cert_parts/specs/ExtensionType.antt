@@ -1,6 +1,6 @@
 -- The extensions by name (OpenSSH's PROTOCOL.certkeys, "Extensions"). One that isn't known is kept by its name.
 use Rattle.std.specs.Prelude.{◌≡◌, List, ℕ, Option, Some, None}
-use Rattle.picky_layout.specs.Table.{find_entry}
+use Rattle.picky_wire_base.specs.Table.{find_entry}
 use Rattle.picky_wire.specs.Principals.{IsPrincipal}
 use Rattle.picky_cert_parts.specs.declared.known_extension.KnownExtension.{KnownExtension}
 use Rattle.picky_cert_parts.specs.declared.known_extension.KnownExtension.TheVariants as known

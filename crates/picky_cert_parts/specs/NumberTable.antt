@@ -1,6 +1,6 @@
 -- The table of the types of certificates by number.
 use Rattle.std.specs.Prelude.{ℕ}
-use Rattle.picky_layout.specs.Table.{Table, numbers}
+use Rattle.picky_wire_base.specs.Table.{Table, numbers}
 use Rattle.picky_cert_parts.specs.declared.cert_type.SshCertType.{SshCertType}
 use Rattle.picky_cert_parts.specs.CertNumber.{cert_type_number, cert_types_in_order}
 use Rattle.picky_cert_parts.specs.carried.CertNumber.{own_number}

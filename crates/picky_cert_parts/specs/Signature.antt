@@ -3,11 +3,11 @@ use Rattle.std.specs.Prelude.{Bool, true, false, not, if◌then◌else◌, List,
 use Rattle.std.specs.Prelude.{Option, Some, None}
 use Rattle.std.specs.Int.{w8, w32, to_be_bytes}
 use Rattle.std.specs.List.{concat}
-use Rattle.picky_layout.specs.Grammar.{Grammar}
-use Rattle.picky_layout.specs.Combine.{narrow, done, ◌>>=◌}
-use Rattle.picky_layout.specs.Entry.{entry}
-use Rattle.picky_layout.specs.Numbers.{byte}
-use Rattle.picky_layout.specs.Wire.{uint32, string, string_of, text}
+use Rattle.picky_wire_base.specs.Grammar.{Grammar}
+use Rattle.picky_wire_base.specs.Combine.{narrow, done, ◌>>=◌}
+use Rattle.picky_wire_base.specs.Entry.{entry}
+use Rattle.picky_wire_base.specs.Numbers.{byte}
+use Rattle.picky_wire_base.specs.Wire.{uint32, string, string_of, text}
 use Rattle.picky_keys.specs.Key.{IsString}
 use Rattle.picky_cert_parts.specs.declared.error.SshSignatureError.{SshSignatureError}
 use Rattle.picky_cert_parts.specs.declared.error.SshSignatureError.TheVariants as errors

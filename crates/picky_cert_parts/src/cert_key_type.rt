@@ -1,8 +1,8 @@
 //! The types of certificates by the kind of their subject's key.
 
 ghost use Rattle.std.specs.Prelude.{◌≡◌, ◌≤◌, IfOk, IsOk, bytes_eq, length};
-ghost use Rattle.picky_layout.specs.Table.{find_entry};
-ghost use Rattle.picky_wire.specs.Gives.{Gives};
+ghost use Rattle.picky_wire_base.specs.Table.{find_entry};
+ghost use Rattle.picky_wire_base.specs.Gives.{Gives};
 ghost use Rattle.picky_cert_parts.specs.declared.error.SshCertificateError.TheVariants as errors;
 
 use crate::error::SshCertificateError;

@@ -1,8 +1,8 @@
 //! The laws of this crate, each as the contract of a function that does nothing else.
 
 ghost use Rattle.std.specs.Prelude.{◌≡◌, IsTrue, List, ℕ, Some, codes};
-ghost use Rattle.picky_layout.specs.Table.{find_entry};
-ghost use Rattle.picky_wire.specs.Equality.{IsEquality};
+ghost use Rattle.picky_wire_base.specs.Table.{find_entry};
+ghost use Rattle.picky_wire_base.specs.Equality.{IsEquality};
 ghost use Rattle.picky_cert_parts.specs.CertNames.{cert_key_type_name, option_name, format_name};
 ghost use Rattle.picky_cert_parts.specs.CertNameTables.{cert_key_types, option_types, signature_formats};
 ghost use Rattle.picky_cert_parts.specs.ExtensionType.{extension_name, extension_named, IsExtensionType};

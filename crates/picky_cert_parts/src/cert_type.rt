@@ -3,7 +3,7 @@
 ghost use Rattle.std.specs.Prelude.{◌≡◌, ◌≢◌, None, IfOk, IfErr, IsOk, refl};
 ghost use Rattle.std.specs.Int.{w32, to_be_bytes};
 ghost use Rattle.std.specs.Prelude.{ok_or};
-ghost use Rattle.picky_layout.specs.Table.{find_entry};
+ghost use Rattle.picky_wire_base.specs.Table.{find_entry};
 ghost use Rattle.picky_wire.specs.Count.{Rose};
 ghost use Rattle.picky_wire.specs.Takes.{Takes, HasCause, causes_of};
 ghost use Rattle.picky_cert_parts.specs.CertType.{cert_type, cert_type_of};

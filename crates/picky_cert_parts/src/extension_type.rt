@@ -4,8 +4,8 @@ ghost use Rattle.std.specs.Prelude.{◌≡◌, ◌<◌, ◌^◌, None, IsUtf8, l
 ghost use Rattle.std.specs.Prelude.{Ok, Err, IsOk, IsSome};
 ghost use Rattle.std.specs.Cmp.{partial_equiv_from_equiv};
 ghost use Rattle.std.specs.Cmp.Lexicographic.{pointwise, nat_list_eq_equiv};
-ghost use Rattle.picky_layout.specs.Table.{find_entry};
-ghost use Rattle.picky_wire.specs.Gives.{Gives};
+ghost use Rattle.picky_wire_base.specs.Table.{find_entry};
+ghost use Rattle.picky_wire_base.specs.Gives.{Gives};
 ghost use Rattle.picky_cert_parts.specs.CertNameTables.{known_extensions};
 ghost use Rattle.picky_cert_parts.specs.ExtensionType.{IsExtensionType};
 
@@ -23,7 +23,7 @@ pub struct OtherName {
 
 impl Model for OtherName {
     ghost use Rattle.std.specs.Prelude.{◌≡◌, ℕ, List, None};
-    ghost use Rattle.picky_layout.specs.Table.{find_entry};
+    ghost use Rattle.picky_wire_base.specs.Table.{find_entry};
     ghost use Rattle.picky_cert_parts.specs.CertNameTables.{known_extensions};
 
     ghost Value = { List ℕ };

@@ -2,8 +2,8 @@
 
 ghost use Rattle.std.specs.Prelude.{IfErr, ◌≢◌};
 ghost use Rattle.picky_wire.specs.declared.error.WireError.TheVariants as wire_errors;
-ghost use Rattle.picky_layout.specs.Numbers.{byte};
-ghost use Rattle.picky_layout.specs.Wire.{string, text, uint32};
+ghost use Rattle.picky_wire_base.specs.Numbers.{byte};
+ghost use Rattle.picky_wire_base.specs.Wire.{string, text, uint32};
 ghost use Rattle.picky_wire.specs.Count.{Rose};
 ghost use Rattle.picky_wire.specs.Takes.{Takes, HasCause, causes_of};
 ghost use Rattle.picky_cert_parts.specs.Field.{field};

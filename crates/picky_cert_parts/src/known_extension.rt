@@ -1,7 +1,7 @@
 //! The extensions that are known here, by name.
 
 ghost use Rattle.std.specs.Prelude.{◌≡◌, ◌≤◌, bytes_eq, length};
-ghost use Rattle.picky_layout.specs.Table.{find_entry};
+ghost use Rattle.picky_wire_base.specs.Table.{find_entry};
 
 use crate::names;
 

@@ -1,10 +1,10 @@
 //! The laws of this crate, each as the contract of a function that does nothing else.
 
 ghost use Rattle.std.specs.Prelude.{◌≡◌, ◌≢◌, ◌++◌, ◌<◌, ◌^◌, ◌+◌, List, ℕ, Some, None, Ok, Err, true, length};
-ghost use Rattle.picky_layout.specs.Table.{find_entry};
-ghost use Rattle.picky_layout.specs.Numbers.{IsBytes};
-ghost use Rattle.picky_layout.specs.Grammar.{OneFront};
-ghost use Rattle.picky_wire.specs.Equality.{IsEquality};
+ghost use Rattle.picky_wire_base.specs.Table.{find_entry};
+ghost use Rattle.picky_wire_base.specs.Numbers.{IsBytes};
+ghost use Rattle.picky_wire_base.specs.Grammar.{OneFront};
+ghost use Rattle.picky_wire_base.specs.Equality.{IsEquality};
 ghost use Rattle.picky_cert_parts.specs.CertNumber.{cert_type_number};
 ghost use Rattle.picky_cert_parts.specs.NumberTable.{cert_types};
 ghost use Rattle.picky_cert_parts.specs.CertType.{cert_type, cert_type_of};

@@ -1,11 +1,11 @@
 -- What the conversion to a certificate's line answers, from what reading and signing answer.
 use Rattle.std.proofs.Common.{◌≡◌, ℕ, List, Bool, true, false, Result, Ok, Err, refl, sym, ap, ◌∙◌, subst, ◌⊎◌, inl, inr, ◌≢◌, ◌↔◌, if◌then◌else◌}
 use Rattle.std.specs.Prelude.{length, nat_le, take, IfErr}
-use Rattle.picky_layout.specs.Outcome.{and_then, map_err, map_ok}
+use Rattle.picky_wire_base.specs.Outcome.{and_then, map_err, map_ok}
 use Rattle.picky_suite.specs.Asked.{LeavesSuite}
 use Rattle.picky_suite.specs.Failures.{IsAskedFault}
 use Rattle.picky_suite.specs.Meanings.{Meanings}
-use Rattle.picky_wire.specs.Gives.{Gives}
+use Rattle.picky_wire_base.specs.Gives.{Gives}
 use Rattle.picky_keys.specs.LineRefusal.{is_short}
 use Rattle.picky_cert.specs.Spelled.{signed_of}
 use Rattle.picky_cert_builder.specs.declared.builder.SshCertificateBuilder.{SshCertificateBuilder}

@@ -2,8 +2,8 @@
 use Rattle.std.specs.Prelude.{◌↔◌, ◌≤◌, ◌<◌, ◌^◌, ◌≡◌, Bool, true, false, List, ℕ, Result, Ok, Err, length, nat_le, take, if◌then◌else◌}
 use Rattle.std.proofs.Common.{refl, sym, ap, ◌∙◌, subst}
 use Rattle.std.proofs.lemmas.Bool.{leb-true, le-leb, lt-ltb, ltb-true}
-use Rattle.picky_layout.specs.Outcome.{and_then, map_err}
-use Rattle.picky_layout.specs.carried.Outcome.{and_then_ok, map_err_ok}
+use Rattle.picky_wire_base.specs.Outcome.{and_then, map_err}
+use Rattle.picky_wire_base.specs.carried.Outcome.{and_then_ok, map_err_ok}
 use Rattle.picky_keys.specs.LineRefusal.{is_short}
 use Rattle.picky_cert_builder.specs.declared.terms.FitTerms.{FitTerms}
 use Rattle.picky_cert_builder.specs.Draft.{Unsigned, requested}

@@ -1,6 +1,6 @@
 -- What the commands that issue certificates answer: the issuer's text is read, and then the key text.
 use Rattle.std.proofs.Common.{◌≡◌, ℕ, List, [], Bool, false, Option, None, Some, Result, Ok, Err, refl, sym, ap, ◌∙◌, subst, ◌⊎◌, inl, inr, ◌&&◌}
-use Rattle.picky_layout.specs.Outcome.{map_err, map_ok}
+use Rattle.picky_wire_base.specs.Outcome.{map_err, map_ok}
 use Rattle.picky_suite.specs.Asked.{LeavesSuite}
 use Rattle.picky_suite.specs.Failures.{IsAskedFault}
 use Rattle.picky_suite.specs.Meanings.{Meanings}

@@ -2,8 +2,8 @@
 use Rattle.std.proofs.Common.{◌≡◌, ℕ, List, Option, None, Some, Result, Ok, Err, refl, sym, ap, subst}
 use Rattle.std.specs.Option.{IfSome}
 use Rattle.std.specs.Str.{IsUtf8}
-use Rattle.picky_layout.specs.carried.Outcome.{and_then_ok, map_err_ok}
-use Rattle.picky_layout.specs.Outcome.{map_err, map_ok}
+use Rattle.picky_wire_base.specs.carried.Outcome.{and_then_ok, map_err_ok}
+use Rattle.picky_wire_base.specs.Outcome.{map_err, map_ok}
 use Rattle.picky_cert_builder.specs.Draft.{Unsigned}
 use Rattle.picky_issuing.specs.declared.options.CertOptions.{CertOptions}
 use Rattle.picky_issuing.specs.Parts.{issuer_part, key_part}

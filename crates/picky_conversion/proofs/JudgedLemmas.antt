@@ -1,6 +1,6 @@
 -- What a target's refusals are not: want of memory, or a device's fault.
 use Rattle.std.proofs.Common.{◌≡◌, List, [], ◌∷◌, ℕ, Bool, true, false, Result, Ok, Err, if◌then◌else◌, refl, subst, ◌⊎◌, inl, inr}
-use Rattle.picky_layout.specs.Outcome.{and_then, map_err}
+use Rattle.picky_wire_base.specs.Outcome.{and_then, map_err}
 use Rattle.picky_suite.specs.Meanings.{Meanings}
 use Rattle.picky_key_text.specs.declared.error.ReadError.{ReadError}
 use Rattle.picky_key_text.specs.declared.meaning.Meaning.{Meaning}

@@ -1,7 +1,7 @@
 -- What the conversion to any target answers.
 use Rattle.std.proofs.Common.{◌≡◌, ℕ, List, Result, Ok, Err, refl, sym, ap, subst, ◌⊎◌, inl, inr, IfOk, IsOk}
 use Rattle.std.specs.Str.{IsUtf8}
-use Rattle.picky_layout.specs.Outcome.{map_ok}
+use Rattle.picky_wire_base.specs.Outcome.{map_ok}
 use Rattle.picky_key_text.specs.declared.meaning.Meaning.{Meaning}
 use Rattle.picky_key_text.specs.Reads.{Reads}
 use Rattle.picky_target.specs.declared.error.ConvertError.{ConvertError}

@@ -1,7 +1,7 @@
 -- The conversion to a certificate's line: what is to be signed for what a key text means, and the line once it is signed.
 use Rattle.std.specs.Prelude.{◌≡◌, List, [], ◌∷◌, ◌++◌, ℕ, Result}
 use Rattle.hex.specs.Hex.{encode_lower}
-use Rattle.picky_layout.specs.Outcome.{and_then, map_err}
+use Rattle.picky_wire_base.specs.Outcome.{and_then, map_err}
 use Rattle.picky_suite.specs.Failures.{IsAskedFault}
 use Rattle.picky_cert.specs.Spelled.{signed_of}
 use Rattle.picky_cert_builder.specs.Draft.{Unsigned}

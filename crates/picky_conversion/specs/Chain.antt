@@ -1,8 +1,8 @@
 -- Conversions through private targets, one after another.
 use Rattle.std.specs.Prelude.{◌≡◌, true, List, [], ◌∷◌, ℕ, Result, Ok}
 use Rattle.std.specs.Option.{IfSome}
-use Rattle.picky_layout.specs.Numbers.{IsBytes}
-use Rattle.picky_layout.specs.Outcome.{and_then}
+use Rattle.picky_wire_base.specs.Numbers.{IsBytes}
+use Rattle.picky_wire_base.specs.Outcome.{and_then}
 use Rattle.std.specs.Str.{IsUtf8}
 use Rattle.picky_target.specs.declared.error.ConvertError.{ConvertError}
 use Rattle.picky_target.specs.declared.target.KeyTarget.{KeyTarget}

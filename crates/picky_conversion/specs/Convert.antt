@@ -1,6 +1,6 @@
 -- The conversion to a key's text: what is written for what a key text means, the order in which it is refused, and when a suite is asked.
 use Rattle.std.specs.Prelude.{◌≡◌, ◌⊎◌, ◌||◌, List, ℕ, Bool, false, Result, Ok, Err}
-use Rattle.picky_layout.specs.Outcome.{and_then, map_err}
+use Rattle.picky_wire_base.specs.Outcome.{and_then, map_err}
 use Rattle.picky_suite.specs.Failures.{IsAskedFault}
 use Rattle.picky_suite.specs.Meanings.{Meanings}
 use Rattle.picky_wire.specs.Count.{Rose}

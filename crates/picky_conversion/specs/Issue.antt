@@ -1,6 +1,6 @@
 -- Certificates issued from one source: the issuer's text, a line that is exactly two percent signs, and the key text.
 use Rattle.std.specs.Prelude.{◌≡◌, ◌⊎◌, ◌&&◌, ◌||◌, List, [], ℕ, Bool, true, false, Option, None, Some, Result, Ok, Err}
-use Rattle.picky_layout.specs.Outcome.{and_then, map_err, map_ok}
+use Rattle.picky_wire_base.specs.Outcome.{and_then, map_err, map_ok}
 use Rattle.picky_suite.specs.Failures.{IsAskedFault}
 use Rattle.picky_cert_builder.specs.Draft.{Unsigned}
 use Rattle.picky_issuing.specs.declared.options.CertOptions.{CertOptions}

@@ -1,6 +1,6 @@
 -- The conversion to any target.
 use Rattle.std.specs.Prelude.{◌≡◌, List, ℕ, Bool, Result}
-use Rattle.picky_layout.specs.Outcome.{map_ok}
+use Rattle.picky_wire_base.specs.Outcome.{map_ok}
 use Rattle.picky_cert_builder.specs.Draft.{Unsigned}
 use Rattle.picky_key_text.specs.declared.meaning.Meaning.{Meaning}
 use Rattle.picky_key_text.specs.Order.{asks}

@@ -3,9 +3,9 @@ use Rattle.std.proofs.Common.{◌≡◌, ℕ, Bool, true, false, List, Option, N
 use Rattle.std.specs.Prelude.{if◌then◌else◌, is_some}
 use Rattle.std.specs.Option.{ok_or}
 use Rattle.std.specs.Str.{bytes_eq}
-use Rattle.picky_layout.specs.Outcome.{and_then}
-use Rattle.picky_layout.specs.Table.{find_entry}
-use Rattle.picky_layout.specs.carried.Outcome.{and_then_ok}
+use Rattle.picky_wire_base.specs.Outcome.{and_then}
+use Rattle.picky_wire_base.specs.Table.{find_entry}
+use Rattle.picky_wire_base.specs.carried.Outcome.{and_then_ok}
 use Rattle.picky_sshkey_blob.specs.declared.pem_error.PemError.{PemError}
 use Rattle.picky_sshkey_blob.specs.PemRefusal.{pem_content}
 use Rattle.picky_suite.specs.Meanings.{Meanings}

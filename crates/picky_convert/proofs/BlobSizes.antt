@@ -1,8 +1,8 @@
 -- How long the blob of a public key is at most whose parts have at most 256 bytes each.
 use Rattle.std.proofs.Common.{◌≤◌, [], ◌∷◌, length, arith}
 use Rattle.std.proofs.lemmas.List.{length-append}
-use Rattle.picky_layout.specs.Mpint.{mpint_of}
-use Rattle.picky_layout.specs.Wire.{string_of}
+use Rattle.picky_wire_base.specs.Mpint.{mpint_of}
+use Rattle.picky_wire_base.specs.Wire.{string_of}
 use Rattle.picky_keys.specs.declared.curve.EcCurve.{EcCurve}
 use Rattle.picky_keys.specs.declared.curve.EcCurve.TheVariants.{NistP256, NistP384, NistP521}
 use Rattle.picky_keys.specs.declared.curve.EdAlgorithm.TheVariants.{Ed25519}
@@ -13,7 +13,7 @@ use Rattle.picky_keys.specs.declared.key.SshBasePublicKey.{SshBasePublicKey}
 use Rattle.picky_keys.specs.declared.key.SshBasePublicKey.TheVariants as keys
 use Rattle.picky_keys.specs.Blob.{blob_of, fields_spelled}
 use Rattle.picky_keys.specs.Key.{kind_of}
-use Rattle.picky_wire.proofs.WriteLemmas.{length-string_of}
+use Rattle.picky_wire_base.proofs.PieceLemmas.{length-string_of}
 use Rattle.picky_convert.proofs.TextSizes.{concat_size, mpint_size}
 
 -- ---- names

@@ -3,8 +3,8 @@ use Rattle.std.proofs.Common.{◌≡◌, ◌⊎◌, inl, inr, subst, Bool, true,
 use Rattle.std.proofs.Common.{ℕ, List, [], ◌∷◌, length, get_or, Ok, refl, sym, ap, arith}
 use Rattle.std.specs.Option.{option_map}
 use Rattle.std.specs.Str.{bytes_eq, IsUtf8}
-use Rattle.picky_layout.specs.carried.Outcome.{and_then_ok, map_err_ok}
-use Rattle.picky_layout.specs.Outcome.{map_err, map_ok}
+use Rattle.picky_wire_base.specs.carried.Outcome.{and_then_ok, map_err_ok}
+use Rattle.picky_wire_base.specs.Outcome.{map_err, map_ok}
 use Rattle.picky_ppk_parts.specs.Config.{default_config}
 use Rattle.picky_target.specs.ReadBack.{IsConfig}
 use Rattle.picky_conversion.specs.Certified.{Relation}

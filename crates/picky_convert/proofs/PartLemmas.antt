@@ -3,11 +3,11 @@ use Rattle.std.proofs.Common.{◌≡◌, ◌≤◌, ◌<◌, ◌+◌, ◌^◌, �
 use Rattle.std.proofs.Common.{◌↔◌, Err, IfErr, Ok, Result}
 use Rattle.std.proofs.lemmas.Str.{IsUtf8-from_ascii}
 use Rattle.std.specs.Result.{IsErrOf}
-use Rattle.picky_wire.specs.declared.error.SizeError.{SizeError}
-use Rattle.picky_wire.specs.declared.error.SizeError.TheVariants as size
-use Rattle.picky_layout.specs.Numbers.{IsBytes}
-use Rattle.picky_layout.specs.Zeros.{without_zeros}
-use Rattle.picky_layout.specs.carried.Zeros.{no_zero_begins}
+use Rattle.picky_wire_base.specs.declared.error.SizeError.{SizeError}
+use Rattle.picky_wire_base.specs.declared.error.SizeError.TheVariants as size
+use Rattle.picky_wire_base.specs.Numbers.{IsBytes}
+use Rattle.picky_wire_base.specs.Zeros.{without_zeros}
+use Rattle.picky_wire_base.specs.carried.Zeros.{no_zero_begins}
 use Rattle.picky_keys.specs.Key.{IsEdKey, IsNumber, IsString, IsText}
 use Rattle.picky_keys.proofs.ByteLaws.{bytes_first, no_bytes}
 use Rattle.picky_convert.specs.Generator.{after}

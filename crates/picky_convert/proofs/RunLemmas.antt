@@ -3,8 +3,8 @@ use Rattle.std.proofs.Common.{◌≡◌, ℕ, ◌≤◌, ◌++◌, List, length,
 use Rattle.std.proofs.lemmas.Bool.{ltb-false}
 use Rattle.std.proofs.lemmas.Str.{IsUtf8-from_is_utf8}
 use Rattle.std.specs.Str.{IsUtf8, is_utf8}
-use Rattle.picky_layout.specs.Outcome.{map_err, map_ok}
-use Rattle.picky_layout.specs.carried.Outcome.{map_err_ok}
+use Rattle.picky_wire_base.specs.Outcome.{map_err, map_ok}
+use Rattle.picky_wire_base.specs.carried.Outcome.{map_err_ok}
 use Rattle.picky_cert_builder.specs.Draft.{Unsigned}
 use Rattle.picky_conversion.specs.Certified.{Relation}
 use Rattle.picky_issuing.specs.declared.options.CertOptions.{CertOptions}

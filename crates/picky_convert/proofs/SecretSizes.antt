@@ -2,9 +2,9 @@
 use Rattle.std.proofs.Common.{◌≡◌, ◌≤◌, ◌<◌, ◌+◌, ◌-◌, ◌%◌, ◌^◌, ℕ, zero, suc, List, [], ◌∷◌, ◌++◌, None, length, refl, ap, arith}
 use Rattle.std.specs.Int.{w32, w8, to_be_bytes}
 use Rattle.std.proofs.lemmas.List.{length-append}
-use Rattle.picky_layout.specs.Mpint.{mpint_of}
-use Rattle.picky_layout.specs.Wire.{string_of}
-use Rattle.picky_layout.specs.Zeros.{without_zeros}
+use Rattle.picky_wire_base.specs.Mpint.{mpint_of}
+use Rattle.picky_wire_base.specs.Wire.{string_of}
+use Rattle.picky_wire_base.specs.Zeros.{without_zeros}
 use Rattle.picky_keys.specs.declared.curve.EcCurve.TheVariants.{NistP256}
 use Rattle.picky_keys.specs.KeyNames.{curve_identifier, kind_name}
 use Rattle.picky_sshkey_blob.proofs.TextLaws.{length_lines, length_text}
@@ -20,7 +20,7 @@ use Rattle.picky_sshkey.proofs.WrittenLemmas.{plain_len}
 use Rattle.picky_ppk_parts.specs.Secret.{secret_bytes}
 use Rattle.picky_target.specs.Drafts.{openssh_key}
 use Rattle.picky_target.specs.Texts.{envelope_text}
-use Rattle.picky_wire.proofs.WriteLemmas.{length-string_of}
+use Rattle.picky_wire_base.proofs.PieceLemmas.{length-string_of}
 use Rattle.picky_convert.specs.SampleTexts.{unsealed}
 use Rattle.picky_convert.proofs.BlobSizes.{IsSmall, blob_size, identifier_size, name_size}
 use Rattle.picky_convert.proofs.PartLemmas.{zeros_size}

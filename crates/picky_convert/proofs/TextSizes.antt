@@ -6,8 +6,8 @@ use Rattle.std.proofs.lemmas.Fmt.{length-decimal-le_succ}
 use Rattle.std.specs.Prelude.{if◌then◌else◌}
 use Rattle.std.specs.Fmt.{decimal}
 use Rattle.std.specs.List.{concat}
-use Rattle.picky_layout.specs.Mpint.{mpint_of}
-use Rattle.picky_layout.proofs.Mpint.{mpint_of_high, mpint_of_low}
+use Rattle.picky_wire_base.specs.Mpint.{mpint_of}
+use Rattle.picky_wire_base.proofs.MpintLaws.{mpint_of_high, mpint_of_low}
 use Rattle.picky_text.specs.Base64.{base64_of}
 use Rattle.picky_text.specs.Lines.{end_bytes, text_of}
 use Rattle.picky_text.specs.Quote.{is_special, quote}
@@ -16,7 +16,7 @@ use Rattle.picky_text.specs.declared.lines.LineEnd.{LineEnd}
 use Rattle.picky_text.specs.declared.lines.LineEnd.TheVariants.{Lf, CrLf}
 use Rattle.picky_text.proofs.Base64Laws.{length_base64}
 use Rattle.picky_text.proofs.RowLaws.{rows_of_are_rows}
-use Rattle.picky_wire.proofs.WriteLemmas.{length-string_of}
+use Rattle.picky_wire_base.proofs.PieceLemmas.{length-string_of}
 
 -- ---- strings and numbers
 

@@ -2,7 +2,7 @@
 use Rattle.std.specs.Prelude.{◌≡◌, ◌⊎◌, ◌<◌, ◌++◌, ◌≤◌, ◌&&◌, ◌↔◌, List, [], ℕ, Bool, true, length, take, nat_lt, nat_le, Result, Err}
 use Rattle.std.specs.Prelude.{Ok, Option, Some, None, if◌then◌else◌}
 use Rattle.std.specs.Str.{IsUtf8, is_utf8}
-use Rattle.picky_layout.specs.Outcome.{map_err}
+use Rattle.picky_wire_base.specs.Outcome.{map_err}
 use Rattle.picky_wire.specs.Count.{Rose}
 use Rattle.picky_wire.specs.Puts.{Puts}
 pub use Rattle.picky_input.specs.Input.{input_limit}

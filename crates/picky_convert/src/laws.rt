@@ -2,7 +2,7 @@
 
 ghost use Rattle.std.specs.Prelude.{◌≡◌, ◌<◌, ℕ, List, false, length, true, Ok, Err};
 ghost use Rattle.std.specs.Str.{IsUtf8};
-ghost use Rattle.picky_wire.specs.Equality.{IsEquality};
+ghost use Rattle.picky_wire_base.specs.Equality.{IsEquality};
 ghost use Rattle.picky_issuing.specs.declared.options.CertOptions.{CertOptions as Options};
 ghost use Rattle.picky_target.specs.declared.error.ConvertError.{ConvertError};
 ghost use Rattle.picky_conversion.specs.Chain.{IsGiven};

@@ -4,7 +4,7 @@ use Rattle.std.proofs.Common.{if◌then◌else◌}
 use Rattle.std.proofs.lemmas.Bool.{le-ltb, lt-ltb, ltb-false, ltb-true}
 use Rattle.std.specs.Str.{IsUtf8, is_utf8}
 use Rattle.std.proofs.lemmas.Str.{IsUtf8-from_is_utf8, is_utf8-from_IsUtf8}
-use Rattle.picky_wire.proofs.TextLemmas.{is_no_text as no_utf8}
+use Rattle.picky_wire_base.proofs.TextLemmas.{is_no_text as no_utf8}
 use Rattle.picky_input.specs.Input.{input_limit}
 use Rattle.picky_input.specs.SourceText.{IsSourceText, text_of}
 use Rattle.picky_input.specs.declared.source_text.SourceError.TheVariants as errors

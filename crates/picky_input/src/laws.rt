@@ -4,7 +4,7 @@ ghost use Rattle.std.specs.Prelude.{◌≡◌, ◌↔◌, ◌<◌, ◌≤◌, Li
 ghost use Rattle.std.specs.Str.{IsUtf8};
 ghost use Rattle.picky_input.specs.Input.{input_limit};
 ghost use Rattle.picky_input.specs.SourceText.{IsSourceText, text_of};
-ghost use Rattle.picky_wire.specs.Equality.{IsEquality};
+ghost use Rattle.picky_wire_base.specs.Equality.{IsEquality};
 
 use crate::input::InputError;
 use crate::source_text::SourceError;

@@ -49,7 +49,7 @@ pub fn as_text(bytes: &[u8]) -> Option<&str>
 }
 
 /// The same without a copy.
-#[tactic(auto, using(picky_wire::proofs::TextLemmas::is_no_text))]
+#[tactic(auto, using(picky_wire_base::proofs::TextLemmas::is_no_text))]
 fn into_text(bytes: Vec<u8>) -> Option<Text>
     requires { vec_len bytes ≤ input_limit }
     ensures { MatchOption result (is_utf8 bytes.items ≡ false) (λ text. (text ≡ bytes.items) × (is_utf8 bytes.items ≡ true)) }

@@ -9,8 +9,8 @@ use Rattle.std.proofs.lemmas.List.{append-nil, nil_from_length}
 use Rattle.std.proofs.lemmas.Slice.Eq.{bytes_eq-Decides}
 use Rattle.std.proofs.lemmas.Str.{IsUtf8-append, IsUtf8-from_ascii, IsUtf8-from_is_utf8, is_utf8-from_IsUtf8}
 use Rattle.std.specs.Str.{is_utf8, bytes_eq}
-use Rattle.picky_layout.specs.Numbers.{IsBytes}
-use Rattle.picky_layout.proofs.Numbers.{bytes_in_front, bytes_behind}
+use Rattle.picky_wire_base.specs.Numbers.{IsBytes}
+use Rattle.picky_wire_base.proofs.Numbers.{bytes_in_front, bytes_behind}
 use Rattle.picky_text.specs.Base64.{base64_of, decoded}
 use Rattle.picky_text.specs.Lines.{HasNo}
 use Rattle.picky_text.proofs.Base64Laws.{base64_has_no, base64_is_ascii, base64_is_of_what_it_gives, base64_is_read_back, decoded_is_bytes}

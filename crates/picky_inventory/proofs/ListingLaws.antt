@@ -5,7 +5,7 @@ use Rattle.std.proofs.lemmas.Bool.{cases_Bool}
 use Rattle.std.proofs.lemmas.List.{append-nil, get_or-map, length-map, length-take, map-append, take_more}
 use Rattle.std.proofs.lemmas.Option.{slice_get-get_or}
 use Rattle.std.specs.List.{concat, flat_map}
-use Rattle.picky_layout.specs.Outcome.{and_then, map_err, map_ok}
+use Rattle.picky_wire_base.specs.Outcome.{and_then, map_err, map_ok}
 use Rattle.picky_wire.specs.Count.{Rose}
 use Rattle.picky_suite.specs.Failures.{IsAskedFault}
 use Rattle.picky_suite.specs.Meanings.{Meanings}

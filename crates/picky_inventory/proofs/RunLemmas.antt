@@ -4,7 +4,7 @@ use Rattle.std.proofs.Common.{replicate, refl, sym, ◌∙◌, ap, inl, inr, sub
 use Rattle.std.proofs.lemmas.List.{length-replicate}
 use Rattle.std.proofs.lemmas.Bool.{cases_Bool}
 use Rattle.std.specs.Str.{chars, is_utf8}
-use Rattle.picky_layout.specs.Outcome.{and_then, map_err, map_ok}
+use Rattle.picky_wire_base.specs.Outcome.{and_then, map_err, map_ok}
 use Rattle.picky_sshkey_blob.specs.declared.error.SshPrivateKeyError.TheVariants as private
 use Rattle.picky_ppk_parts.specs.declared.error.PuttyError.TheVariants as putty
 use Rattle.picky_input.specs.Extent.{ToEnd, Anywhere}

@@ -5,7 +5,7 @@ use Rattle.std.proofs.lemmas.List.{append_assoc, append_cancel_left}
 use Rattle.std.specs.List.{AllByRecursion, concat}
 use Rattle.std.specs.Option.{IfSome}
 use Rattle.std.specs.Str.{IsUtf8}
-use Rattle.picky_layout.specs.Outcome.{and_then, map_err, map_ok}
+use Rattle.picky_wire_base.specs.Outcome.{and_then, map_err, map_ok}
 use Rattle.picky_text.proofs.ListLaws.{all_weaker}
 use Rattle.picky_issuing.specs.Parts.{cut, cut_lines, after_line, is_mark, issuer_of, key_text_of_cut, lines_with_ends, mark_lf}
 use Rattle.picky_issuing.proofs.PartsLemmas.{lines_at_lf, lines_joined}

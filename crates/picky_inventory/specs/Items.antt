@@ -1,7 +1,7 @@
 -- What an inventory has of each key: whether it is private, its public part and its comment; and the line of that.
 use Rattle.std.specs.Prelude.{◌+◌, ℕ, Bool, List, [], ◌∷◌, ◌++◌, Result, Ok, codes, if◌then◌else◌, length, nat_eq}
 use Rattle.std.specs.Str.{trim_end}
-use Rattle.picky_layout.specs.Outcome.{and_then, map_err, map_ok}
+use Rattle.picky_wire_base.specs.Outcome.{and_then, map_err, map_ok}
 use Rattle.picky_text.specs.Base64.{base64_of}
 use Rattle.picky_keys.specs.Blob.{blob_of}
 use Rattle.picky_keys.specs.Key.{IsKey, IsText}

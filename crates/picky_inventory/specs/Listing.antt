@@ -1,7 +1,7 @@
 -- What a list of parts gives: the lines of their items, or the first part that isn't read.
 use Rattle.std.specs.Prelude.{◌≡◌, ◌⊎◌, ℕ, false, List, map, Option, Some, Result, Ok, Err, slice_get, take}
 use Rattle.std.specs.List.{AllByRecursion}
-use Rattle.picky_layout.specs.Outcome.{map_ok}
+use Rattle.picky_wire_base.specs.Outcome.{map_ok}
 use Rattle.picky_suite.specs.Failures.{IsAskedFault}
 use Rattle.picky_key_text.specs.Order.{asks, fault_of}
 use Rattle.picky_key_text.specs.Reader.{Reader}

@@ -2,9 +2,9 @@
 
 ghost use Rattle.std.specs.Prelude.{◌≡◌, ◌⊎◌, ℕ, List, Some, Err};
 ghost use Rattle.std.specs.Option.{option_copied};
-ghost use Rattle.picky_layout.specs.Outcome.{map_err, map_ok};
+ghost use Rattle.picky_wire_base.specs.Outcome.{map_err, map_ok};
 ghost use Rattle.picky_wire.specs.Count.{Rose};
-ghost use Rattle.picky_wire.specs.Gives.{Gives as GivesOrWants};
+ghost use Rattle.picky_wire_base.specs.Gives.{Gives as GivesOrWants};
 ghost use Rattle.picky_input.specs.Extent.{LeavesDevice, ReadsInput};
 ghost use Rattle.picky_inventory.specs.Listing.{NoneAsks};
 ghost use Rattle.picky_inventory.specs.Merging.{merging};

@@ -109,7 +109,7 @@ fn is_text(bytes: &[u8]) -> bool
 }
 
 /// The bytes are UTF-8.
-#[tactic(auto, using(picky_wire::proofs::ViewLemmas::tests))]
+#[tactic(auto, using(picky_wire_base::proofs::ViewLemmas::tests))]
 fn is_utf8(bytes: &[u8]) -> bool
     ensures { result ≡ is_utf8_bytes bytes.now }
 {

@@ -3,7 +3,7 @@
 ghost use Rattle.std.specs.Prelude.{◌≡◌, ◌++◌, map, IfOk, OnOk};
 ghost use Rattle.std.specs.Option.{option_copied};
 ghost use Rattle.picky_issuing.specs.Parts.{lines_with_ends};
-ghost use Rattle.picky_wire.specs.Gives.{Gives};
+ghost use Rattle.picky_wire_base.specs.Gives.{Gives};
 ghost use Rattle.picky_inventory.specs.Merging.{merging, or_empty as text_or_empty};
 ghost use Rattle.picky_inventory.specs.OrderedText.{merged};
 

@@ -1,8 +1,8 @@
 -- Values of the form NAME or NAME=TEXT, which ask for a critical option or an extension.
 use Rattle.std.specs.Prelude.{List, [], ℕ, ◌^◌, ◌==◌, Bool, nat_lt, length, Option, Some, None, if◌then◌else◌}
 use Rattle.std.specs.List.{after_first, before_first, list_any}
-use Rattle.picky_layout.specs.Table.{find_entry}
-use Rattle.picky_layout.specs.Wire.{string_of}
+use Rattle.picky_wire_base.specs.Table.{find_entry}
+use Rattle.picky_wire_base.specs.Wire.{string_of}
 use Rattle.picky_cert_parts.specs.ExtensionType.{extension_named}
 use Rattle.picky_cert_parts.specs.CertNameTables.{option_types}
 use Rattle.picky_cert_parts.specs.CriticalOption.{option_made}

@@ -1,7 +1,7 @@
 -- What a command line asks of a certificate: options and their values, in any order.
 use Rattle.std.specs.Prelude.{◌++◌, List, [], ◌∷◌, ℕ, Option, Some, None}
 use Rattle.std.specs.Option.{option_map}
-use Rattle.picky_layout.specs.Table.{find_entry}
+use Rattle.picky_wire_base.specs.Table.{find_entry}
 use Rattle.picky_wire.specs.declared.timestamp.Timestamp.{Timestamp}
 use Rattle.picky_cert_parts.specs.CertNameTables.{cert_key_types}
 use Rattle.picky_issuing.specs.declared.option_word.OptionWord.{OptionWord}

@@ -1,7 +1,7 @@
 //! Values of the form NAME or NAME=TEXT, which ask for a critical option or an extension.
 
 ghost use Rattle.std.specs.Prelude.{◌≡◌, IfOk};
-ghost use Rattle.picky_layout.specs.Wire.{string_of};
+ghost use Rattle.picky_wire_base.specs.Wire.{string_of};
 ghost use Rattle.picky_cert_parts.specs.ExtensionType.{extension_named};
 ghost use Rattle.picky_issuing.specs.NamedPayload.{requested_critical_option, requested_extension, if_short, name_in, payload_in};
 

@@ -1,8 +1,8 @@
 -- Lemmas on the first word of a text.
 use Rattle.std.specs.Prelude.{◌≡◌, false, is_some, List, ℕ, IsUtf8}
 use Rattle.std.proofs.Common.{ap, sym, ◌∙◌, subst}
-use Rattle.picky_layout.proofs.Table.{none_is_found}
-use Rattle.picky_layout.specs.Table.{find_entry}
+use Rattle.picky_wire_base.proofs.Table.{none_is_found}
+use Rattle.picky_wire_base.specs.Table.{find_entry}
 use Rattle.picky_cert_parts.specs.CertNameTables.{cert_key_types}
 use Rattle.picky_cert_parts.proofs.TypeNameLaws.{cert_key_type_name_utf8, cert_key_type_has_name}
 

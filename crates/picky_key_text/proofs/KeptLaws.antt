@@ -5,10 +5,10 @@ use Rattle.std.specs.Int.{to_be_bytes, w32}
 use Rattle.std.specs.Str.{IsUtf8}
 use Rattle.std.proofs.Common.{sym, subst, ◌∙◌, arith, append_assoc, slice_index, inl, inr}
 use Rattle.sha1.specs.Sha1.{sha1, digest_bytes}
-use Rattle.picky_layout.specs.Numbers.{IsBytes}
-use Rattle.picky_layout.proofs.Numbers.{bytes_in_front, bytes_behind, front_bytes, back_bytes}
-use Rattle.picky_layout.specs.Zeros.{without_zeros}
-use Rattle.picky_layout.specs.carried.Zeros.{zeros_in_front}
+use Rattle.picky_wire_base.specs.Numbers.{IsBytes}
+use Rattle.picky_wire_base.proofs.Numbers.{bytes_in_front, bytes_behind, front_bytes, back_bytes}
+use Rattle.picky_wire_base.specs.Zeros.{without_zeros}
+use Rattle.picky_wire_base.specs.carried.Zeros.{zeros_in_front}
 use Rattle.picky_text.specs.Words.{after_body}
 use Rattle.picky_text.proofs.ListLaws.{all_append, all_replicate}
 use Rattle.picky_text.proofs.WordLaws.{rest_of_line_is_text}

@@ -1,6 +1,6 @@
 -- What a certificate means, by its subject's key alone.
 use Rattle.std.proofs.Common.{◌≡◌, Result, Ok, Err, ap}
-use Rattle.picky_layout.specs.Outcome.{and_then, map_err, map_ok}
+use Rattle.picky_wire_base.specs.Outcome.{and_then, map_err, map_ok}
 use Rattle.picky_keys.specs.declared.key.SshPublicKey.{SshPublicKey}
 use Rattle.picky_cert_parts.specs.declared.error.SshCertificateError.{SshCertificateError}
 use Rattle.picky_cert.specs.declared.certificate.SshCertificate.{SshCertificate}

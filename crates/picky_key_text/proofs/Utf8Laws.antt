@@ -10,7 +10,7 @@ use Rattle.std.specs.List.{AllByRecursion, slice_split, onto_first}
 use Rattle.std.specs.Str.{IsUtf8}
 use Rattle.std.specs.Str.Lines.{lines_of_parts, strip_carriage_return}
 use lib.Utf8.{encode, encodes, scalar, scalars, scalar_cases}
-use Rattle.picky_layout.specs.Numbers.{IsBytes}
+use Rattle.picky_wire_base.specs.Numbers.{IsBytes}
 use Rattle.picky_kv.proofs.LineBytes.{EachByte, each_by_place}
 use Rattle.picky_text.specs.Lines.{lines}
 use Rattle.picky_text.specs.Quote.{is_special, unquote}

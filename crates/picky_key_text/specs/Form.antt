@@ -1,7 +1,7 @@
 -- The form of a key text, by how it begins.
 use Rattle.std.specs.Prelude.{◌==◌, Bool, List, ℕ, codes, if◌then◌else◌, is_some}
 use Rattle.std.specs.List.{starts_with}
-use Rattle.picky_layout.specs.Table.{find_entry}
+use Rattle.picky_wire_base.specs.Table.{find_entry}
 use Rattle.picky_text.specs.Words.{first_word}
 use Rattle.picky_cert_parts.specs.CertNameTables.{cert_key_types}
 use Rattle.picky_key_text.specs.declared.form.Form.{Form}

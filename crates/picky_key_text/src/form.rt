@@ -3,7 +3,7 @@
 ghost use Rattle.std.specs.Prelude.{◌≡◌, ◌==◌};
 ghost use Rattle.std.specs.List.{starts_with};
 ghost use Rattle.picky_key_text.specs.Form.{form_of as form_in};
-ghost use Rattle.picky_layout.specs.Table.{find_entry};
+ghost use Rattle.picky_wire_base.specs.Table.{find_entry};
 ghost use Rattle.picky_cert_parts.specs.CertNameTables.{cert_key_types};
 ghost use Rattle.std.specs.Prelude.{is_some};
 

@@ -3,8 +3,8 @@
 ghost use Rattle.std.specs.Prelude.{◌≡◌, List, ℕ, Ok, Err};
 ghost use Rattle.std.specs.Option.{IfSome};
 ghost use Rattle.std.specs.Str.{IsUtf8};
-ghost use Rattle.picky_layout.specs.Numbers.{IsBytes};
-ghost use Rattle.picky_wire.specs.Equality.{IsEquality};
+ghost use Rattle.picky_wire_base.specs.Numbers.{IsBytes};
+ghost use Rattle.picky_wire_base.specs.Equality.{IsEquality};
 ghost use Rattle.picky_key_text.specs.declared.error.ReadError.{ReadError as Refused};
 ghost use Rattle.picky_key_text.specs.declared.meaning.Meaning.{Meaning as Meant};
 ghost use Rattle.picky_key_text.specs.Kept.{IsKeptMeaning};

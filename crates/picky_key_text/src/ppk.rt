@@ -3,9 +3,9 @@
 ghost use Rattle.std.specs.Prelude.{◌≡◌, ◌≢◌, Ok, Err};
 ghost use Rattle.std.specs.Option.{option_copied};
 ghost use Rattle.picky_suite.specs.Asked.{GivesAsked, LeavesSuite};
-ghost use Rattle.picky_layout.specs.Outcome.{and_then};
+ghost use Rattle.picky_wire_base.specs.Outcome.{and_then};
 ghost use Rattle.picky_wire.specs.Count.{Rose};
-ghost use Rattle.picky_wire.specs.Gives.{Gives};
+ghost use Rattle.picky_wire_base.specs.Gives.{Gives};
 ghost use Rattle.picky_ppk_file.specs.File.{is_sealed};
 ghost use Rattle.picky_ppk.specs.Opened.{is_openable};
 ghost use Rattle.picky_key_text.specs.Order.{file_key, opened as opened_file, ppk_key as key_of_ppk, ppk_asks, file_asks};

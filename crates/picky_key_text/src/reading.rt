@@ -2,12 +2,12 @@
 
 ghost use Rattle.std.specs.Prelude.{◌≡◌, ◌≢◌, ◌⊎◌, Ok, Err, IfOk};
 ghost use Rattle.std.specs.Option.{option_copied, IfSome};
-ghost use Rattle.picky_layout.specs.Numbers.{IsBytes};
+ghost use Rattle.picky_wire_base.specs.Numbers.{IsBytes};
 ghost use Rattle.picky_suite.specs.Asked.{GivesAsked, LeavesSuite};
 ghost use Rattle.picky_suite.specs.Failures.{IsAskedFault};
 ghost use Rattle.picky_wire.specs.Count.{Rose};
-ghost use Rattle.picky_wire.specs.Gives.{Gives};
-ghost use Rattle.picky_layout.specs.Outcome.{and_then, map_err};
+ghost use Rattle.picky_wire_base.specs.Gives.{Gives};
+ghost use Rattle.picky_wire_base.specs.Outcome.{and_then, map_err};
 ghost use Rattle.picky_ppk_file.specs.PuttyRefusal.{putty_meaning, to_openssh};
 ghost use Rattle.picky_cert.specs.LineRefusal.{line_meaning as certificate_line};
 ghost use Rattle.picky_key_text.specs.Key.{certificate_meaning, public_meaning as public_meaning_of};

@@ -1,13 +1,13 @@
 -- Nothing but what a blob's definition spells is a piece of it.
 use Rattle.std.specs.Prelude.{◌≡◌, List, [], ℕ, ◌++◌}
 use Rattle.std.proofs.Common.{sym, ◌∙◌, ap, subst, refl}
-use Rattle.picky_layout.specs.Wire.{string_of, text}
-use Rattle.picky_layout.specs.Numbers.{IsBytes}
-use Rattle.picky_layout.proofs.Numbers.{bytes_in_front, bytes_behind}
-use Rattle.picky_layout.proofs.Strings.{string_exact, text_exact}
-use Rattle.picky_layout.specs.Mpint.{mpint}
-use Rattle.picky_layout.proofs.Mpint.{mpint_exact}
-use Rattle.picky_layout.proofs.Named.{named_exact}
+use Rattle.picky_wire_base.specs.Wire.{string_of, text}
+use Rattle.picky_wire_base.specs.Numbers.{IsBytes}
+use Rattle.picky_wire_base.proofs.Numbers.{bytes_in_front, bytes_behind}
+use Rattle.picky_wire_base.proofs.Strings.{string_exact, text_exact}
+use Rattle.picky_wire_base.specs.Mpint.{mpint}
+use Rattle.picky_wire_base.proofs.MpintLaws.{mpint_exact}
+use Rattle.picky_wire_base.proofs.Named.{named_exact}
 use Rattle.picky_keys.specs.declared.kind.KeyKind.{KeyKind}
 use Rattle.picky_keys.specs.declared.kind.KeyKind.TheVariants as kinds
 use Rattle.picky_keys.specs.declared.curve.EcCurve.{EcCurve}

@@ -1,9 +1,9 @@
 -- The laws of the blob's layout as an element of the wire.
 use Rattle.std.specs.Prelude.{◌≡◌, List, ℕ, ◌++◌, Ok}
 use Rattle.std.proofs.Common.{ap}
-use Rattle.picky_layout.specs.Grammar.{Fits}
-use Rattle.picky_layout.specs.Outcome.{map_err}
-use Rattle.picky_layout.specs.carried.Outcome.{map_err_ok}
+use Rattle.picky_wire_base.specs.Grammar.{Fits}
+use Rattle.picky_wire_base.specs.Outcome.{map_err}
+use Rattle.picky_wire_base.specs.carried.Outcome.{map_err_ok}
 use Rattle.picky_keys.specs.declared.key.SshBasePublicKey.{SshBasePublicKey}
 use Rattle.picky_keys.specs.Key.{IsKey}
 use Rattle.picky_keys.specs.Blob.{blob, blob_of}

@@ -7,11 +7,11 @@ use Rattle.std.proofs.Common.{sym, subst, refl, arith, inl, inr}
 use Rattle.std.proofs.lemmas.Bool.{cases_lt, cases_Bool, ltb-true, eq-eqb}
 use Rattle.std.proofs.lemmas.List.{get_or_append_left, get_or-append-add, get_or_past}
 use Rattle.std.proofs.lemmas.List.Sums.{AllPass-from_list_all}
-use Rattle.picky_layout.specs.Wire.{string_of}
-use Rattle.picky_layout.specs.Mpint.{mpint_of}
-use Rattle.picky_layout.proofs.Mpint.{mpint_of_high, mpint_of_low}
-use Rattle.picky_layout.specs.Numbers.{IsBytes}
-use Rattle.picky_layout.proofs.Numbers.{front_bytes, back_bytes}
+use Rattle.picky_wire_base.specs.Wire.{string_of}
+use Rattle.picky_wire_base.specs.Mpint.{mpint_of}
+use Rattle.picky_wire_base.proofs.MpintLaws.{mpint_of_high, mpint_of_low}
+use Rattle.picky_wire_base.specs.Numbers.{IsBytes}
+use Rattle.picky_wire_base.proofs.Numbers.{front_bytes, back_bytes}
 use Rattle.picky_text.specs.Lines.{HasNo}
 use Rattle.picky_text.specs.Words.{ends_word, first_word, after_word, IsWord}
 use Rattle.picky_keys.specs.declared.curve.EcCurve.{EcCurve}

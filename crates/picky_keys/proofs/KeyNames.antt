@@ -1,9 +1,9 @@
 -- The laws of names: each stands for one kind or curve.
 use Rattle.std.specs.Prelude.{◌≡◌, List, ℕ, Some, IsUtf8}
 use Rattle.std.proofs.Common.{refl, sym, subst, ◌∙◌}
-use Rattle.picky_layout.specs.Table.{find_entry}
-use Rattle.picky_layout.specs.carried.Table.{found_has_key}
-use Rattle.picky_layout.specs.Wire.{text}
+use Rattle.picky_wire_base.specs.Table.{find_entry}
+use Rattle.picky_wire_base.specs.carried.Table.{found_has_key}
+use Rattle.picky_wire_base.specs.Wire.{text}
 use Rattle.picky_keys.specs.declared.curve.EcCurve.{EcCurve}
 use Rattle.picky_keys.specs.declared.kind.KeyKind.{KeyKind}
 use Rattle.picky_keys.specs.KeyNames.{curve_identifier, kind_name}

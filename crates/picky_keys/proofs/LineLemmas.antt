@@ -1,7 +1,7 @@
 -- Lemmas on the words of a line.
 use Rattle.std.specs.Prelude.{◌≡◌, false, is_some, List, ℕ, IsUtf8}
 use Rattle.std.proofs.Common.{ap, sym, ◌∙◌, subst}
-use Rattle.picky_layout.proofs.Table.{none_is_found}
+use Rattle.picky_wire_base.proofs.Table.{none_is_found}
 use Rattle.picky_keys.specs.KeyNameTables.{key_types}
 use Rattle.picky_keys.proofs.KeyNames.{key_is_name, kind_name_utf8}
 use Rattle.picky_keys.specs.LineRefusal.{is_key_type}

@@ -4,7 +4,7 @@ use Rattle.std.specs.List.{after_first}
 use Rattle.std.proofs.Common.{◌∙◌, ap, refl, arith, append_assoc}
 use Rattle.std.proofs.lemmas.Bool.{lt-ltb}
 use Rattle.std.proofs.lemmas.List.{length-append}
-use Rattle.picky_layout.specs.Outcome.{and_then}
+use Rattle.picky_wire_base.specs.Outcome.{and_then}
 use Rattle.picky_text.proofs.ListLaws.{all_append, cut_at_first}
 use Rattle.picky_text.specs.Words.{ends_line, line_in_front}
 use Rattle.picky_text.proofs.WordLaws.{base64_is_word, stays_line}

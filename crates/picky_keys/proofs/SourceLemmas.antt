@@ -5,13 +5,13 @@ use Rattle.std.specs.Prelude.{Option, IsSome, IfOk, IfErr}
 use Rattle.std.specs.List.{before_first, after_first, position_or_len}
 use Rattle.std.proofs.lemmas.Bool.{lt-ltb, le-ltb, cases_lt}
 use Rattle.std.proofs.lemmas.List.{append-nil, append_assoc, drop_at, length-drop, length-take, length-append}
-use Rattle.picky_layout.specs.Outcome.{and_then, map_ok}
+use Rattle.picky_wire_base.specs.Outcome.{and_then, map_ok}
 use Rattle.picky_text.specs.Words.{ends_line, line_in_front}
 use Rattle.picky_text.proofs.ListLaws.{cut_at_first, uncut, all_append}
 use Rattle.picky_wire.specs.declared.error.WireError.{WireError}
 use Rattle.picky_wire.specs.declared.error.WireError.TheVariants as wire
 use Rattle.picky_wire.specs.Count.{Rose}
-use Rattle.picky_wire.specs.Gives.{Gives}
+use Rattle.picky_wire_base.specs.Gives.{Gives}
 use Rattle.picky_wire.proofs.ThenLemmas.{judged_takes, judged_cause, read_judged}
 use Rattle.picky_wire.specs.Takes.{Takes, EndsIn, Refuses, HasCause, causes_of}
 use Rattle.picky_keys.specs.LineRefusal.{is_short}

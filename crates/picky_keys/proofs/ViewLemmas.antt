@@ -1,13 +1,13 @@
 -- Lemmas on the view of a blob.
 use Rattle.std.proofs.Common.{◌≡◌, ◌≢◌, ℕ, List, drop, ap, subst, Result, Ok, Err}
 use Rattle.std.specs.Prelude.{IfOk}
-use Rattle.picky_layout.specs.Flaw.{Why, Reason}
-use Rattle.picky_layout.specs.Numbers.{IsBytes}
-use Rattle.picky_layout.proofs.Numbers.{bytes_in_front}
-use Rattle.picky_layout.specs.Outcome.{and_then, map_err}
-use Rattle.picky_wire.specs.declared.view.Stuck.{Stuck}
-use Rattle.picky_wire.specs.declared.view.Stuck.TheVariants as stucks
-use Rattle.picky_wire.specs.View.{Seen, end_of, why_of, why_in}
+use Rattle.picky_wire_base.specs.Flaw.{Why, Reason}
+use Rattle.picky_wire_base.specs.Numbers.{IsBytes}
+use Rattle.picky_wire_base.proofs.Numbers.{bytes_in_front}
+use Rattle.picky_wire_base.specs.Outcome.{and_then, map_err}
+use Rattle.picky_wire_base.specs.declared.view.Stuck.{Stuck}
+use Rattle.picky_wire_base.specs.declared.view.Stuck.TheVariants as stucks
+use Rattle.picky_wire_base.specs.View.{Seen, end_of, why_of, why_in}
 use Rattle.picky_keys.specs.declared.key.SshBasePublicKey.{SshBasePublicKey}
 use Rattle.picky_keys.specs.declared.view.PublicView.{PublicView}
 use Rattle.picky_keys.specs.Key.{IsKey}

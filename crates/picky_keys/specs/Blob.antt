@@ -1,13 +1,13 @@
 -- A public key's blob (RFC 4253, section 6.6; RFC 5656, section 3.1; RFC 8709, section 4; OpenSSH's PROTOCOL.u2f).
 use Rattle.std.specs.Prelude.{List, [], ◌∷◌, ℕ, ◌++◌}
 use Rattle.std.specs.List.{concat}
-use Rattle.picky_layout.specs.Flaw.{Reason}
-use Rattle.picky_layout.specs.Grammar.{Grammar}
-use Rattle.picky_layout.specs.Combine.{at, done, ◌>>=◌}
-use Rattle.picky_layout.specs.Wire.{string, string_of, text}
-use Rattle.picky_layout.specs.Fixed.{sized}
-use Rattle.picky_layout.specs.Mpint.{mpint, mpint_of}
-use Rattle.picky_layout.specs.Named.{named}
+use Rattle.picky_wire_base.specs.Flaw.{Reason}
+use Rattle.picky_wire_base.specs.Grammar.{Grammar}
+use Rattle.picky_wire_base.specs.Combine.{at, done, ◌>>=◌}
+use Rattle.picky_wire_base.specs.Wire.{string, string_of, text}
+use Rattle.picky_wire_base.specs.Fixed.{sized}
+use Rattle.picky_wire_base.specs.Mpint.{mpint, mpint_of}
+use Rattle.picky_wire_base.specs.Named.{named}
 use Rattle.picky_keys.specs.declared.curve.EcCurve.{EcCurve}
 use Rattle.picky_keys.specs.declared.curve.EcCurve.TheVariants.{NistP256}
 use Rattle.picky_keys.specs.declared.kind.KeyKind.{KeyKind}

@@ -1,7 +1,7 @@
 -- What is answered for a blob: its key and what follows it, or the error of the first field that doesn't fit.
 use Rattle.std.specs.Prelude.{List, ℕ, Result}
-use Rattle.picky_layout.specs.Flaw.{Why, Reason, Flawed, Length, Magic, Name, Number}
-use Rattle.picky_layout.specs.Outcome.{map_err}
+use Rattle.picky_wire_base.specs.Flaw.{Why, Reason, Flawed, Length, Magic, Name, Number}
+use Rattle.picky_wire_base.specs.Outcome.{map_err}
 use Rattle.picky_wire.specs.Flaws.{wire_error}
 use Rattle.picky_wire.specs.declared.stop.Stop.{Stop}
 use Rattle.picky_wire.specs.declared.stop.Stop.TheVariants as stops

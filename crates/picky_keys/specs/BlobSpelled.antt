@@ -1,7 +1,7 @@
 -- Which bytes spell which key, field by field (RFC 4253, section 6.6; RFC 5656, section 3.1; RFC 8709, section 4; PROTOCOL.u2f).
 use Rattle.std.specs.Prelude.{◌≡◌, List, [], ◌∷◌, ℕ, ◌+◌, ◌++◌, ◌<◌, ◌^◌, length, replicate, IsUtf8}
 use Rattle.std.specs.List.{concat}
-use Rattle.picky_layout.specs.Wire.{string_of}
+use Rattle.picky_wire_base.specs.Wire.{string_of}
 use Rattle.picky_keys.specs.KeyNames.{kind_name}
 use Rattle.picky_keys.specs.declared.key.SshBasePublicKey.{SshBasePublicKey}
 use Rattle.picky_keys.specs.declared.key.SshBasePublicKey.TheVariants as keys

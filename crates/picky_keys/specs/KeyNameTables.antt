@@ -1,7 +1,7 @@
 -- The tables of key types and curves by name.
 use Rattle.std.specs.Prelude.{List, ℕ}
-use Rattle.picky_layout.specs.Table.{Table}
-use Rattle.picky_layout.specs.Named.{names}
+use Rattle.picky_wire_base.specs.Table.{Table}
+use Rattle.picky_wire_base.specs.Named.{names}
 use Rattle.picky_keys.specs.declared.curve.EcCurve.{EcCurve}
 use Rattle.picky_keys.specs.declared.kind.KeyKind.{KeyKind}
 use Rattle.picky_keys.specs.KeyNames.{curve_identifier, kind_name, kinds_in_order, curves_in_order}

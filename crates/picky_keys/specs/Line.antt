@@ -1,8 +1,8 @@
 -- A public key line (sshd(8), "AUTHORIZED_KEYS FILE FORMAT"): a key type, the key's blob in base64, a comment.
 use Rattle.std.specs.Prelude.{◌≡◌, List, [], ◌∷◌, ◌++◌, ℕ, ◌<◌, ◌^◌, length, IsUtf8}
 use Rattle.std.specs.Str.{trim_end}
-use Rattle.picky_layout.specs.Numbers.{IsBytes}
-use Rattle.picky_layout.specs.Grammar.{Fits}
+use Rattle.picky_wire_base.specs.Numbers.{IsBytes}
+use Rattle.picky_wire_base.specs.Grammar.{Fits}
 use Rattle.picky_text.specs.Base64.{base64_of}
 use Rattle.picky_text.specs.Words.{first_word, body_word, line_in_front, after_body, comment_of}
 use Rattle.picky_text.specs.Lines.{HasNo}

@@ -2,8 +2,8 @@
 use Rattle.std.specs.Prelude.{◌^◌, ◌&&◌, Bool, true, List, ℕ, length, nat_lt, Option, Some, None, Result, Ok}
 use Rattle.std.specs.Prelude.{Err, if◌then◌else◌, is_some}
 use Rattle.std.specs.Option.{ok_or}
-use Rattle.picky_layout.specs.Outcome.{and_then}
-use Rattle.picky_layout.specs.Table.{find_entry}
+use Rattle.picky_wire_base.specs.Outcome.{and_then}
+use Rattle.picky_wire_base.specs.Table.{find_entry}
 use Rattle.picky_text.specs.Base64.{decoded}
 use Rattle.picky_text.specs.Words.{first_word, body_word, after_body, rest_text}
 use Rattle.picky_keys.specs.KeyNameTables.{key_types}

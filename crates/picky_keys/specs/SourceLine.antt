@@ -1,7 +1,7 @@
 -- A public key line in front of a source's bytes: what is taken, what it means, and the order of its refusals.
 use Rattle.std.specs.Prelude.{◌≡◌, ◌+◌, ◌^◌, false, List, ℕ, length, drop, Result, Ok, Err, if◌then◌else◌}
 use Rattle.std.specs.List.{after_first, AllByRecursion}
-use Rattle.picky_layout.specs.Outcome.{and_then}
+use Rattle.picky_wire_base.specs.Outcome.{and_then}
 use Rattle.picky_text.specs.Words.{ends_line, line_in_front}
 use Rattle.picky_wire.specs.declared.error.WireError.{WireError}
 use Rattle.picky_wire.specs.declared.error.WireError.TheVariants as wire

@@ -1,8 +1,8 @@
 -- What a public key's view shows, and where its parts lie in the blob.
 use Rattle.std.specs.Prelude.{List, [], ◌∷◌, ℕ}
-use Rattle.picky_layout.specs.Wire.{string, text}
-use Rattle.picky_layout.specs.Mpint.{mpint}
-use Rattle.picky_wire.specs.View.{Lies, end_of}
+use Rattle.picky_wire_base.specs.Wire.{string, text}
+use Rattle.picky_wire_base.specs.Mpint.{mpint}
+use Rattle.picky_wire_base.specs.View.{Lies, end_of}
 use Rattle.picky_keys.specs.Blob.{ed_key}
 use Rattle.picky_keys.specs.declared.key.SshBasePublicKey.{SshBasePublicKey}
 use Rattle.picky_keys.specs.declared.key.SshBasePublicKey.TheVariants as keys

@@ -1,7 +1,7 @@
 //! A public key's blob alone, as bytes.
 
 ghost use Rattle.std.specs.Prelude.{◌≡◌, ◌≢◌, IfOk, IfErr};
-ghost use Rattle.picky_wire.specs.Gives.{Gives};
+ghost use Rattle.picky_wire_base.specs.Gives.{Gives};
 ghost use Rattle.picky_wire.specs.declared.error.IoKind.TheVariants as io_kinds;
 ghost use Rattle.picky_keys.specs.Blob.{blob_of};
 ghost use Rattle.picky_keys.specs.LineRefusal.{blob_key, blob_bytes};

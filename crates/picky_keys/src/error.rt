@@ -77,7 +77,7 @@ impl From<Stop> for SshPublicKeyError {
 
 impl From<Stuck<'_>> for SshPublicKeyError {
     ghost use Rattle.std.specs.Prelude.{◌≡◌};
-    ghost use Rattle.picky_wire.specs.View.{why_of};
+    ghost use Rattle.picky_wire_base.specs.View.{why_of};
     ghost use Rattle.picky_keys.specs.BlobRefusal.{why_error};
 
     ghost from_gives = { λ stuck result. result ≡ why_error (why_of stuck) };

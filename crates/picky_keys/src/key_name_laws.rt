@@ -1,8 +1,8 @@
 //! The laws of this crate, each as the contract of a function that does nothing else.
 
 ghost use Rattle.std.specs.Prelude.{◌≡◌, List, ℕ, Some, codes};
-ghost use Rattle.picky_layout.specs.Table.{find_entry};
-ghost use Rattle.picky_wire.specs.Equality.{IsEquality, IsEqualityOf};
+ghost use Rattle.picky_wire_base.specs.Table.{find_entry};
+ghost use Rattle.picky_wire_base.specs.Equality.{IsEquality, IsEqualityOf};
 ghost use Rattle.picky_keys.specs.KeyNames.{kind_name, curve_identifier};
 ghost use Rattle.picky_keys.specs.PublicKey.{key_shown};
 ghost use Rattle.picky_keys.specs.KeyNameTables.{key_types, curves};

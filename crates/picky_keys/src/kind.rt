@@ -1,7 +1,7 @@
 //! The kinds of keys, each with the name of its key type.
 
 ghost use Rattle.std.specs.Prelude.{◌≡◌, ◌≤◌, bytes_eq, length};
-ghost use Rattle.picky_layout.specs.Table.{find_entry};
+ghost use Rattle.picky_wire_base.specs.Table.{find_entry};
 
 use crate::curve::{EcCurve, EcCurveSshExt, EdAlgorithm, EdAlgorithmSshExt};
 use crate::key_type;

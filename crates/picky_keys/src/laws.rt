@@ -1,11 +1,11 @@
 //! The laws of this crate, each as the contract of a function that does no more than it says.
 
 ghost use Rattle.std.specs.Prelude.{◌≡◌, ◌++◌, ◌∷◌, ◌<◌, ◌^◌, List, ℕ, Ok, Err, IsUtf8, length};
-ghost use Rattle.picky_layout.specs.Numbers.{IsBytes};
-ghost use Rattle.picky_layout.specs.Outcome.{and_then};
-ghost use Rattle.picky_layout.specs.Grammar.{Fits};
+ghost use Rattle.picky_wire_base.specs.Numbers.{IsBytes};
+ghost use Rattle.picky_wire_base.specs.Outcome.{and_then};
+ghost use Rattle.picky_wire_base.specs.Grammar.{Fits};
 ghost use Rattle.picky_text.specs.Words.{after_body, line_in_front};
-ghost use Rattle.picky_wire.specs.Equality.{IsEquality, IsEqualityOf};
+ghost use Rattle.picky_wire_base.specs.Equality.{IsEquality, IsEqualityOf};
 ghost use Rattle.picky_keys.specs.View.{view_shown};
 ghost use Rattle.picky_keys.specs.declared.key.SshBasePublicKey.{SshBasePublicKey as BaseKey};
 ghost use Rattle.picky_keys.specs.declared.key.SshPublicKey.{SshPublicKey as Key};

@@ -2,7 +2,7 @@
 
 ghost use Rattle.std.specs.Prelude.{◌≡◌, ◌≢◌, ◌⊎◌, ◌^◌, ◌<◌, ◌≤◌, ◌+◌, ◌*◌, ◌/◌, Err, IfErr, IfOk, length, not, string_bytes};
 ghost use Rattle.std.specs.Option.{option_copied};
-ghost use Rattle.picky_wire.specs.Gives.{Gives};
+ghost use Rattle.picky_wire_base.specs.Gives.{Gives};
 ghost use Rattle.picky_wire.specs.Puts.{Puts};
 ghost use Rattle.picky_wire.specs.declared.error.IoKind.TheVariants as io_kinds;
 ghost use Rattle.picky_keys.specs.Blob.{blob_of};

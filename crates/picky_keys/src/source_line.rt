@@ -1,7 +1,7 @@
 //! A public key line taken from a source.
 
 ghost use Rattle.std.specs.Prelude.{◌≡◌, ◌≢◌, ◌^◌, ◌<◌, ◌≤◌, ◌∷◌, [], Err, length, IfOk, IfErr, OnOk, OnErr, MatchOption, IsSome};
-ghost use Rattle.picky_layout.specs.Outcome.{map_ok};
+ghost use Rattle.picky_wire_base.specs.Outcome.{map_ok};
 ghost use Rattle.picky_text.specs.Words.{ends_line};
 ghost use Rattle.picky_wire.specs.Count.{Keeps, Rose};
 ghost use Rattle.picky_wire.specs.Takes.{Takes, HasCause, causes_of};

@@ -1,7 +1,7 @@
 //! A public key's blob, seen where it stands: its parts are slices of it.
 
 ghost use Rattle.std.specs.Prelude.{◌≡◌, ◌^◌, ◌<◌, ⊤, length, IfOk};
-ghost use Rattle.picky_wire.specs.View.{Seen, Lies, end_of, part_bytes, why_in};
+ghost use Rattle.picky_wire_base.specs.View.{Seen, Lies, end_of, part_bytes, why_in};
 ghost use Rattle.picky_keys.specs.Blob.{key_type, ed_key, rsa_fields, ec_fields, ed_fields, sk_ecdsa_fields, sk_ed_fields, public_key_fields, blob as blob_layout};
 ghost use Rattle.picky_keys.specs.Key.{IsEdKey, IsKey};
 ghost use Rattle.picky_keys.specs.View.{key_seen, PartsLie};

@@ -4,7 +4,7 @@ use Rattle.std.proofs.Common.{◌∙◌, arith, inl, inr}
 use Rattle.std.specs.Prelude.{Ok}
 use Rattle.std.proofs.lemmas.Bool.{cases_Bool}
 use Rattle.std.proofs.lemmas.Bool.Decides.{nat_tests}
-use Rattle.picky_layout.specs.Numbers.{IsBytes}
+use Rattle.picky_wire_base.specs.Numbers.{IsBytes}
 use Rattle.picky_text.specs.Base64.{base64_of}
 use Rattle.picky_kv_words.specs.Field.{Field, field_value, judged_value}
 use Rattle.picky_kv_words.specs.Values.{is_long}

@@ -2,8 +2,8 @@
 use Rattle.std.proofs.Common.{◌≡◌, ◌↔◌, ℕ, List, [], ◌∷◌}
 use Rattle.std.proofs.Common.{Option, Some, None, Result, Ok, Err, refl}
 use Rattle.std.proofs.Common.{ap}
-use Rattle.picky_layout.specs.Outcome.{and_then}
-use Rattle.picky_layout.specs.carried.Outcome.{same_pair}
+use Rattle.picky_wire_base.specs.Outcome.{and_then}
+use Rattle.picky_wire_base.specs.carried.Outcome.{same_pair}
 use Rattle.picky_kv_words.specs.Field.{Field, field_value}
 use Rattle.picky_kv.specs.Lines.{key_and_value, first_joined, next_pair, next_block}
 use Rattle.picky_kv.specs.NumberFields.{count_field}

@@ -10,8 +10,8 @@ use Rattle.std.proofs.lemmas.List.{take-append-drop, nil_from_length}
 use Rattle.std.proofs.lemmas.Str.{IsUtf8-append, IsUtf8-from_ascii, IsUtf8-drop, IsCharBoundary-from_take}
 use Rattle.std.proofs.lemmas.List.{take_at, drop_at}
 use Rattle.std.specs.Str.{IsUtf8}
-use Rattle.picky_layout.specs.Numbers.{IsBytes}
-use Rattle.picky_layout.specs.Outcome.{map_ok}
+use Rattle.picky_wire_base.specs.Numbers.{IsBytes}
+use Rattle.picky_wire_base.specs.Outcome.{map_ok}
 use Rattle.picky_text.specs.Base64.{base64_of, decoded}
 use Rattle.picky_text.proofs.Base64Laws.{base64_is_ascii}
 use Rattle.picky_kv.proofs.LineLemmas.{taken_is_whole}

@@ -1,7 +1,7 @@
 -- Base64 whose text comes line by line, after RFC 4648, section 4: padded, and nothing else.
 use Rattle.std.specs.Prelude.{◌≡◌, ◌≢◌, ◌⊎◌, ◌<◌, ◌≤◌, ◌^◌, ◌-◌, ◌%◌, ℕ, List, length, take, slice_index}
 use Rattle.std.specs.List.{concat}
-use Rattle.picky_layout.specs.Numbers.{IsBytes}
+use Rattle.picky_wire_base.specs.Numbers.{IsBytes}
 use Rattle.picky_text.specs.Base64.{base64_of}
 
 -- the longest front of the text whose length is a multiple of four

@@ -2,7 +2,7 @@
 use Rattle.std.specs.Prelude.{◌==◌, ◌&&◌, ◌^◌, ◌-◌, ◌%◌, ℕ, Bool, List, [], ◌∷◌, ◌++◌, length, slice_index}
 use Rattle.std.specs.Prelude.{nat_lt, if◌then◌else◌, Option, Some, None, Result, Ok, Err}
 use Rattle.std.specs.Option.{ok_or}
-use Rattle.picky_layout.specs.Outcome.{and_then}
+use Rattle.picky_wire_base.specs.Outcome.{and_then}
 use Rattle.picky_text.specs.Base64.{decoded}
 use Rattle.picky_kv.specs.declared.block_error.BlockError.{BlockError}
 use Rattle.picky_kv.specs.declared.block_error.BlockError.TheVariants.{BadBase64, TooLong}

@@ -1,7 +1,7 @@
 -- Lines of a key and a value, and blocks of lines, after PuTTY's manual, Appendix C.
 use Rattle.std.specs.Prelude.{ℕ, zero, suc, ◌==◌, ◌&&◌, List, [], ◌∷◌, ◌++◌, if◌then◌else◌, Option, Some}
 use Rattle.std.specs.Prelude.{None, Result, Ok, Err}
-use Rattle.picky_layout.specs.Outcome.{and_then}
+use Rattle.picky_wire_base.specs.Outcome.{and_then}
 use Rattle.picky_kv_words.specs.Field.{Field, field_value}
 use Rattle.picky_kv.specs.NumberFields.{count_field}
 use Rattle.picky_kv.specs.Context.{need, in_context}

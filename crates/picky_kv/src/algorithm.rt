@@ -9,7 +9,7 @@ use crate::literals::{
     PPK_KEY_ALGORITHM_VALUE, SSH_DSS, SSH_ED448, SSH_ED25519, SSH_RSA,
 };
 use picky_kv_words::{PpkField, PpkLiteral, PpkValueError, refused};
-use picky_wire::{NoMemory, SizeError, Text, TryClone};
+use picky_wire_base::{NoMemory, SizeError, Text, TryClone};
 use std::alloc::Global;
 
 /// The algorithm of the key.

@@ -2,8 +2,8 @@
 
 ghost use Rattle.std.specs.Prelude.{◌≡◌, ◌≢◌, ◌⊎◌, ◌++◌, ◌%◌, ◌^◌, ◌<◌, ℕ, List, [], length, Some, None};
 ghost use Rattle.std.specs.Prelude.{OnOk, OnErr, IfOk, IfErr, IsUtf8, string_bytes};
-ghost use Rattle.picky_layout.specs.Numbers.{IsBytes};
-ghost use Rattle.picky_wire.specs.Gives.{Gives};
+ghost use Rattle.picky_wire_base.specs.Numbers.{IsBytes};
+ghost use Rattle.picky_wire_base.specs.Gives.{Gives};
 ghost use Rattle.picky_text.specs.Base64.{base64_of, decoded};
 ghost use Rattle.picky_kv.specs.BlockRefusal.{taken, finished};
 ghost use Rattle.picky_kv.specs.inner.Tail.{tail_text, IsExtended, rest_judged};
@@ -12,7 +12,7 @@ use crate::block_error::BlockError;
 use crate::tail::{Tail, kept};
 use base64::DecodeAllocError;
 use base64::engine::general_purpose::STANDARD;
-use picky_wire::{Bytes, MAX_LEN, NoMemory};
+use picky_wire_base::{Bytes, MAX_LEN, NoMemory};
 use std::alloc::{AllocError, Global};
 use std::marker::Model;
 

@@ -2,8 +2,8 @@
 
 ghost use Rattle.std.specs.Prelude.{◌≡◌, ◌↔◌, ℕ, List, Ok, Err};
 ghost use Rattle.std.specs.List.{AllByRecursion};
-ghost use Rattle.picky_layout.specs.Numbers.{IsBytes};
-ghost use Rattle.picky_wire.specs.Equality.{IsEquality};
+ghost use Rattle.picky_wire_base.specs.Numbers.{IsBytes};
+ghost use Rattle.picky_wire_base.specs.Equality.{IsEquality};
 ghost use Rattle.picky_kv.specs.Block.{IsNoFront, IsLongFront, IsBlock};
 ghost use Rattle.picky_kv.specs.BlockRefusal.{taken, block_of};
 

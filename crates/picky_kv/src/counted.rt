@@ -1,7 +1,7 @@
 //! The counted lines of a block, decoded as they come.
 
 ghost use Rattle.std.specs.Prelude.{◌≡◌, ◌⊎◌, Some, None, IfOk, IfErr};
-ghost use Rattle.picky_wire.specs.Gives.{Gives};
+ghost use Rattle.picky_wire_base.specs.Gives.{Gives};
 ghost use Rattle.picky_kv.specs.Joined.{joined_text};
 ghost use Rattle.picky_kv_words.specs.Field.{field_value};
 ghost use Rattle.picky_kv.specs.Context.{in_context};
@@ -12,7 +12,7 @@ use crate::reader::read_in;
 use crate::joined::JoinedLines;
 use picky_kv_words::{PpkBlock, PpkLiteral};
 use picky_text::LineReader;
-use picky_wire::NoMemory;
+use picky_wire_base::NoMemory;
 use std::alloc::Global;
 
 /// The next lines, as many as are counted. Refuses, in order: `EndOfInput`.

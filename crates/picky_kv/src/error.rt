@@ -1,6 +1,6 @@
 //! What the lines of a PuTTY private key file can be refused for.
 
-use picky_wire::Text;
+use picky_wire_base::Text;
 use thiserror::Error;
 
 /// Why a line is not read or written.

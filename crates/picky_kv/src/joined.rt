@@ -2,13 +2,13 @@
 
 ghost use Rattle.std.specs.Prelude.{◌≡◌, ◌++◌, ◌^◌, ◌<◌, [], length, true, false, OnOk, OnErr, IfOk, IfErr};
 ghost use Rattle.std.specs.Prelude.{string_bytes};
-ghost use Rattle.picky_layout.specs.Numbers.{IsBytes};
+ghost use Rattle.picky_wire_base.specs.Numbers.{IsBytes};
 ghost use Rattle.picky_text.specs.Base64.{base64_of};
 ghost use Rattle.picky_kv.specs.Joined.{joined_text, is_whole};
 
 use crate::block::BlockDecoder;
 use crate::block_error::BlockError;
-use picky_wire::{Bytes, NoMemory};
+use picky_wire_base::{Bytes, NoMemory};
 use std::alloc::Global;
 
 /// The lines so far, decoded; or, once one is refused, their text.

@@ -2,14 +2,14 @@
 
 ghost use Rattle.std.specs.Prelude.{◌≡◌, ◌↔◌, ◌<◌, ℕ, List, [], ◌∷◌, length, Ok, Err};
 ghost use Rattle.std.specs.List.{AllByRecursion};
-ghost use Rattle.picky_layout.specs.Numbers.{IsBytes};
+ghost use Rattle.picky_wire_base.specs.Numbers.{IsBytes};
 ghost use Rattle.picky_text.specs.Rows.{rows_of};
 ghost use Rattle.picky_kv_words.specs.Argon2Keys.{argon2_memory_key_row, argon2_parallelism_key_row};
 ghost use Rattle.picky_kv_words.specs.Argon2Keys.{argon2_passes_key_row, argon2_salt_key_row};
 ghost use Rattle.picky_kv_words.specs.Argon2Keys.{key_derivation_key_row};
 ghost use Rattle.picky_kv.specs.Algorithm.{algorithm_row};
 ghost use Rattle.picky_kv_words.specs.Choices.{encryption_row, flavour_row, version_row};
-ghost use Rattle.picky_wire.specs.Equality.{IsEquality};
+ghost use Rattle.picky_wire_base.specs.Equality.{IsEquality};
 ghost use Rattle.picky_kv_words.specs.Field.{IsOfRow, field_value};
 ghost use Rattle.picky_kv_words.specs.Blocks.{IsBlockText};
 ghost use Rattle.picky_kv_words.specs.Keys.{comment_key_row, encryption_key_row, private_lines_key_row};

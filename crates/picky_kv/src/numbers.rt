@@ -1,13 +1,13 @@
 //! Numbers in decimal: Argon2's, and how many lines a block has.
 
 ghost use Rattle.std.specs.Prelude.{◌≡◌, ◌^◌, ◌<◌, ℕ, IfOk, IsOk};
-ghost use Rattle.picky_wire.specs.Gives.{Gives};
+ghost use Rattle.picky_wire_base.specs.Gives.{Gives};
 ghost use Rattle.picky_kv_words.specs.Field.{field_value, IsSpelling};
 ghost use Rattle.picky_kv.specs.NumberFields.{u32_field, count_field};
 
 use crate::literals::{VALID_COUNT, VALID_U32};
 use picky_kv_words::{PpkField, PpkValueError, refused, text_within};
-use picky_wire::{NoMemory, SizeError, Text, TryClone};
+use picky_wire_base::{NoMemory, SizeError, Text, TryClone};
 use std::alloc::Global;
 use std::marker::Model;
 

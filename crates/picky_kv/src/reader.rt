@@ -2,7 +2,7 @@
 
 ghost use Rattle.std.specs.Prelude.{◌≡◌, ℕ, List, [], IfNone, IfSome, OnErr};
 ghost use Rattle.picky_text.specs.Lines.{lines};
-ghost use Rattle.picky_wire.specs.Gives.{Gives};
+ghost use Rattle.picky_wire_base.specs.Gives.{Gives};
 ghost use Rattle.picky_kv_words.specs.Field.{field_value};
 ghost use Rattle.picky_kv.specs.Lines.{next_pair, next_block, value_alone};
 ghost use Rattle.picky_kv.specs.Lines.{key_and_value as cut};
@@ -15,7 +15,7 @@ use crate::numbers::LineCount;
 use crate::pairs::{PpkKeyValue, PpkMultilineKeyValue};
 use picky_kv_words::{PpkBlock, PpkField, PpkLiteral, PpkValueError};
 use picky_text::LineReader;
-use picky_wire::Text;
+use picky_wire_base::Text;
 use std::alloc::Global;
 use std::marker::Model;
 

@@ -3,7 +3,7 @@
 ghost use Rattle.std.specs.Prelude.{◌≡◌, ◌^◌, ◌<◌, ◌++◌, [], ◌∷◌, length, nat_lt, OnErr};
 ghost use Rattle.std.specs.Prelude.{string_bytes, string_len};
 ghost use Rattle.std.specs.Str.{IsAscii};
-ghost use Rattle.picky_wire.specs.Gives.{Gives};
+ghost use Rattle.picky_wire_base.specs.Gives.{Gives};
 ghost use Rattle.picky_kv.specs.Output.{line_end, pair_line as line_of, extended};
 ghost use Rattle.picky_kv.specs.Output.{with_lines, with_block};
 
@@ -12,7 +12,7 @@ use crate::lines::{MAX_LINE_COUNT, line_count, push_block, push_line};
 use crate::pairs::{PpkKeyValue, PpkMultilineKeyValue};
 use picky_kv_words::{PpkField, PpkLiteral, PpkSingle};
 use picky_text::LineEnd;
-use picky_wire::{SizeError, Text};
+use picky_wire_base::{SizeError, Text};
 use std::alloc::Global;
 use std::marker::Model;
 

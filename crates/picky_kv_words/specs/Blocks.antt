@@ -1,6 +1,6 @@
 -- Values of bytes whose text is their base64, in a block of lines.
 use Rattle.std.specs.Prelude.{◌≡◌, ◌^◌, ◌<◌, ℕ, List, length, Some}
-use Rattle.picky_layout.specs.Numbers.{IsBytes}
+use Rattle.picky_wire_base.specs.Numbers.{IsBytes}
 use Rattle.picky_text.specs.Base64.{base64_of}
 use Rattle.picky_kv_words.specs.Field.{Field}
 use Rattle.picky_kv_words.specs.Values.{is_long}

@@ -1,9 +1,9 @@
 -- What a typed key or value of a line stands for, after PuTTY's manual, Appendix C.
 use Rattle.std.specs.Prelude.{◌≡◌, ◌↔◌, ◌^◌, ◌≤◌, ◌<◌, ℕ, Bool, false, List, length, nat_lt, if◌then◌else◌}
 use Rattle.std.specs.Prelude.{Option, Some, None, Result, Ok, Err}
-use Rattle.picky_layout.specs.Numbers.{IsBytes}
-use Rattle.picky_wire.specs.declared.error.SizeError.{SizeError}
-use Rattle.picky_wire.specs.declared.error.SizeError.TheVariants as size
+use Rattle.picky_wire_base.specs.Numbers.{IsBytes}
+use Rattle.picky_wire_base.specs.declared.error.SizeError.{SizeError}
+use Rattle.picky_wire_base.specs.declared.error.SizeError.TheVariants as size
 use Rattle.picky_kv_words.specs.declared.error.PpkValueError.{PpkValueError}
 use Rattle.picky_kv_words.specs.declared.error.PpkValueError.TheVariants.{Parsing, TooLong}
 

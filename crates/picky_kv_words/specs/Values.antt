@@ -4,7 +4,7 @@ use Rattle.std.specs.Prelude.{slice_index, Option, codes}
 use Rattle.base64.specs.Rfc4648.{encode}
 use Rattle.std.specs.Result.{result_ok}
 use Rattle.hex.specs.Hex.{encode_lower, decode_of}
-use Rattle.picky_layout.specs.Numbers.{IsBytes}
+use Rattle.picky_wire_base.specs.Numbers.{IsBytes}
 use Rattle.picky_kv_words.specs.Field.{FieldRow}
 
 -- there are 2^32 bytes or more

@@ -15,7 +15,7 @@ use crate::literals::{
     PPK_KEY_DERIVATION_KEY,
 };
 use crate::word::{PpkWord, WordTexts};
-use picky_wire::{NoMemory, TryClone};
+use picky_wire_base::{NoMemory, TryClone};
 use std::alloc::Global;
 
 /// The key of the line that names the flavour of Argon2.

@@ -4,7 +4,7 @@ ghost use Rattle.std.specs.Prelude.{◌≡◌, ℕ, List};
 ghost use Rattle.picky_kv_words.specs.Blocks.{IsOfBlocks};
 
 use crate::field::PpkField;
-use picky_wire::Bytes;
+use picky_wire_base::Bytes;
 
 /// A value of bytes, whose text is their base64: a block of lines is decoded for it as the lines come.
 pub trait PpkBlock: PpkField {

@@ -11,7 +11,7 @@ use crate::literals::{
     ARGON2ID, NONE, PPK_ENCRYPTION_VALUE, PPK_VERSION_KEY, PUTTY_USER_KEY_FILE_2,
     PUTTY_USER_KEY_FILE_3,
 };
-use picky_wire::{NoMemory, SizeError, Text, TryClone};
+use picky_wire_base::{NoMemory, SizeError, Text, TryClone};
 use std::alloc::Global;
 
 /// The key of the first line, which is the version of the file.

@@ -1,6 +1,6 @@
 //! What a key or a value can be refused for.
 
-use picky_wire::Text;
+use picky_wire_base::Text;
 use thiserror::Error;
 
 /// A text that stands for no value of its type.

@@ -1,11 +1,11 @@
 //! What a type of keys or values promises.
 
 ghost use Rattle.std.specs.Prelude.{◌≡◌, ◌⊎◌, ◌^◌, ◌<◌, ℕ, List, length};
-ghost use Rattle.picky_wire.specs.Gives.{Gives};
+ghost use Rattle.picky_wire_base.specs.Gives.{Gives};
 ghost use Rattle.picky_kv_words.specs.Field.{Field, field_value, value_refusal, IsSpelling};
 
 use crate::error::{PpkValueError, PpkValueParsingError};
-use picky_wire::{SizeError, Text};
+use picky_wire_base::{SizeError, Text};
 use std::alloc::Global;
 
 /// A key or a value of a line, read from its text and written as it.

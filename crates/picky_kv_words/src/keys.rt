@@ -12,7 +12,7 @@ use crate::literals::{
     PPK_PRIVATE_MAC_KEY, PPK_PUBLIC_LINES_KEY, PRIVATE_LINES, PRIVATE_MAC, PUBLIC_LINES,
 };
 use crate::word::{PpkWord, WordTexts};
-use picky_wire::{NoMemory, TryClone};
+use picky_wire_base::{NoMemory, TryClone};
 use std::alloc::Global;
 
 /// The key of the line that names the encryption.

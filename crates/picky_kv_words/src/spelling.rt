@@ -3,7 +3,7 @@
 ghost use Rattle.std.specs.Prelude.{string_bytes};
 ghost use Rattle.picky_kv_words.specs.Field.{IsSpelling};
 
-use picky_wire::{MAX_LEN, SizeError, Text};
+use picky_wire_base::{MAX_LEN, SizeError, Text};
 
 /// The string as a text. Refuses, in order: `TooLong`, where it has 2^32 bytes or more.
 pub fn text_within(string: String) -> Result<Text, SizeError>

@@ -1,7 +1,7 @@
 //! Values of text and bytes: a comment, base64 and hex.
 
 ghost use Rattle.std.specs.Prelude.{◌≡◌, ℕ, List};
-ghost use Rattle.picky_layout.specs.Numbers.{IsBytes};
+ghost use Rattle.picky_wire_base.specs.Numbers.{IsBytes};
 ghost use Rattle.hex.specs.Hex.{encode_lower};
 ghost use Rattle.picky_text.specs.Base64.{base64_of};
 ghost use Rattle.picky_kv_words.specs.Field.{IsSpelling};
@@ -15,7 +15,7 @@ use hex::FromHexError;
 use crate::error::PpkValueError;
 use crate::field::{PpkField, refused};
 use picky_text::Base64Error;
-use picky_wire::{Bytes, MAX_LEN, NoMemory, SizeError, Text, TryClone};
+use picky_wire_base::{Bytes, MAX_LEN, NoMemory, SizeError, Text, TryClone};
 use std::alloc::Global;
 use std::marker::Model;
 

@@ -5,7 +5,7 @@ ghost use Rattle.picky_kv_words.specs.Literal.{Word, IsWord};
 
 use crate::error::PpkValueError;
 use crate::field::{PpkField, PpkLiteral, PpkSingle, refused};
-use picky_wire::{SizeError, Text};
+use picky_wire_base::{SizeError, Text};
 use std::alloc::Global;
 
 /// The literal of a type, and the type's name, which refusals give.

@@ -5,7 +5,7 @@ use Rattle.std.specs.Str.{bytes_eq}
 use Rattle.std.proofs.lemmas.Bool.{cases_Bool, cases_lt}
 use Rattle.std.proofs.lemmas.List.{append_assoc, length-append}
 use Rattle.std.proofs.lemmas.Slice.Eq.{bytes_eq-Decides}
-use Rattle.picky_layout.specs.carried.Outcome.{passed_ok}
+use Rattle.picky_wire_base.specs.carried.Outcome.{passed_ok}
 use Rattle.picky_text.specs.Base64.{base64_of}
 use Rattle.picky_text.specs.declared.lines.LineEnd.TheVariants.{CrLf}
 use Rattle.picky_text.specs.Words.{AreParts, HasParts, rest_text}

@@ -3,7 +3,7 @@ use Rattle.std.proofs.Common.{◌≡◌, ◌∙◌, ◌+◌, ◌++◌, ◌∷◌
 use Rattle.std.proofs.Common.{Option, Some, None, Result, Ok, Err, ◌≢◌, ap, length, refl, sym}
 use Rattle.std.specs.Option.{ok_or, option_map}
 use Rattle.std.proofs.lemmas.Bool.{ne_eqb}
-use Rattle.picky_layout.specs.Outcome.{and_then, map_err}
+use Rattle.picky_wire_base.specs.Outcome.{and_then, map_err}
 use Rattle.picky_text.specs.Lines.{HasNo}
 use Rattle.picky_issuing.specs.Parts.{lines_with_ends}
 use Rattle.picky_issuing.proofs.PartsLemmas.{lines_at_lf, one_line_left}

@@ -7,7 +7,7 @@ use Rattle.std.proofs.lemmas.Result.{IfErr-at_err}
 use Rattle.std.proofs.lemmas.List.{drop_all, length-append, length-replicate}
 use Rattle.std.specs.Option.{ok_or}
 use Rattle.std.specs.Str.{IsUtf8, chars, is_utf8}
-use Rattle.picky_layout.specs.Outcome.{and_then, map_err, map_ok}
+use Rattle.picky_wire_base.specs.Outcome.{and_then, map_err, map_ok}
 use Rattle.picky_input.specs.Extent.{Anywhere, Extent, LeavesAt, PastLimit, ReadsInput, ToEnd, ToFault, Untouched}
 use Rattle.picky_input.specs.Input.{input_limit}
 use Rattle.picky_input.specs.SourceText.{Reads, TakesText, text_of}
@@ -15,7 +15,7 @@ use Rattle.picky_input.specs.declared.source_text.SourceError.{SourceError}
 use Rattle.picky_input.specs.declared.source_text.SourceError.TheVariants as source
 use Rattle.picky_input.proofs.TextLaws.{is_source_text, no_text_exactly, too_long_exactly}
 use Rattle.picky_wire.specs.Count.{Rose}
-use Rattle.picky_wire.specs.declared.error.SizeError.TheVariants as sizes
+use Rattle.picky_wire_base.specs.declared.error.SizeError.TheVariants as sizes
 use Rattle.picky_keys.specs.LineRefusal.{is_short, line_meaning}
 use Rattle.picky_suite.specs.Signs.{Relation}
 use Rattle.picky_issuing.specs.Parts.{cut, mark_lf}

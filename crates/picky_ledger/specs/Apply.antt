@@ -2,7 +2,7 @@
 use Rattle.std.specs.Prelude.{◌≡◌, ◌↔◌, ◌≢◌, ◌-◌, ◌+◌, ◌^◌, ◌==◌, ◌++◌, ◌∷◌, ℕ, List, [], Option, Some, None, Result, Ok, Err}
 use Rattle.std.specs.Prelude.{bytes_eq, if◌then◌else◌, IfErr}
 use Rattle.std.specs.Option.{ok_or}
-use Rattle.picky_layout.specs.Outcome.{and_then, map_err}
+use Rattle.picky_wire_base.specs.Outcome.{and_then, map_err}
 use Rattle.picky_keys.specs.declared.algorithm.SignatureAlgorithm.{SignatureAlgorithm}
 use Rattle.picky_keys.specs.declared.public_key.PublicKey.{PublicKey}
 use Rattle.picky_keys.specs.declared.key.SshBasePublicKey.{SshBasePublicKey}

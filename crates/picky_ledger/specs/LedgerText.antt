@@ -4,9 +4,9 @@ use Rattle.std.specs.Prelude.{Option, Some, None, Result, Ok, Err, if◌then◌e
 use Rattle.std.specs.Fmt.{decimal}
 use Rattle.std.specs.List.{list_any}
 use Rattle.std.specs.Option.{ok_or, option_map}
-use Rattle.picky_layout.specs.Outcome.{and_then, map_err}
-use Rattle.picky_wire.specs.declared.error.SizeError.{SizeError}
-use Rattle.picky_wire.specs.declared.error.SizeError.TheVariants as sizes
+use Rattle.picky_wire_base.specs.Outcome.{and_then, map_err}
+use Rattle.picky_wire_base.specs.declared.error.SizeError.{SizeError}
+use Rattle.picky_wire_base.specs.declared.error.SizeError.TheVariants as sizes
 use Rattle.picky_keys.specs.LineRefusal.{is_short}
 use Rattle.picky_issuing.specs.Parts.{lines_with_ends}
 use Rattle.picky_issuing.specs.Steps.{some_then}

@@ -2,7 +2,7 @@
 use Rattle.std.specs.Prelude.{◌≡◌, ◌<◌, ◌≤◌, ◌^◌, ◌*◌, ◌++◌, ◌==◌, ℕ, List, length, take, filter}
 use Rattle.std.specs.Prelude.{nat_lt, not, Option, Some, Result, Ok, Err, if◌then◌else◌}
 use Rattle.std.specs.Option.{ok_or}
-use Rattle.picky_layout.specs.Outcome.{and_then, map_err}
+use Rattle.picky_wire_base.specs.Outcome.{and_then, map_err}
 use Rattle.picky_text.specs.Lines.{lines}
 use Rattle.picky_wire.specs.Count.{Rose}
 use Rattle.picky_suite.specs.Signs.{Relation}

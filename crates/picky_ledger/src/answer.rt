@@ -4,7 +4,7 @@ ghost use Rattle.std.specs.Prelude.{◌≡◌, ◌↔◌, ◌≤◌, ◌*◌, �
 ghost use Rattle.std.specs.Prelude.{IfErr, IfOk, OnOk};
 ghost use Rattle.picky_keys.specs.declared.public_key.PublicKey.{PublicKey};
 ghost use Rattle.picky_keys.specs.declared.algorithm.SignatureAlgorithm.{SignatureAlgorithm as Algorithm};
-ghost use Rattle.picky_layout.specs.Outcome.{map_ok};
+ghost use Rattle.picky_wire_base.specs.Outcome.{map_ok};
 ghost use Rattle.picky_wire.specs.Count.{Rose};
 ghost use Rattle.picky_input.specs.SourceText.{text_of};
 ghost use Rattle.picky_issuing.specs.Parts.{mark_lf};

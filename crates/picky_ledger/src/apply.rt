@@ -3,7 +3,7 @@
 ghost use Rattle.std.specs.Prelude.{◌≡◌, ◌≢◌, ◌+◌, ◌<◌, ◌^◌, ℕ, List, Ok, Err, Some, IfOk, IfErr, length};
 ghost use Rattle.std.specs.Str.{IsUtf8};
 ghost use Rattle.std.specs.Option.{option_copied};
-ghost use Rattle.picky_layout.specs.Numbers.{IsBytes};
+ghost use Rattle.picky_wire_base.specs.Numbers.{IsBytes};
 ghost use Rattle.picky_wire.specs.Count.{Rose};
 ghost use Rattle.picky_cert_parts.specs.Signature.{IsSignature};
 ghost use Rattle.picky_cert_builder.specs.Built.{IsBuilt, LeavesSigner as LeavesBuilder};

@@ -2,8 +2,8 @@
 
 ghost use Rattle.std.specs.Prelude.{◌≡◌, length};
 ghost use Rattle.std.specs.Option.{option_map};
-ghost use Rattle.picky_layout.specs.Outcome.{map_err};
-ghost use Rattle.picky_wire.specs.Gives.{Gives};
+ghost use Rattle.picky_wire_base.specs.Outcome.{map_err};
+ghost use Rattle.picky_wire_base.specs.Gives.{Gives};
 ghost use Rattle.picky_keys.specs.LineRefusal.{line_meaning};
 ghost use Rattle.picky_ledger.specs.Run.{of_parts, of_text, parts_in, requests_in};
 ghost use Rattle.picky_ledger.specs.declared.status.LedgerStatus.TheVariants as statuses;

@@ -73,7 +73,7 @@ fn decoded_text(alloc: Global, word: &str) -> Result<Option<Text>, NoMemory>
 }
 
 /// The bytes as a text, where they are UTF-8.
-#[tactic(auto, using(picky_wire::proofs::ViewLemmas::tests))]
+#[tactic(auto, using(picky_wire_base::proofs::ViewLemmas::tests))]
 fn into_text(bytes: Vec<u8>) -> Option<Text>
     requires { vec_len bytes < 2 ^ 32 }
     ensures { result ≡ if_text bytes.items }

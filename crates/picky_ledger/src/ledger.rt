@@ -1,7 +1,7 @@
 //! A ledger, its text, and what it keeps.
 
 ghost use Rattle.std.specs.Prelude.{◌≡◌, ◌≢◌, ◌≤◌, ◌<◌, ◌^◌, ◌++◌, List, length, string_bytes, Err, IfOk, OnOk};
-ghost use Rattle.picky_wire.specs.Gives.{Gives};
+ghost use Rattle.picky_wire_base.specs.Gives.{Gives};
 ghost use Rattle.picky_ledger.specs.LedgerText.{ledger_text, next_line, read, written};
 ghost use Rattle.picky_ledger.specs.State.{IsLedger, State};
 

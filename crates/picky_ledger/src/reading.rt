@@ -1,8 +1,8 @@
 //! A ledger's text, read line by line.
 
 ghost use Rattle.std.specs.Prelude.{◌≡◌, ◌^◌, ◌<◌, ◌++◌, ◌∷◌, ◌&&◌, [], length, nat_lt, IfOk, IfSome};
-ghost use Rattle.picky_layout.specs.Outcome.{map_err};
-ghost use Rattle.picky_wire.specs.Gives.{Gives};
+ghost use Rattle.picky_wire_base.specs.Outcome.{map_err};
+ghost use Rattle.picky_wire_base.specs.Gives.{Gives};
 ghost use Rattle.picky_issuing.specs.Parts.{lines_with_ends};
 ghost use Rattle.std.specs.List.{before_first};
 ghost use Rattle.picky_request.specs.Request.{is_space};

@@ -3,7 +3,7 @@
 ghost use Rattle.std.specs.Prelude.{◌≡◌, ◌≤◌, ◌*◌, ◌↔◌, Err, List, ℕ, length, string_bytes};
 ghost use Rattle.picky_keys.specs.declared.public_key.PublicKey.{PublicKey};
 ghost use Rattle.picky_keys.specs.declared.algorithm.SignatureAlgorithm.{SignatureAlgorithm as Algorithm};
-ghost use Rattle.picky_layout.specs.Outcome.{map_ok};
+ghost use Rattle.picky_wire_base.specs.Outcome.{map_ok};
 ghost use Rattle.picky_wire.specs.Count.{Rose};
 ghost use Rattle.picky_ledger.specs.Apply.{judged_request_line, LeavesSigner};
 ghost use Rattle.picky_ledger.specs.Run.{requests_in, LeavesDevice};

@@ -4,7 +4,7 @@ ghost use Rattle.std.specs.Prelude.{◌≡◌, ◌^◌, ◌≤◌, [], List, ℕ
 ghost use Rattle.hex.specs.Hex.{decode_of};
 
 use hex::FromHexError;
-use picky_wire::{Bytes, MAX_LEN, SizeError, Text};
+use picky_wire_base::{Bytes, MAX_LEN, SizeError, Text};
 use std::alloc::Global;
 use std::env;
 use std::env::VarError;

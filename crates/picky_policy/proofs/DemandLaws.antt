@@ -4,9 +4,9 @@ use Rattle.std.proofs.Common.{Result, Ok, Err, refl, sym, ◌∙◌, ap, arith, 
 use Rattle.std.proofs.lemmas.Bool.{cases_Bool, ne_eqb}
 use Rattle.std.proofs.lemmas.List.{append-nil}
 use Rattle.std.specs.Option.{option_map}
-use Rattle.picky_layout.specs.Flaw.{Flaw, Flawed, Why}
-use Rattle.picky_layout.specs.Outcome.{map_err}
-use Rattle.picky_layout.specs.Wire.{text}
+use Rattle.picky_wire_base.specs.Flaw.{Flaw, Flawed, Why}
+use Rattle.picky_wire_base.specs.Outcome.{map_err}
+use Rattle.picky_wire_base.specs.Wire.{text}
 use Rattle.picky_issuing.specs.Steps.{some_then}
 use Rattle.picky_cert_parts.specs.declared.option_type.SshCriticalOptionType.{SshCriticalOptionType}
 use Rattle.picky_cert_parts.specs.declared.option_type.SshCriticalOptionType.TheVariants.{ForceCommand, SourceAddress, VerifyRequired}

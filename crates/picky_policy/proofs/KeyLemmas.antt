@@ -3,7 +3,7 @@ use Rattle.std.proofs.Common.{◌≡◌, Bool, true, false, List, [], ◌∷◌,
 use Rattle.std.proofs.lemmas.Bool.{cases_Bool, false_from_ne_true}
 use Rattle.std.proofs.lemmas.Slice.Eq.{bytes_eq-Decides}
 use Rattle.std.specs.List.{AllByRecursion}
-use Rattle.picky_layout.proofs.Grammar.{one_front}
+use Rattle.picky_wire_base.proofs.Grammar.{one_front}
 use Rattle.picky_keys.specs.Blob.{blob, blob_of}
 use Rattle.picky_keys.specs.Key.{IsKey}
 use Rattle.picky_keys.specs.carried.Blob.{blob_spells}

@@ -4,8 +4,8 @@ use Rattle.std.proofs.Common.{IsOk, refl, ap, arith, inl, inr}
 use Rattle.std.proofs.lemmas.Bool.{and_parts, cases_Bool, ltb-true}
 use Rattle.std.proofs.lemmas.List.{length-take}
 use Rattle.std.specs.Prelude.{is_ok}
-use Rattle.picky_layout.specs.Flaw.{Why}
-use Rattle.picky_layout.specs.Outcome.{and_then, map_err}
+use Rattle.picky_wire_base.specs.Flaw.{Why}
+use Rattle.picky_wire_base.specs.Outcome.{and_then, map_err}
 use Rattle.picky_text.specs.Words.{body_word, first_word}
 use Rattle.picky_keys.specs.LineRefusal.{comment_text, is_short, is_short_text}
 use Rattle.picky_cert_blob.specs.Layout.{body as signed_layout}

@@ -1,7 +1,7 @@
 -- What the bytes of a source come to, status by status.
 use Rattle.std.proofs.Common.{◌≡◌, ◌⊎◌, ◌<◌, ◌++◌, ℕ, List, length, Bool, true, false}
 use Rattle.std.proofs.Common.{take, IfErr, IfOk, Result, Ok, Err, Some, refl, sym, ◌∙◌, ap, inl, inr, subst, if◌then◌else◌}
-use Rattle.picky_layout.specs.Outcome.{map_err, map_ok}
+use Rattle.picky_wire_base.specs.Outcome.{map_err, map_ok}
 use Rattle.picky_input.specs.Extent.{Anywhere, ToEnd}
 use Rattle.picky_input.specs.SourceText.{Reads, text_of}
 use Rattle.picky_input.specs.declared.source_text.SourceError.{SourceError}

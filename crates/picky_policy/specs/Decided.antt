@@ -3,7 +3,7 @@ use Rattle.std.specs.Prelude.{◌≡◌, ◌||◌, ◌&&◌, ◌++◌, ℕ, Bool
 use Rattle.std.specs.Prelude.{bytes_eq, filter, is_ok, if◌then◌else◌}
 use Rattle.std.specs.List.{AllByRecursion, list_any}
 use Rattle.std.specs.Option.{ok_or}
-use Rattle.picky_layout.specs.Outcome.{and_then}
+use Rattle.picky_wire_base.specs.Outcome.{and_then}
 use Rattle.picky_wire.specs.Takes.{Calm}
 use Rattle.picky_wire.specs.declared.timestamp.Timestamp.{Timestamp}
 use Rattle.picky_keys.specs.Blob.{blob_of}

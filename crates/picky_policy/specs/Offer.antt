@@ -1,7 +1,7 @@
 -- An offer: the key that one logs in with, or a certificate for it.
 use Rattle.std.specs.Prelude.{◌≡◌, ℕ, List, [], Option, Some, None, Result, Err}
-use Rattle.picky_layout.specs.Numbers.{IsBytes}
-use Rattle.picky_layout.specs.Outcome.{map_err, map_ok}
+use Rattle.picky_wire_base.specs.Numbers.{IsBytes}
+use Rattle.picky_wire_base.specs.Outcome.{map_err, map_ok}
 use Rattle.picky_text.specs.Base64.{base64_of, decoded}
 use Rattle.picky_text.specs.Words.{body_word}
 use Rattle.picky_keys.specs.Line.{IsPublicLine}

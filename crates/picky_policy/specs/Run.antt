@@ -1,7 +1,7 @@
 -- A run: what it writes for the bytes of its source, and how it ends.
 use Rattle.std.specs.Prelude.{◌≡◌, ◌<◌, ◌++◌, ℕ, Bool, true, false, List, [], length, take}
 use Rattle.std.specs.Prelude.{Option, Some, None, Result, Ok, Err}
-use Rattle.picky_layout.specs.Outcome.{and_then, map_err}
+use Rattle.picky_wire_base.specs.Outcome.{and_then, map_err}
 use Rattle.picky_wire.specs.declared.timestamp.Timestamp.{Timestamp}
 use Rattle.picky_input.specs.Extent.{Extent, Anywhere, PastLimit, ToEnd, ToFault, Untouched}
 use Rattle.picky_input.specs.SourceText.{text_of}

@@ -2,9 +2,9 @@
 
 ghost use Rattle.std.specs.Prelude.{◌≡◌, ◌≢◌, ◌⊎◌, ℕ, List, Some, Err, IfErr, IfOk, false};
 ghost use Rattle.std.specs.Option.{option_copied};
-ghost use Rattle.picky_layout.specs.Outcome.{map_err, map_ok};
+ghost use Rattle.picky_wire_base.specs.Outcome.{map_err, map_ok};
 ghost use Rattle.picky_wire.specs.Count.{Rose};
-ghost use Rattle.picky_wire.specs.Gives.{Gives};
+ghost use Rattle.picky_wire_base.specs.Gives.{Gives};
 ghost use Rattle.picky_input.specs.Extent.{LeavesDevice, ReadsInput};
 ghost use Rattle.picky_authorized.specs.Entries.{entries_in};
 ghost use Rattle.picky_policy.specs.Command.{asked_by, Deciding};

@@ -2,8 +2,8 @@
 
 ghost use Rattle.std.specs.Prelude.{◌≡◌, ◌↔◌, ◌⊎◌, ◌<◌, ◌≤◌, ◌++◌, ℕ, Bool, List, length, Some, Ok, Err};
 ghost use Rattle.std.specs.Str.{IsUtf8};
-ghost use Rattle.picky_layout.specs.Numbers.{IsBytes};
-ghost use Rattle.picky_wire.specs.Equality.{IsEquality};
+ghost use Rattle.picky_wire_base.specs.Numbers.{IsBytes};
+ghost use Rattle.picky_wire_base.specs.Equality.{IsEquality};
 ghost use Rattle.picky_wire.specs.declared.timestamp.Timestamp.{Timestamp as Moment};
 ghost use Rattle.picky_input.specs.Input.{input_limit};
 ghost use Rattle.picky_input.specs.SourceText.{IsSourceText};

@@ -1,7 +1,7 @@
 //! An offer: a key, or a certificate for one.
 
 ghost use Rattle.std.specs.Prelude.{◌≡◌, ◌^◌, ◌<◌, length, IfOk, IsOk};
-ghost use Rattle.picky_wire.specs.Gives.{Gives};
+ghost use Rattle.picky_wire_base.specs.Gives.{Gives};
 ghost use Rattle.picky_cert.specs.Certificate.{signed_in};
 ghost use Rattle.picky_cert.specs.LineRefusal.{blob_certificate, body_certificate, line_meaning as certificate_meaning};
 ghost use Rattle.picky_text.specs.Base64.{decoded};

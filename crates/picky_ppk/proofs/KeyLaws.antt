@@ -1,7 +1,7 @@
 -- The private key in a file: where it stands, and that an OpenSSH key comes back from the file that it makes.
 use Rattle.std.specs.Prelude.{◌≡◌, false, List, ℕ, Ok}
 use Rattle.std.proofs.Common.{refl, subst}
-use Rattle.picky_layout.specs.carried.Outcome.{and_then_ok, guard_ok}
+use Rattle.picky_wire_base.specs.carried.Outcome.{and_then_ok, guard_ok}
 use Rattle.picky_kv_words.specs.declared.choices.PpkVersionKey.{PpkVersionKey}
 use Rattle.picky_kv_words.specs.declared.choices.PpkVersionKey.TheVariants.{V3}
 use Rattle.picky_suite.specs.Meanings.{Meanings}

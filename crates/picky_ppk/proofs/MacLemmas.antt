@@ -1,7 +1,7 @@
 -- What a MAC covers, as it is made.
 use Rattle.std.specs.Prelude.{◌≡◌, ◌&&◌, List, ℕ, Ok}
 use Rattle.std.proofs.Common.{refl, sym, ◌∙◌}
-use Rattle.picky_layout.specs.carried.Outcome.{passed_ok}
+use Rattle.picky_wire_base.specs.carried.Outcome.{passed_ok}
 use Rattle.picky_kv_words.specs.ChoiceFields.{encryption_field}
 use Rattle.picky_kv.specs.AlgorithmField.{algorithm_field}
 use Rattle.picky_keys.specs.LineRefusal.{is_short}

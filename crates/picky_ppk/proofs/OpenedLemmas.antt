@@ -1,7 +1,7 @@
 -- Lemmas on what opening a file answers.
 use Rattle.std.proofs.Common.{◌≡◌, ◌≢◌, ℕ, List, Result, Ok, Err}
-use Rattle.picky_layout.specs.Flaw.{Flaw, Short, NotUtf8, Big}
-use Rattle.picky_layout.specs.Outcome.{and_then, map_err}
+use Rattle.picky_wire_base.specs.Flaw.{Flaw, Short, NotUtf8, Big}
+use Rattle.picky_wire_base.specs.Outcome.{and_then, map_err}
 use Rattle.picky_kv.specs.declared.algorithm.PpkKeyAlgorithmValue.{PpkKeyAlgorithmValue}
 use Rattle.picky_kv.specs.Algorithm.{mpint_values_count}
 use Rattle.picky_ppk_parts.specs.declared.error.PuttyError.{PuttyError}

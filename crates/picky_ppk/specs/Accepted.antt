@@ -1,6 +1,6 @@
 -- A text whose MAC holds under a passphrase (PuTTY's manual, Appendix C), and what two such texts with one MAC say.
 use Rattle.std.specs.Prelude.{◌≡◌, ◌≢◌, List, ℕ, true, Ok, if◌then◌else◌}
-use Rattle.picky_layout.specs.Numbers.{IsBytes}
+use Rattle.picky_wire_base.specs.Numbers.{IsBytes}
 use Rattle.picky_suite.specs.Meanings.{Meanings}
 use Rattle.picky_ppk_parts.specs.Mac.{plain_mac_key}
 use Rattle.picky_ppk_file.specs.declared.file.PpkFile.{PpkFile}

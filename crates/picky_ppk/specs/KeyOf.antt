@@ -1,6 +1,6 @@
 -- The keys in a file, and the order in which they are refused.
 use Rattle.std.specs.Prelude.{List, ℕ, Option, Result, Ok, Err}
-use Rattle.picky_layout.specs.Outcome.{and_then, map_err}
+use Rattle.picky_wire_base.specs.Outcome.{and_then, map_err}
 use Rattle.picky_keys.specs.declared.private_key.PrivateKey.{PrivateKey}
 use Rattle.picky_keys.specs.declared.private_key.PrivateKey.TheVariants as plain
 use Rattle.picky_keys.specs.declared.public_key.PublicKey.{PublicKey}

@@ -1,7 +1,7 @@
 -- A sealed file opened under a passphrase (PuTTY's manual, Appendix C), and the order in which it is refused.
 use Rattle.std.specs.Prelude.{List, ℕ, ◌&&◌, Bool, not, take, Result, Ok, Err, if◌then◌else◌}
 use Rattle.std.specs.Str.{bytes_eq}
-use Rattle.picky_layout.specs.Outcome.{and_then}
+use Rattle.picky_wire_base.specs.Outcome.{and_then}
 use Rattle.picky_suite.specs.Meanings.{Meanings}
 use Rattle.picky_ppk_parts.specs.declared.error.PuttyError.{PuttyError}
 use Rattle.picky_ppk_parts.specs.declared.error.PuttyError.TheVariants as errors

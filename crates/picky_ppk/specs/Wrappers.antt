@@ -1,6 +1,6 @@
 -- PuTTY's keys without a file: the blob and the private bytes of a key, which aren't sealed, and OpenSSH's keys for them.
 use Rattle.std.specs.Prelude.{List, ℕ, Option, Result, Ok, Err, if◌then◌else◌}
-use Rattle.picky_layout.specs.Outcome.{and_then, map_err}
+use Rattle.picky_wire_base.specs.Outcome.{and_then, map_err}
 use Rattle.picky_keys.specs.declared.private_key.PrivateKey.{PrivateKey}
 use Rattle.picky_keys.specs.declared.public_key.PublicKey.{PublicKey}
 use Rattle.picky_keys.specs.declared.key.SshBasePublicKey.{SshBasePublicKey}

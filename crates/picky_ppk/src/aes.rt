@@ -1,7 +1,7 @@
 //! AES-256-CBC over a message, in place, and what fills a message up to whole blocks.
 
 ghost use Rattle.std.specs.Prelude.{◌≡◌, ◌<◌, ◌-◌, ◌%◌, OnErr};
-ghost use Rattle.picky_wire.specs.Gives.{Gives};
+ghost use Rattle.picky_wire_base.specs.Gives.{Gives};
 ghost use Rattle.picky_ppk.specs.Fresh.{padded_fresh};
 
 pub use picky_ppk_parts::aes::{BLOCK_SIZE, KEY_SIZE, decrypt, encrypt};

@@ -1,7 +1,7 @@
 //! A file with another comment, and in another version.
 
 ghost use Rattle.std.specs.Prelude.{◌≡◌, IfOk, Ok, false};
-ghost use Rattle.picky_wire.specs.Gives.{Gives};
+ghost use Rattle.picky_wire_base.specs.Gives.{Gives};
 ghost use Rattle.picky_ppk_file.specs.declared.file.PpkSealing.TheVariants.{Unsealed};
 ghost use Rattle.picky_ppk_file.specs.File.{is_sealed};
 ghost use Rattle.picky_ppk.specs.Mac.{CarriesMac, with_own_mac as with_own_mac_of};

@@ -7,7 +7,7 @@ ghost use Rattle.picky_suite.specs.Meanings.{Meanings};
 ghost use Rattle.picky_sshkey.specs.declared.private_key.SshPrivateKey.{SshPrivateKey as OpenSshKey};
 ghost use Rattle.picky_sshkey_blob.specs.declared.key.SshBasePrivateKey.{SshBasePrivateKey as Key};
 ghost use Rattle.picky_sshkey_blob.specs.Key.{IsPrivateKey};
-ghost use Rattle.picky_wire.specs.Equality.{IsEquality};
+ghost use Rattle.picky_wire_base.specs.Equality.{IsEquality};
 ghost use Rattle.picky_ppk_parts.specs.declared.config.PpkEncryptionConfig.{PpkEncryptionConfig as Config};
 ghost use Rattle.picky_ppk_parts.specs.Counted.{counted};
 ghost use Rattle.picky_ppk_parts.specs.Parts.{StandsForKey};

@@ -1,9 +1,9 @@
 //! A sealed file opened.
 
 ghost use Rattle.std.specs.Prelude.{◌≡◌, ◌≢◌, ◌<◌, ◌^◌, true, false, take, length, vec_len, Ok, Err, IfOk, IfErr, OnOk};
-ghost use Rattle.picky_layout.specs.Outcome.{and_then};
+ghost use Rattle.picky_wire_base.specs.Outcome.{and_then};
 ghost use Rattle.picky_wire.specs.Count.{Rose};
-ghost use Rattle.picky_wire.specs.Gives.{Gives};
+ghost use Rattle.picky_wire_base.specs.Gives.{Gives};
 ghost use Rattle.picky_suite.specs.Asked.{GivesAsked, LeavesSuite};
 ghost use Rattle.picky_ppk_parts.specs.Aes.{is_aligned};
 ghost use Rattle.picky_ppk_parts.specs.Counted.{counted};

@@ -3,7 +3,7 @@
 ghost use Rattle.std.specs.Prelude.{◌≡◌, ◌⊎◌, ◌++◌, ◌<◌, ◌^◌, List, ℕ, true, false, length, None, Some, Ok, IfOk, IfNone, IfSome};
 ghost use Rattle.picky_text.specs.Lines.{IsLine};
 ghost use Rattle.picky_suite.specs.Meanings.{Meanings};
-ghost use Rattle.picky_wire.specs.Gives.{Gives};
+ghost use Rattle.picky_wire_base.specs.Gives.{Gives};
 ghost use Rattle.picky_ppk_file.specs.declared.file.PpkFile.{PpkFile as File};
 ghost use Rattle.picky_ppk_parts.specs.Mac.{mac_bytes as mac_bytes_of};
 ghost use Rattle.picky_ppk_file.specs.File.{version_of, is_sealed, params_of};

@@ -2,7 +2,7 @@
 
 ghost use Rattle.std.specs.Prelude.{◌≡◌};
 ghost use Rattle.std.specs.Option.{option_copied};
-ghost use Rattle.picky_wire.specs.Gives.{Gives};
+ghost use Rattle.picky_wire_base.specs.Gives.{Gives};
 ghost use Rattle.picky_ppk.specs.Wrappers.{public_of_openssh, public_to_openssh, public_to_inner};
 ghost use Rattle.picky_ppk.specs.Wrappers.{base_of_openssh, base_to_openssh, base_to_inner};
 ghost use Rattle.picky_ppk.specs.Wrappers.{private_of_openssh, private_to_openssh};

@@ -1,7 +1,7 @@
 -- A text means a file exactly where its lines say it, and they say one.
 use Rattle.std.proofs.Common.{◌≡◌, ℕ, List, Ok, refl, sym, ap, subst, ◌∙◌}
-use Rattle.picky_layout.specs.Outcome.{and_then, map_err}
-use Rattle.picky_layout.specs.carried.Outcome.{and_then_ok, map_err_ok, same_pair}
+use Rattle.picky_wire_base.specs.Outcome.{and_then, map_err}
+use Rattle.picky_wire_base.specs.carried.Outcome.{and_then_ok, map_err_ok, same_pair}
 use Rattle.picky_text.specs.Lines.{lines}
 use Rattle.picky_kv_words.specs.Keys.{private_lines_key, private_mac_key}
 use Rattle.picky_kv_words.specs.Keys.{private_lines_key_row, private_mac_key_row}

@@ -1,6 +1,6 @@
 -- What the parts of a file say is what is read of them.
 use Rattle.std.proofs.Common.{◌≡◌, ℕ, List, Result, Ok, refl, sym}
-use Rattle.picky_layout.specs.carried.Outcome.{and_then_ok, same_pair}
+use Rattle.picky_wire_base.specs.carried.Outcome.{and_then_ok, same_pair}
 use Rattle.picky_kv_words.specs.Keys.{encryption_key, comment_key, public_lines_key}
 use Rattle.picky_kv_words.specs.Keys.{encryption_key_row, comment_key_row, public_lines_key_row}
 use Rattle.picky_kv_words.specs.Argon2Keys.{key_derivation_key, argon2_memory_key, argon2_passes_key}

@@ -2,10 +2,10 @@
 use Rattle.std.proofs.Common.{◌≡◌, ℕ, List, [], Bool, true, false, if◌then◌else◌, Result, Ok, Err, refl, sym}
 use Rattle.std.proofs.Common.{ap, ◌∙◌, subst}
 use Rattle.std.proofs.lemmas.List.{append-nil}
-use Rattle.picky_layout.specs.Grammar.{Fits}
-use Rattle.picky_layout.specs.Numbers.{IsBytes}
-use Rattle.picky_layout.specs.Outcome.{and_then}
-use Rattle.picky_layout.specs.carried.Outcome.{and_then_ok, map_err_ok, passed_ok}
+use Rattle.picky_wire_base.specs.Grammar.{Fits}
+use Rattle.picky_wire_base.specs.Numbers.{IsBytes}
+use Rattle.picky_wire_base.specs.Outcome.{and_then}
+use Rattle.picky_wire_base.specs.carried.Outcome.{and_then_ok, map_err_ok, passed_ok}
 use Rattle.picky_keys.specs.declared.key.SshBasePublicKey.{SshBasePublicKey}
 use Rattle.picky_keys.specs.declared.key.SshPublicKey.{SshPublicKey}
 use Rattle.picky_keys.specs.Key.{IsKey}

@@ -1,7 +1,7 @@
 -- What the laws state.
 use Rattle.picky_ppk_file.proofs.PuttyLaws.{putty_public_spells, putty_public_means}
 use Rattle.std.proofs.Common.{◌≡◌, ◌<◌, ◌^◌, ◌∙◌, ℕ, List, length, ap, Ok}
-use Rattle.picky_layout.specs.Numbers.{IsBytes}
+use Rattle.picky_wire_base.specs.Numbers.{IsBytes}
 use Rattle.picky_text.specs.Lines.{HasNo}
 use Rattle.picky_ppk_file.specs.declared.putty_public.PuttyPublicKey.{PuttyPublicKey}
 use Rattle.picky_ppk_file.specs.PuttyPublic.{putty_public}

@@ -1,8 +1,8 @@
 -- Steps of a reader of lines: a pair or a block whose value alone is read.
 use Rattle.std.proofs.Common.{◌≡◌, ℕ, List, Bool, true, false, Option, Some, None, Result, Ok, Err, refl, ap, subst}
 use Rattle.std.proofs.Common.{◌∙◌}
-use Rattle.picky_layout.specs.Outcome.{and_then}
-use Rattle.picky_layout.specs.carried.Outcome.{same_pair}
+use Rattle.picky_wire_base.specs.Outcome.{and_then}
+use Rattle.picky_wire_base.specs.carried.Outcome.{same_pair}
 use Rattle.picky_kv_words.specs.Field.{Field, judged_value}
 use Rattle.picky_kv.specs.Lines.{next_pair, next_block, value_alone}
 use Rattle.picky_kv.specs.Parts.{IsPair, IsBlock}

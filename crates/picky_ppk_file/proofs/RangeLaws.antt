@@ -5,7 +5,7 @@ use Rattle.std.specs.Result.{result_ok}
 use Rattle.std.specs.Prelude.{Result, Err}
 use Rattle.hex.specs.Hex.{decode_of}
 use Rattle.hex.proofs.HexLemmas.{decode_of-ok}
-use Rattle.picky_layout.specs.Numbers.{IsBytes}
+use Rattle.picky_wire_base.specs.Numbers.{IsBytes}
 use Rattle.picky_text.specs.Base64.{decoded}
 use Rattle.picky_text.proofs.Base64Laws.{decoded_is_bytes}
 use Rattle.picky_text.proofs.ListLaws.{all_front, all_back}

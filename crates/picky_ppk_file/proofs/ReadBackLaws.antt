@@ -5,7 +5,7 @@ use Rattle.std.specs.Prelude.{if◌then◌else◌}
 use Rattle.std.proofs.lemmas.Bool.{and_parts}
 use Rattle.std.proofs.lemmas.Bool.Decides.{nat_tests}
 use Rattle.std.proofs.lemmas.List.{append_assoc}
-use Rattle.picky_layout.specs.carried.Outcome.{passed_ok}
+use Rattle.picky_wire_base.specs.carried.Outcome.{passed_ok}
 use Rattle.picky_text.specs.Lines.{IsLine}
 use Rattle.picky_text.specs.declared.lines.LineEnd.{LineEnd}
 use Rattle.picky_kv_words.specs.Keys.{encryption_key, comment_key, public_lines_key, private_lines_key, private_mac_key}

@@ -1,6 +1,6 @@
 -- The order in which the lines of a PuTTY private key file are refused: the first that doesn't fit.
 use Rattle.std.specs.Prelude.{List, ℕ, Result, Ok}
-use Rattle.picky_layout.specs.Outcome.{and_then, map_err}
+use Rattle.picky_wire_base.specs.Outcome.{and_then, map_err}
 use Rattle.picky_text.specs.Lines.{lines}
 use Rattle.picky_kv_words.specs.Keys.{encryption_key, comment_key, public_lines_key, private_lines_key, private_mac_key}
 use Rattle.picky_kv_words.specs.Keys.{encryption_key_row, comment_key_row, public_lines_key_row, private_lines_key_row}

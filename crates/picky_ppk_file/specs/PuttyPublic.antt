@@ -2,8 +2,8 @@
 -- however long it is.
 use Rattle.std.specs.Prelude.{◌≡◌, ◌≢◌, ◌<◌, ◌^◌, length, List, [], ◌∷◌, ◌++◌, ℕ, codes}
 use Rattle.std.specs.List.{concat, AllByRecursion}
-use Rattle.picky_layout.specs.Numbers.{IsBytes}
-use Rattle.picky_layout.specs.Grammar.{Fits}
+use Rattle.picky_wire_base.specs.Numbers.{IsBytes}
+use Rattle.picky_wire_base.specs.Grammar.{Fits}
 use Rattle.picky_text.specs.Base64.{base64_of}
 use Rattle.picky_text.specs.Rows.{IsRowsOf, rows_of}
 use Rattle.picky_text.specs.Lines.{lines, text_of, HasNo}

@@ -4,7 +4,7 @@ use Rattle.std.specs.Prelude.{false, Result, Ok, Err, if◌then◌else◌, optio
 use Rattle.std.specs.List.{list_any, before_last, after_first}
 use Rattle.std.specs.Option.{ok_or}
 use Rattle.std.specs.Str.{bytes_eq}
-use Rattle.picky_layout.specs.Outcome.{and_then}
+use Rattle.picky_wire_base.specs.Outcome.{and_then}
 use Rattle.picky_text.specs.Base64.{decoded}
 use Rattle.picky_text.specs.Lines.{lines}
 use Rattle.picky_text.specs.Quote.{unquote}

@@ -1,9 +1,9 @@
 //! The laws of this crate, each as the contract of a function that does nothing.
 
 ghost use Rattle.std.specs.Prelude.{◌≡◌, ◌++◌, List, ℕ, Ok};
-ghost use Rattle.picky_layout.specs.Numbers.{IsBytes};
+ghost use Rattle.picky_wire_base.specs.Numbers.{IsBytes};
 ghost use Rattle.picky_text.specs.Lines.{IsLine};
-ghost use Rattle.picky_wire.specs.Equality.{IsEquality};
+ghost use Rattle.picky_wire_base.specs.Equality.{IsEquality};
 ghost use Rattle.picky_ppk_file.specs.declared.file.PpkFile.{PpkFile as File};
 ghost use Rattle.picky_ppk_file.specs.File.{IsFile, version_of};
 ghost use Rattle.picky_ppk_file.specs.FileText.{SaysFile};

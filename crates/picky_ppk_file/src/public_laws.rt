@@ -1,10 +1,10 @@
 //! The laws of this crate, each as the contract of a function that does nothing.
 
 ghost use Rattle.std.specs.Prelude.{◌≡◌, ◌<◌, ◌^◌, List, ℕ, Ok, length};
-ghost use Rattle.picky_layout.specs.Numbers.{IsBytes};
-ghost use Rattle.picky_layout.specs.Outcome.{and_then};
+ghost use Rattle.picky_wire_base.specs.Numbers.{IsBytes};
+ghost use Rattle.picky_wire_base.specs.Outcome.{and_then};
 ghost use Rattle.picky_text.specs.Lines.{HasNo};
-ghost use Rattle.picky_wire.specs.Equality.{IsEquality};
+ghost use Rattle.picky_wire_base.specs.Equality.{IsEquality};
 ghost use Rattle.picky_keys.specs.declared.key.SshPublicKey.{SshPublicKey as SshKey};
 ghost use Rattle.picky_keys.specs.Key.{IsKey};
 ghost use Rattle.picky_keys.specs.Blob.{blob_of};

@@ -1,9 +1,9 @@
 //! A public key as PuTTYgen saves it.
 
 ghost use Rattle.std.specs.Prelude.{◌≡◌, ◌^◌, ◌<◌, ◌≤◌, ◌+◌, ◌/◌, [], length, Ok, IfOk, OnOk, IfNone, IfSome, string_bytes};
-ghost use Rattle.picky_layout.specs.Numbers.{IsBytes};
+ghost use Rattle.picky_wire_base.specs.Numbers.{IsBytes};
 ghost use Rattle.picky_text.specs.Lines.{HasNo};
-ghost use Rattle.picky_wire.specs.Gives.{Gives};
+ghost use Rattle.picky_wire_base.specs.Gives.{Gives};
 ghost use Rattle.picky_kv.specs.Joined.{joined_text};
 ghost use Rattle.picky_ppk_file.specs.PuttyPublic.{putty_public as text_of};
 ghost use Rattle.picky_ppk_file.specs.PuttyRefusal.{quoted as quoted_in, after_header as after_header_of, after_comment as after_comment_of, body_from, of_blob as of_blob_of, of_parts as of_parts_of, putty_meaning, putty_text, is_hardware as is_hardware_of, of_openssh, to_openssh as to_openssh_of, plain_key_of, plain_key as plain_of, commented};

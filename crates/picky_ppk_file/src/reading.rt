@@ -1,7 +1,7 @@
 //! A PuTTY private key file read from its lines.
 
 ghost use Rattle.std.specs.Prelude.{◌≡◌, List, ℕ};
-ghost use Rattle.picky_wire.specs.Gives.{Gives};
+ghost use Rattle.picky_wire_base.specs.Gives.{Gives};
 ghost use Rattle.picky_ppk_file.specs.FileRefusal.{file_meaning, file_in as file_in_lines, front_in as front_in_lines};
 ghost use Rattle.picky_ppk_file.specs.FileRefusal.{sealing_in as sealing_in_lines, argon2_in as argon2_in_lines};
 ghost use Rattle.picky_ppk_file.specs.FileRefusal.{line_error as line_error_of};

@@ -3,11 +3,11 @@
 ghost use Rattle.std.specs.Prelude.{◌≡◌, ◌&&◌, ◌++◌, ◌+◌, ◌*◌, ◌^◌, ◌<◌, ◌≤◌, [], ◌∷◌, List, ℕ, IfOk, OnOk, Ok, string_bytes};
 ghost use Rattle.std.specs.Fmt.{decimal};
 ghost use Rattle.hex.specs.Hex.{encode_lower};
-ghost use Rattle.picky_layout.specs.Numbers.{IsBytes};
+ghost use Rattle.picky_wire_base.specs.Numbers.{IsBytes};
 ghost use Rattle.picky_text.specs.Appended.{AppendsAll};
 ghost use Rattle.picky_text.specs.Base64.{base64_of};
 ghost use Rattle.picky_text.specs.Lines.{IsLine, text_of};
-ghost use Rattle.picky_wire.specs.Gives.{Gives};
+ghost use Rattle.picky_wire_base.specs.Gives.{Gives};
 ghost use Rattle.picky_kv.specs.Output.{pair_line, block_lines};
 ghost use Rattle.picky_ppk_file.specs.File.{version_of};
 ghost use Rattle.picky_ppk_file.specs.File.{AreParams, IsSealing, IsFile};

@@ -2,13 +2,13 @@
 use Rattle.std.specs.Prelude.{◌≡◌, List, ◌∷◌, ℕ, suc, ◌-◌, ◌≤◌, length, drop, Result, Ok, Err}
 use Rattle.std.proofs.Common.{refl, ap, ◌∙◌, arith}
 use Rattle.std.proofs.lemmas.List.{length-drop}
-use Rattle.picky_layout.specs.Flaw.{Flaw, Short, Flawed}
-use Rattle.picky_layout.specs.Outcome.{and_then, map_err}
-use Rattle.picky_layout.specs.Wire.{string}
-use Rattle.picky_layout.proofs.When.{string_is_short}
+use Rattle.picky_wire_base.specs.Flaw.{Flaw, Short, Flawed}
+use Rattle.picky_wire_base.specs.Outcome.{and_then, map_err}
+use Rattle.picky_wire_base.specs.Wire.{string}
+use Rattle.picky_wire_base.proofs.When.{string_is_short}
 use Rattle.picky_wire.specs.declared.error.IoKind.TheVariants as kinds
-use Rattle.picky_wire.specs.declared.view.Stuck.{Stuck}
-use Rattle.picky_wire.specs.View.{Seen, Lies, end_of, part_bytes, why_of}
+use Rattle.picky_wire_base.specs.declared.view.Stuck.{Stuck}
+use Rattle.picky_wire_base.specs.View.{Seen, Lies, end_of, part_bytes, why_of}
 use Rattle.picky_kv.specs.declared.algorithm.PpkKeyAlgorithmValue.{PpkKeyAlgorithmValue}
 use Rattle.picky_kv.specs.Algorithm.{mpint_values_count}
 use Rattle.picky_ppk_parts.specs.declared.error.PuttyError.{PuttyError}

@@ -3,21 +3,21 @@ use Rattle.std.specs.Prelude.{◌≡◌, ⊤, List, ℕ, ◌-◌, ◌^◌, ◌<�
 use Rattle.std.specs.Prelude.{if◌then◌else◌}
 use Rattle.std.proofs.Common.{refl, sym, ap, ◌∙◌, inl, inr}
 use Rattle.std.proofs.lemmas.Bool.{lt-leb}
-use Rattle.picky_layout.specs.Flaw.{Flaw, Short, Why, Flawed, Length}
-use Rattle.picky_layout.specs.Narrowed.{meant}
-use Rattle.picky_layout.specs.Combine.{placed}
-use Rattle.picky_layout.specs.Outcome.{and_then, map_err}
-use Rattle.picky_layout.specs.Zeros.{without_zeros}
-use Rattle.picky_layout.specs.carried.Zeros.{zeros_are_dropped, all_is_kept}
-use Rattle.picky_layout.specs.Magnitude.{StandsFor}
-use Rattle.picky_layout.specs.Mpint.{mpint, as_mpint}
-use Rattle.picky_layout.specs.Wire.{string}
-use Rattle.picky_layout.proofs.Narrowed.{narrow_read_when}
-use Rattle.picky_layout.proofs.When.{string_is_short, mpint_is_short, mpint_only, mpint_within_is_not_big}
-use Rattle.picky_wire.specs.declared.view.Part.{Part}
-use Rattle.picky_wire.specs.declared.view.Stuck.{Stuck}
-use Rattle.picky_wire.specs.declared.view.Stuck.TheVariants as stucks
-use Rattle.picky_wire.specs.View.{Seen, Lies, Places, end_of, part_bytes, why_in, why_of}
+use Rattle.picky_wire_base.specs.Flaw.{Flaw, Short, Why, Flawed, Length}
+use Rattle.picky_wire_base.specs.Narrowed.{meant}
+use Rattle.picky_wire_base.specs.Combine.{placed}
+use Rattle.picky_wire_base.specs.Outcome.{and_then, map_err}
+use Rattle.picky_wire_base.specs.Zeros.{without_zeros}
+use Rattle.picky_wire_base.specs.carried.Zeros.{zeros_are_dropped, all_is_kept}
+use Rattle.picky_wire_base.specs.Magnitude.{StandsFor}
+use Rattle.picky_wire_base.specs.Mpint.{mpint, as_mpint}
+use Rattle.picky_wire_base.specs.Wire.{string}
+use Rattle.picky_wire_base.proofs.Narrowed.{narrow_read_when}
+use Rattle.picky_wire_base.proofs.When.{string_is_short, mpint_is_short, mpint_only, mpint_within_is_not_big}
+use Rattle.picky_wire_base.specs.declared.view.Part.{Part}
+use Rattle.picky_wire_base.specs.declared.view.Stuck.{Stuck}
+use Rattle.picky_wire_base.specs.declared.view.Stuck.TheVariants as stucks
+use Rattle.picky_wire_base.specs.View.{Seen, Lies, Places, end_of, part_bytes, why_in, why_of}
 use Rattle.picky_ppk_parts.specs.Number.{padded}
 use Rattle.picky_ppk_parts.specs.carried.Number.{padded_len, number_complete}
 use Rattle.picky_ppk_parts.specs.EdSecret.{as_number}

@@ -2,9 +2,9 @@
 use Rattle.std.specs.Prelude.{◌≡◌, List, [], ◌∷◌, ℕ, ◌++◌, ◌<◌, ◌^◌, length}
 use Rattle.std.specs.List.{concat}
 use Rattle.std.proofs.Common.{sym, ap, ◌∙◌, append_assoc}
-use Rattle.picky_layout.specs.Wire.{string, string_of}
-use Rattle.picky_layout.proofs.Strings.{string_spells}
-use Rattle.picky_layout.proofs.Grammar.{one_front}
+use Rattle.picky_wire_base.specs.Wire.{string, string_of}
+use Rattle.picky_wire_base.proofs.Strings.{string_spells}
+use Rattle.picky_wire_base.proofs.Grammar.{one_front}
 use Rattle.picky_ppk_parts.specs.Mac.{mac_input}
 use Rattle.picky_ppk_parts.specs.MacFields.{MacFields, AreShort, input_of}
 

@@ -1,10 +1,10 @@
 -- The parts of a private key stand for it exactly where they are read as it.
 use Rattle.std.specs.Prelude.{◌≡◌, List, ℕ, Ok}
 use Rattle.std.proofs.Common.{sym, ap, subst, ◌∙◌}
-use Rattle.picky_layout.specs.Front.{Begins, read_front}
-use Rattle.picky_layout.specs.carried.Inside.{front_sound, front_complete}
-use Rattle.picky_layout.specs.Outcome.{and_then, map_err}
-use Rattle.picky_layout.specs.carried.Outcome.{and_then_ok, map_err_ok}
+use Rattle.picky_wire_base.specs.Front.{Begins, read_front}
+use Rattle.picky_wire_base.specs.carried.Inside.{front_sound, front_complete}
+use Rattle.picky_wire_base.specs.Outcome.{and_then, map_err}
+use Rattle.picky_wire_base.specs.carried.Outcome.{and_then_ok, map_err_ok}
 use Rattle.picky_kv.specs.declared.algorithm.PpkKeyAlgorithmValue.{PpkKeyAlgorithmValue}
 use Rattle.picky_keys.specs.Blob.{blob as blob_layout}
 use Rattle.picky_keys.specs.LineRefusal.{blob_key}

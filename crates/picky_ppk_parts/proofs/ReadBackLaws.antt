@@ -3,14 +3,14 @@ use Rattle.std.specs.Prelude.{◌≡◌, Bool, true, false, List, [], ◌∷◌,
 use Rattle.std.specs.Prelude.{nat_le, slice_index, if◌then◌else◌, Ok, Err}
 use Rattle.std.proofs.Common.{refl, sym, ap, subst, ◌∙◌, arith}
 use Rattle.std.proofs.lemmas.List.{append-nil}
-use Rattle.picky_layout.specs.carried.Outcome.{and_then_ok, passed_ok}
-use Rattle.picky_layout.specs.Zeros.{BeginsWithNoZero, without_zeros}
-use Rattle.picky_layout.specs.carried.Zeros.{all_is_kept, no_zero_begins, zeros_in_front}
-use Rattle.picky_layout.proofs.Zeros.{length_with_zeros}
-use Rattle.picky_layout.specs.Magnitude.{IsMagnitude}
-use Rattle.picky_layout.specs.Mpint.{mpint_of, with_sign}
-use Rattle.picky_layout.proofs.Strings.{string_spells}
-use Rattle.picky_layout.proofs.Mpint.{mpint_spells}
+use Rattle.picky_wire_base.specs.carried.Outcome.{and_then_ok, passed_ok}
+use Rattle.picky_wire_base.specs.Zeros.{BeginsWithNoZero, without_zeros}
+use Rattle.picky_wire_base.specs.carried.Zeros.{all_is_kept, no_zero_begins, zeros_in_front}
+use Rattle.picky_wire_base.proofs.Zeros.{length_with_zeros}
+use Rattle.picky_wire_base.specs.Magnitude.{IsMagnitude}
+use Rattle.picky_wire_base.specs.Mpint.{mpint_of, with_sign}
+use Rattle.picky_wire_base.proofs.Strings.{string_spells}
+use Rattle.picky_wire_base.proofs.MpintLaws.{mpint_spells}
 use Rattle.picky_kv.specs.declared.algorithm.PpkKeyAlgorithmValue.{PpkKeyAlgorithmValue}
 use Rattle.picky_kv.specs.declared.algorithm.PpkKeyAlgorithmValue.TheVariants as algorithms
 use Rattle.picky_keys.specs.declared.curve.EcCurve.{EcCurve}

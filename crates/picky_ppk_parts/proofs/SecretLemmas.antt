@@ -1,14 +1,14 @@
 -- The key of private bytes is that of the secret which is seen in front of them.
 use Rattle.std.specs.Prelude.{◌≡◌, List, ℕ, Result, Ok, Err}
 use Rattle.std.proofs.Common.{refl, sym, ap, subst, ◌∙◌}
-use Rattle.picky_layout.specs.Flaw.{Flaw, Why, Reason, Flawed}
-use Rattle.picky_layout.specs.Grammar.{Grammar}
-use Rattle.picky_layout.specs.Combine.{placed, at, done, ◌>>=◌}
-use Rattle.picky_layout.specs.Front.{read_front}
-use Rattle.picky_layout.specs.Outcome.{and_then, map_err}
-use Rattle.picky_layout.specs.Magnitude.{IsMagnitude}
-use Rattle.picky_layout.specs.Mpint.{mpint}
-use Rattle.picky_wire.specs.View.{why_in}
+use Rattle.picky_wire_base.specs.Flaw.{Flaw, Why, Reason, Flawed}
+use Rattle.picky_wire_base.specs.Grammar.{Grammar}
+use Rattle.picky_wire_base.specs.Combine.{placed, at, done, ◌>>=◌}
+use Rattle.picky_wire_base.specs.Front.{read_front}
+use Rattle.picky_wire_base.specs.Outcome.{and_then, map_err}
+use Rattle.picky_wire_base.specs.Magnitude.{IsMagnitude}
+use Rattle.picky_wire_base.specs.Mpint.{mpint}
+use Rattle.picky_wire_base.specs.View.{why_in}
 use Rattle.picky_keys.specs.declared.curve.EcCurve.{EcCurve}
 use Rattle.picky_keys.specs.declared.public_key.PublicKey.TheVariants as plain
 use Rattle.picky_sshkey_blob.specs.declared.key.SshBasePrivateKey.{SshBasePrivateKey}

@@ -1,6 +1,6 @@
 -- A string that is the number of a secret of 32 bytes.
 use Rattle.std.specs.Prelude.{List, ℕ}
-use Rattle.picky_layout.specs.Narrowed.{Narrowing}
+use Rattle.picky_wire_base.specs.Narrowed.{Narrowing}
 use Rattle.picky_ppk_parts.specs.Number.{IsNumberOf, read_number}
 use Rattle.picky_ppk_parts.specs.carried.Number.{number_sound, number_complete}
 

@@ -3,7 +3,7 @@
 use Rattle.std.specs.Prelude.{List, [], ◌∷◌, ◌++◌, ℕ, ◌&&◌, codes, Result, Ok, Err, if◌then◌else◌}
 use Rattle.std.specs.List.{concat}
 use Rattle.sha1.specs.Sha1.{sha1}
-use Rattle.picky_layout.specs.Wire.{string_of}
+use Rattle.picky_wire_base.specs.Wire.{string_of}
 use Rattle.picky_kv_words.specs.declared.choices.PpkVersionKey.{PpkVersionKey}
 use Rattle.picky_kv_words.specs.declared.choices.PpkVersionKey.TheVariants.{V2, V3}
 use Rattle.picky_suite.specs.Meanings.{Meanings}

@@ -1,6 +1,6 @@
 -- A secret of 32 bytes that is written as a number: as a relation and as a reading.
 use Rattle.std.specs.Prelude.{◌≡◌, List, ℕ, ◌-◌, ◌++◌, nat_le, length, replicate, if◌then◌else◌, Result, Ok, Err}
-use Rattle.picky_layout.specs.Zeros.{without_zeros}
+use Rattle.picky_wire_base.specs.Zeros.{without_zeros}
 
 -- the bytes are the number that the 32 of the secret are, most significant byte first
 abbrev pub IsNumberOf : List ℕ → List ℕ → Type 0

@@ -1,6 +1,6 @@
 -- The key that an algorithm, a public blob and private bytes stand for.
 use Rattle.std.specs.Prelude.{◌≡◌, List, ℕ}
-use Rattle.picky_layout.specs.Front.{Begins}
+use Rattle.picky_wire_base.specs.Front.{Begins}
 use Rattle.picky_kv.specs.declared.algorithm.PpkKeyAlgorithmValue.{PpkKeyAlgorithmValue}
 use Rattle.picky_keys.specs.declared.public_key.PublicKey.{PublicKey}
 use Rattle.picky_keys.specs.Blob.{blob as blob_layout}

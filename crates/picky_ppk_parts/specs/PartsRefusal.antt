@@ -1,8 +1,8 @@
 -- The order in which the parts of a private key are refused: the public blob, the algorithm, the private bytes by field.
 use Rattle.std.specs.Prelude.{List, ℕ, Result}
-use Rattle.picky_layout.specs.Flaw.{Flaw, Short, NotUtf8, Big, Why, Reason, Flawed, Length, Magic, Name, Number}
-use Rattle.picky_layout.specs.Front.{read_front}
-use Rattle.picky_layout.specs.Outcome.{and_then, map_err}
+use Rattle.picky_wire_base.specs.Flaw.{Flaw, Short, NotUtf8, Big, Why, Reason, Flawed, Length, Magic, Name, Number}
+use Rattle.picky_wire_base.specs.Front.{read_front}
+use Rattle.picky_wire_base.specs.Outcome.{and_then, map_err}
 use Rattle.picky_kv.specs.declared.algorithm.PpkKeyAlgorithmValue.{PpkKeyAlgorithmValue}
 use Rattle.picky_keys.specs.declared.public_key.PublicKey.{PublicKey}
 use Rattle.picky_wire.specs.declared.error.IoKind.TheVariants as kinds

@@ -3,12 +3,12 @@
 -- which is read as the same 32 bytes.
 use Rattle.std.specs.Prelude.{List, [], ◌∷◌, ℕ}
 use Rattle.std.specs.List.{concat}
-use Rattle.picky_layout.specs.Flaw.{Reason, Length}
-use Rattle.picky_layout.specs.Grammar.{Grammar}
-use Rattle.picky_layout.specs.Combine.{at, done, narrow, ◌>>=◌}
-use Rattle.picky_layout.specs.Wire.{string}
-use Rattle.picky_layout.specs.Zeros.{without_zeros}
-use Rattle.picky_layout.specs.Mpint.{mpint, mpint_of}
+use Rattle.picky_wire_base.specs.Flaw.{Reason, Length}
+use Rattle.picky_wire_base.specs.Grammar.{Grammar}
+use Rattle.picky_wire_base.specs.Combine.{at, done, narrow, ◌>>=◌}
+use Rattle.picky_wire_base.specs.Wire.{string}
+use Rattle.picky_wire_base.specs.Zeros.{without_zeros}
+use Rattle.picky_wire_base.specs.Mpint.{mpint, mpint_of}
 use Rattle.picky_keys.specs.declared.curve.EcCurve.{EcCurve}
 use Rattle.picky_keys.specs.declared.public_key.PublicKey.{PublicKey}
 use Rattle.picky_keys.specs.declared.public_key.PublicKey.TheVariants as plain

@@ -1,7 +1,7 @@
 //! The public key that an algorithm names.
 
 ghost use Rattle.std.specs.Prelude.{◌≡◌};
-ghost use Rattle.picky_wire.specs.Gives.{Gives};
+ghost use Rattle.picky_wire_base.specs.Gives.{Gives};
 ghost use Rattle.picky_ppk_parts.specs.Algorithm.{same_curve as same_curve_of, key_under as key_under_of};
 ghost use Rattle.picky_ppk_parts.specs.Algorithm.{rsa_of as rsa_from, ec_of as ec_from, ed_of as ed_from};
 ghost use Rattle.picky_ppk_parts.specs.Algorithm.{curve_algorithm as curve_algorithm_of};

@@ -1,7 +1,7 @@
 //! The parts of a PuTTY private key file that an OpenSSH private key makes.
 
 ghost use Rattle.std.specs.Prelude.{◌≡◌, IfOk};
-ghost use Rattle.picky_wire.specs.Gives.{Gives};
+ghost use Rattle.picky_wire_base.specs.Gives.{Gives};
 ghost use Rattle.picky_sshkey_blob.specs.Key.{public_part};
 ghost use Rattle.picky_ppk_parts.specs.Secret.{secret_bytes as secret_bytes_of};
 ghost use Rattle.picky_ppk_parts.specs.KeyParts.{private_algorithm as private_algorithm_of};

@@ -2,7 +2,7 @@
 
 ghost use Rattle.std.specs.Prelude.{◌≡◌, ◌≤◌, ◌++◌, List, ℕ, length, take, Ok};
 ghost use Rattle.picky_kv.specs.declared.algorithm.PpkKeyAlgorithmValue.{PpkKeyAlgorithmValue as Algorithm};
-ghost use Rattle.picky_wire.specs.Equality.{IsEquality};
+ghost use Rattle.picky_wire_base.specs.Equality.{IsEquality};
 ghost use Rattle.picky_sshkey_blob.specs.declared.key.SshBasePrivateKey.{SshBasePrivateKey as Key};
 ghost use Rattle.picky_sshkey_blob.specs.Key.{IsPrivateKey};
 ghost use Rattle.picky_ppk_parts.specs.declared.key_parts.KeyParts.{KeyParts as Parts};

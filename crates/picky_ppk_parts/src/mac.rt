@@ -1,7 +1,7 @@
 //! The MAC of a PuTTY private key file.
 
 ghost use Rattle.std.specs.Prelude.{◌≡◌, ◌≤◌, length};
-ghost use Rattle.picky_wire.specs.Gives.{Gives};
+ghost use Rattle.picky_wire_base.specs.Gives.{Gives};
 ghost use Rattle.picky_ppk_parts.specs.Mac.{input_bytes, mac_of, mac_bytes};
 ghost use Rattle.picky_ppk_parts.specs.Mac.{mac_key_v2 as mac_key_v2_of, plain_mac_key as plain_mac_key_of};
 

@@ -1,11 +1,11 @@
 //! The secret in private bytes that aren't sealed, seen where it stands and then copied.
 
 ghost use Rattle.std.specs.Prelude.{◌≡◌, ◌^◌, ◌<◌, ◌≤◌, ⊤, length, IfOk};
-ghost use Rattle.picky_layout.specs.Flaw.{Flawed};
-ghost use Rattle.picky_layout.specs.Magnitude.{IsMagnitude};
-ghost use Rattle.picky_layout.specs.Mpint.{mpint};
-ghost use Rattle.picky_wire.specs.View.{Seen, part_bytes, why_in, why_of};
-ghost use Rattle.picky_wire.specs.Gives.{Gives};
+ghost use Rattle.picky_wire_base.specs.Flaw.{Flawed};
+ghost use Rattle.picky_wire_base.specs.Magnitude.{IsMagnitude};
+ghost use Rattle.picky_wire_base.specs.Mpint.{mpint};
+ghost use Rattle.picky_wire_base.specs.View.{Seen, part_bytes, why_in, why_of};
+ghost use Rattle.picky_wire_base.specs.Gives.{Gives};
 ghost use Rattle.picky_ppk_parts.specs.Number.{padded as padded_of};
 ghost use Rattle.picky_ppk_parts.specs.Secret.{rsa_secret, ed_secret, rsa_key as rsa_key_of};
 ghost use Rattle.picky_ppk_parts.specs.PartsRefusal.{why_error, key_with_secret as key_with_secret_of};

@@ -11,8 +11,8 @@ use Rattle.std.proofs.lemmas.Bool.Decides.{nat_tests}
 use Rattle.std.proofs.lemmas.Fmt.{decimal_by_steps}
 use Rattle.std.proofs.lemmas.List.{append_assoc}
 use Rattle.std.proofs.lemmas.Slice.Eq.{bytes_eq-Decides}
-use Rattle.picky_layout.specs.Numbers.{IsBytes}
-use Rattle.picky_layout.proofs.Numbers.{bytes_behind}
+use Rattle.picky_wire_base.specs.Numbers.{IsBytes}
+use Rattle.picky_wire_base.proofs.Numbers.{bytes_behind}
 use Rattle.picky_text.specs.Lines.{HasNo}
 use Rattle.picky_text.proofs.ListLaws.{all_append, cut_at_first}
 use Rattle.picky_cert_parts.specs.declared.cert_type.SshCertType.{SshCertType}

@@ -2,8 +2,8 @@
 
 ghost use Rattle.std.specs.Prelude.{◌≡◌, ◌↔◌, ℕ, List, Some};
 ghost use Rattle.picky_keys.specs.declared.kind.KeyKind.{KeyKind as Kind};
-ghost use Rattle.picky_layout.specs.Numbers.{IsBytes};
-ghost use Rattle.picky_wire.specs.Equality.{IsEquality};
+ghost use Rattle.picky_wire_base.specs.Numbers.{IsBytes};
+ghost use Rattle.picky_wire_base.specs.Equality.{IsEquality};
 ghost use Rattle.picky_cert_blob.specs.Subject.{subject_kind};
 ghost use Rattle.picky_request.specs.Builder.{type_for};
 ghost use Rattle.picky_request.specs.Names.{principals_in, ArePrincipals};

@@ -3,10 +3,10 @@ use Rattle.std.specs.Prelude.{◌<◌, ◌≤◌, ◌+◌, ◌-◌, ◌%◌, ◌
 use Rattle.std.specs.Prelude.{Option, None, Some, length}
 use Rattle.std.specs.Int.{w32, to_be_bytes}
 use Rattle.std.proofs.Common.{arith, refl}
-use Rattle.picky_layout.specs.Numbers.{IsBytes}
-use Rattle.picky_layout.specs.Wire.{string_of}
-use Rattle.picky_layout.proofs.Numbers.{uint32_spells}
-use Rattle.picky_layout.proofs.Strings.{text_spells}
+use Rattle.picky_wire_base.specs.Numbers.{IsBytes}
+use Rattle.picky_wire_base.specs.Wire.{string_of}
+use Rattle.picky_wire_base.proofs.Numbers.{uint32_spells}
+use Rattle.picky_wire_base.proofs.Strings.{text_spells}
 use Rattle.picky_keys.proofs.ByteLaws.{bytes_first, bytes_joined, no_bytes, number_bytes, string_bytes_each}
 use Rattle.picky_sshkey_blob.specs.Blob.{secret_of}
 use Rattle.picky_sshkey.specs.declared.private_key.SshPrivateKey.{SshPrivateKey}

@@ -1,10 +1,10 @@
 -- Lemmas on the block of a private key.
 use Rattle.std.proofs.Common.{◌≡◌, ℕ, List, ap, refl, sym, Result, Ok, Err}
-use Rattle.picky_layout.specs.Flaw.{Flaw, Flawed, Why}
-use Rattle.picky_layout.specs.Outcome.{map_err}
+use Rattle.picky_wire_base.specs.Flaw.{Flaw, Flawed, Why}
+use Rattle.picky_wire_base.specs.Outcome.{map_err}
 use Rattle.picky_sshkey_blob.specs.declared.error.SshPrivateKeyError.{SshPrivateKeyError}
-use Rattle.picky_layout.specs.Front.{read_front}
-use Rattle.picky_layout.specs.Wire.{text}
+use Rattle.picky_wire_base.specs.Front.{read_front}
+use Rattle.picky_wire_base.specs.Wire.{text}
 use Rattle.picky_sshkey_blob.specs.Blob.{secret}
 use Rattle.picky_sshkey_blob.specs.declared.key.SshBasePrivateKey.{SshBasePrivateKey}
 use Rattle.picky_sshkey.specs.PrivateBlock.{check_numbers, flaw_error, private_block}

@@ -1,7 +1,7 @@
 -- Lemmas on a key that isn't written.
 use Rattle.std.proofs.Common.{◌≡◌, ◌⊎◌, ℕ, List, length, ap, inl, inr, refl, Result, Ok, Err, true}
 use Rattle.std.specs.Prelude.{Bool, Option}
-use Rattle.picky_layout.specs.Outcome.{and_then}
+use Rattle.picky_wire_base.specs.Outcome.{and_then}
 use Rattle.picky_suite.specs.Asked.{GivesAsked}
 use Rattle.picky_suite.specs.Failures.{IsAskedFault}
 use Rattle.picky_suite.specs.Meanings.{Meanings}

@@ -4,13 +4,13 @@ use Rattle.std.specs.Prelude.{length}
 use Rattle.std.specs.Option.{ok_or}
 use Rattle.std.specs.Str.{bytes_eq}
 use Rattle.std.proofs.Common.{refl, subst}
-use Rattle.picky_layout.specs.Combine.{tag}
-use Rattle.picky_layout.specs.Fixed.{is_number}
-use Rattle.picky_layout.specs.Flaw.{Flaw, Short, NotUtf8, Big, Flawed, Length, Magic, Name, Number, Reason}
-use Rattle.picky_layout.specs.Front.{read_front}
-use Rattle.picky_layout.specs.Outcome.{map_err}
-use Rattle.picky_layout.specs.Table.{find_entry}
-use Rattle.picky_layout.specs.Wire.{text as utf8, uint32}
+use Rattle.picky_wire_base.specs.Combine.{tag}
+use Rattle.picky_wire_base.specs.Fixed.{is_number}
+use Rattle.picky_wire_base.specs.Flaw.{Flaw, Short, NotUtf8, Big, Flawed, Length, Magic, Name, Number, Reason}
+use Rattle.picky_wire_base.specs.Front.{read_front}
+use Rattle.picky_wire_base.specs.Outcome.{map_err}
+use Rattle.picky_wire_base.specs.Table.{find_entry}
+use Rattle.picky_wire_base.specs.Wire.{text as utf8, uint32}
 use Rattle.picky_sshkey_blob.specs.PemRefusal.{after_header, before_footer, of_body, pem_content, short_content}
 use Rattle.picky_sshkey_blob.specs.Pem.{packed}
 use Rattle.picky_sshkey_blob.specs.declared.pem_error.PemError.{PemError}

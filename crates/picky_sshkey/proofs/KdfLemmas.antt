@@ -4,13 +4,13 @@ use Rattle.std.proofs.lemmas.List.{append-nil, length-append}
 use Rattle.std.specs.Int.{w32, to_be_bytes}
 use Rattle.std.proofs.Common.{Result}
 use Rattle.std.specs.Prelude.{IfErr}
-use Rattle.picky_layout.specs.Combine.{tag}
-use Rattle.picky_layout.specs.Outcome.{map_err}
-use Rattle.picky_layout.specs.Wire.{string, string_of}
-use Rattle.picky_layout.proofs.Strings.{string_reads_back}
-use Rattle.picky_wire.proofs.WriteLemmas.{length-string_of}
+use Rattle.picky_wire_base.specs.Combine.{tag}
+use Rattle.picky_wire_base.specs.Outcome.{map_err}
+use Rattle.picky_wire_base.specs.Wire.{string, string_of}
+use Rattle.picky_wire_base.proofs.Strings.{string_reads_back}
+use Rattle.picky_wire_base.proofs.PieceLemmas.{length-string_of}
 use Rattle.picky_wire.specs.Flaws.{wire_error}
-use Rattle.picky_wire.specs.Gives.{Gives}
+use Rattle.picky_wire_base.specs.Gives.{Gives}
 use Rattle.picky_wire.specs.Takes.{HasCause, causes_of}
 use Rattle.picky_wire.specs.declared.error.WireError.{WireError}
 use Rattle.picky_wire.specs.declared.error.WireError.TheVariants as errors

@@ -6,12 +6,12 @@ use Rattle.std.specs.Str.{bytes_eq}
 use Rattle.std.proofs.Common.{◌∙◌, ap, inl, inr, refl, subst, sym}
 use Rattle.std.proofs.lemmas.Bool.{eq-eqb, eqb-true}
 use Rattle.std.proofs.lemmas.Slice.Eq.{bytes_eq-Decides}
-use Rattle.picky_layout.specs.Numbers.{IsBytes}
-use Rattle.picky_layout.specs.Outcome.{and_then}
-use Rattle.picky_layout.specs.Table.{find_entry}
-use Rattle.picky_layout.specs.carried.Outcome.{and_then_ok}
-use Rattle.picky_layout.specs.carried.Table.{entry_sound, key_is_found}
-use Rattle.picky_layout.proofs.Numbers.{front_bytes, back_bytes}
+use Rattle.picky_wire_base.specs.Numbers.{IsBytes}
+use Rattle.picky_wire_base.specs.Outcome.{and_then}
+use Rattle.picky_wire_base.specs.Table.{find_entry}
+use Rattle.picky_wire_base.specs.carried.Outcome.{and_then_ok}
+use Rattle.picky_wire_base.specs.carried.Table.{entry_sound, key_is_found}
+use Rattle.picky_wire_base.proofs.Numbers.{front_bytes, back_bytes}
 use Rattle.picky_suite.specs.Meanings.{Meanings}
 use Rattle.picky_suite.specs.Ranges.{bcrypt_fits}
 use Rattle.picky_suite.proofs.RangeLemmas.{bcrypt_decides}

@@ -3,13 +3,13 @@ use Rattle.std.specs.Prelude.{◌≡◌, true, false, List, ℕ, Option, None, S
 use Rattle.std.specs.Option.{IfSome}
 use Rattle.std.proofs.Common.{◌∙◌, ap, inl, inr, refl, subst, sym}
 use Rattle.std.proofs.lemmas.Bool.{ltb-true, lt-ltb}
-use Rattle.picky_layout.specs.Flaw.{Reason}
-use Rattle.picky_layout.specs.Front.{Begins, read_front}
-use Rattle.picky_layout.specs.Numbers.{IsBytes}
-use Rattle.picky_layout.specs.Outcome.{and_then, map_err}
-use Rattle.picky_layout.specs.carried.Inside.{front_complete, front_sound}
-use Rattle.picky_layout.specs.carried.Outcome.{and_then_ok, map_err_ok}
-use Rattle.picky_layout.proofs.Numbers.{bytes_in_front}
+use Rattle.picky_wire_base.specs.Flaw.{Reason}
+use Rattle.picky_wire_base.specs.Front.{Begins, read_front}
+use Rattle.picky_wire_base.specs.Numbers.{IsBytes}
+use Rattle.picky_wire_base.specs.Outcome.{and_then, map_err}
+use Rattle.picky_wire_base.specs.carried.Inside.{front_complete, front_sound}
+use Rattle.picky_wire_base.specs.carried.Outcome.{and_then_ok, map_err_ok}
+use Rattle.picky_wire_base.proofs.Numbers.{bytes_in_front}
 use Rattle.picky_sshkey_blob.specs.PemRefusal.{pem_content}
 use Rattle.picky_sshkey_blob.proofs.MeaningLaws.{pem_means, pem_says}
 use Rattle.picky_suite.specs.Meanings.{Meanings}

@@ -6,7 +6,7 @@ use Rattle.std.proofs.lemmas.Bool.{ltb-true}
 use Rattle.std.proofs.lemmas.List.Sums.{AllPass-from_list_all}
 use Rattle.std.proofs.lemmas.Str.{IsUtf8-from_ascii}
 use Rattle.std.proofs.lemmas.Str.Ascii.{IsAscii-from_all}
-use Rattle.picky_layout.specs.Numbers.{IsBytes}
+use Rattle.picky_wire_base.specs.Numbers.{IsBytes}
 use Rattle.picky_keys.proofs.ByteLaws.{bytes_by_test}
 use Rattle.picky_sshkey.specs.declared.cipher.Cipher.TheVariants.{Aes256Ctr}
 use Rattle.picky_sshkey.specs.CipherNames.{cipher_name}

@@ -1,8 +1,8 @@
 -- What the pieces of an envelope and of a block keep, where they are bytes.
 use Rattle.std.specs.Prelude.{List, [], ◌∷◌, ℕ, ◌<◌, ◌^◌}
 use Rattle.std.proofs.Common.{arith, subst, sym}
-use Rattle.picky_layout.specs.Numbers.{IsBytes}
-use Rattle.picky_layout.proofs.Numbers.{bytes_in_front, bytes_behind, uint32_exact}
+use Rattle.picky_wire_base.specs.Numbers.{IsBytes}
+use Rattle.picky_wire_base.proofs.Numbers.{bytes_in_front, bytes_behind, uint32_exact}
 use Rattle.picky_keys.proofs.ByteLaws.{no_bytes}
 use Rattle.picky_keys.specs.Key.{IsText}
 use Rattle.picky_keys.proofs.KeyLaws.{string_keeps, text_keeps}

@@ -2,13 +2,13 @@
 use Rattle.std.specs.Prelude.{◌≡◌, Bool, true, false, List, [], ◌++◌, ℕ, Result, Ok, Err}
 use Rattle.std.proofs.Common.{◌∙◌, ap, refl, subst, sym}
 use Rattle.std.proofs.lemmas.Slice.Eq.{bytes_eq-Decides}
-use Rattle.picky_layout.specs.Flaw.{Reason}
-use Rattle.picky_layout.specs.Front.{read_front}
-use Rattle.picky_layout.specs.Numbers.{IsBytes}
-use Rattle.picky_layout.specs.Outcome.{and_then, map_err}
-use Rattle.picky_layout.specs.carried.Outcome.{and_then_ok}
-use Rattle.picky_layout.proofs.Grammar.{one_front}
-use Rattle.picky_layout.proofs.Numbers.{bytes_in_front}
+use Rattle.picky_wire_base.specs.Flaw.{Reason}
+use Rattle.picky_wire_base.specs.Front.{read_front}
+use Rattle.picky_wire_base.specs.Numbers.{IsBytes}
+use Rattle.picky_wire_base.specs.Outcome.{and_then, map_err}
+use Rattle.picky_wire_base.specs.carried.Outcome.{and_then_ok}
+use Rattle.picky_wire_base.proofs.Grammar.{one_front}
+use Rattle.picky_wire_base.proofs.Numbers.{bytes_in_front}
 use Rattle.picky_keys.specs.Blob.{blob, blob_of}
 use Rattle.picky_keys.specs.BlobRefusal.{blob_error, read_blob}
 use Rattle.picky_keys.specs.Key.{IsKey}

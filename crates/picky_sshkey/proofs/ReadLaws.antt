@@ -2,8 +2,8 @@
 use Rattle.std.specs.Prelude.{◌≡◌, List, ℕ, Option, None, Some, Ok}
 use Rattle.std.specs.Option.{IfSome}
 use Rattle.std.proofs.Common.{arith, subst, sym}
-use Rattle.picky_layout.specs.Numbers.{IsBytes}
-use Rattle.picky_layout.proofs.Numbers.{bytes_in_front}
+use Rattle.picky_wire_base.specs.Numbers.{IsBytes}
+use Rattle.picky_wire_base.proofs.Numbers.{bytes_in_front}
 use Rattle.picky_suite.specs.Meanings.{Meanings}
 use Rattle.picky_keys.specs.Key.{IsString, IsText}
 use Rattle.picky_keys.proofs.ByteLaws.{no_bytes}

@@ -1,15 +1,15 @@
 -- Lemmas on what reading a private key answers, round the suite.
 use Rattle.std.proofs.Common.{◌≡◌, ◌≢◌, ◌∙◌, ℕ, List, ap, inl, inr, refl, subst, Result, Ok, Err}
 use Rattle.std.specs.Prelude.{Option, None}
-use Rattle.picky_wire.specs.Gives.{Gives}
+use Rattle.picky_wire_base.specs.Gives.{Gives}
 use Rattle.picky_sshkey_blob.specs.declared.error.SshPrivateKeyError.{SshPrivateKeyError}
 use Rattle.picky_sshkey_blob.specs.declared.error.SshPrivateKeyError.TheVariants as errors
-use Rattle.picky_layout.specs.Front.{read_front}
+use Rattle.picky_wire_base.specs.Front.{read_front}
 use Rattle.picky_sshkey.specs.declared.private_key.SshPrivateKey.{SshPrivateKey}
 use Rattle.picky_sshkey.specs.Envelope.{Envelope}
 use Rattle.picky_sshkey.specs.Opened.{Lock}
 use Rattle.picky_sshkey.specs.PrivateBlock.{PrivateBlock, private_block}
-use Rattle.picky_layout.specs.Outcome.{and_then}
+use Rattle.picky_wire_base.specs.Outcome.{and_then}
 use Rattle.picky_suite.specs.Asked.{GivesAsked}
 use Rattle.picky_suite.specs.Meanings.{Meanings}
 use Rattle.picky_sshkey.specs.PrivateRefusal.{closed, content_asks, content_key, envelope_under, key_closed, key_of_block, lock_of, sealed_under}

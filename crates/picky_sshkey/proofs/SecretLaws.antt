@@ -2,7 +2,7 @@
 use Rattle.std.specs.Prelude.{[], ℕ, zero, suc, ◌++◌}
 use Rattle.std.specs.Int.{w8, to_be_bytes}
 use Rattle.std.proofs.Common.{arith}
-use Rattle.picky_layout.specs.Numbers.{IsBytes}
+use Rattle.picky_wire_base.specs.Numbers.{IsBytes}
 use Rattle.picky_keys.specs.declared.curve.EcCurve.TheVariants.{NistP256}
 use Rattle.picky_keys.proofs.ByteLaws.{bytes_joined, string_bytes_each, mpint_bytes_each, no_bytes, name_bytes, identifier_bytes}
 use Rattle.picky_sshkey_blob.specs.declared.key.SshBasePrivateKey.{SshBasePrivateKey}

@@ -6,11 +6,11 @@ use Rattle.std.specs.List.{concat}
 use Rattle.std.proofs.Common.{arith, refl}
 use Rattle.std.proofs.lemmas.Bool.{eqb-true, lt-ltb}
 use Rattle.std.proofs.lemmas.List.{length-append}
-use Rattle.picky_layout.specs.Numbers.{IsBytes}
-use Rattle.picky_layout.specs.Wire.{string_of}
-use Rattle.picky_layout.proofs.Fixed.{fixed_uint32_spells, raw_spells}
-use Rattle.picky_layout.proofs.Numbers.{byte_spells}
-use Rattle.picky_layout.proofs.Strings.{string_spells, text_spells}
+use Rattle.picky_wire_base.specs.Numbers.{IsBytes}
+use Rattle.picky_wire_base.specs.Wire.{string_of}
+use Rattle.picky_wire_base.proofs.Fixed.{fixed_uint32_spells, raw_spells}
+use Rattle.picky_wire_base.proofs.Numbers.{byte_spells}
+use Rattle.picky_wire_base.proofs.Strings.{string_spells, text_spells}
 use Rattle.picky_keys.specs.Blob.{blob_of}
 use Rattle.picky_keys.proofs.ByteLaws.{bytes_by_test, bytes_first, bytes_joined, no_bytes, number_bytes, string_bytes_each}
 use Rattle.picky_keys.proofs.LineLaws.{blob_is_bytes}
@@ -24,7 +24,7 @@ use Rattle.picky_sshkey.specs.KdfLayout.{IsOption, unwritten}
 use Rattle.picky_sshkey.specs.Kept.{IsSshPrivateKey}
 use Rattle.picky_sshkey.specs.Written.{envelope_of, written_cipher, written_kdf, written_option}
 use Rattle.picky_sshkey.specs.carried.Kdf.{option_spells}
-use Rattle.picky_wire.proofs.WriteLemmas.{length-string_of}
+use Rattle.picky_wire_base.proofs.PieceLemmas.{length-string_of}
 use Rattle.picky_sshkey.proofs.KdfLemmas.{option_len}
 use Rattle.picky_sshkey.proofs.NameLaws.{cipher_is_name, kdf_is_name}
 

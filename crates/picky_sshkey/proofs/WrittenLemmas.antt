@@ -4,7 +4,7 @@ use Rattle.std.proofs.Common.{ap, arith, eqb-true, refl, subst, sym, ◌∙◌}
 use Rattle.std.specs.Prelude.{Bool, Option, None, Some, ◌==◌}
 use Rattle.std.specs.List.{concat}
 use Rattle.std.proofs.lemmas.List.{append-nil, append_assoc}
-use Rattle.picky_layout.specs.Wire.{string_of}
+use Rattle.picky_wire_base.specs.Wire.{string_of}
 use Rattle.picky_suite.specs.Ranges.{BcryptOk}
 use Rattle.picky_suite.proofs.RangeLemmas.{bcrypt_decides}
 use Rattle.picky_keys.specs.Blob.{blob_of}
@@ -15,7 +15,7 @@ use Rattle.picky_sshkey.specs.CipherNames.{cipher_name}
 use Rattle.picky_sshkey.specs.Envelope.{magic}
 use Rattle.picky_sshkey.specs.Kdf.{HasRoom, bcrypt, is_no_option, kdf_option_of, none, no_option}
 use Rattle.picky_sshkey.specs.Written.{count_up, envelope_of, may_derive, written_cipher, written_kdf, written_option}
-use Rattle.picky_wire.proofs.WriteLemmas.{length-string_of}
+use Rattle.picky_wire_base.proofs.PieceLemmas.{length-string_of}
 use Rattle.picky_sshkey.proofs.KdfLemmas.{no_option_len, option_len}
 use Rattle.picky_sshkey.proofs.WrittenLaws.{length-envelope_of}
 

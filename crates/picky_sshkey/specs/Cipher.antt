@@ -1,7 +1,7 @@
 -- The ciphers of a sealed private key, by OpenSSH's names for them (RFC 4344, section 4; RFC 4253, section 6.3).
 use Rattle.std.specs.Prelude.{List, ℕ, Bool, true, false}
-use Rattle.picky_layout.specs.Table.{Table}
-use Rattle.picky_layout.specs.Named.{names}
+use Rattle.picky_wire_base.specs.Table.{Table}
+use Rattle.picky_wire_base.specs.Named.{names}
 use Rattle.picky_sshkey.specs.declared.cipher.Cipher.{Cipher}
 use Rattle.picky_sshkey.specs.declared.cipher.Cipher.TheVariants.{Aes128Cbc, Aes256Cbc, Aes128Ctr, Aes256Ctr}
 use Rattle.picky_sshkey.specs.CipherNames.{cipher_name, ciphers_in_order}

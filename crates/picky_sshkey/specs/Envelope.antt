@@ -1,11 +1,11 @@
 -- The envelope of a private key (OpenSSH's PROTOCOL.key, section 1), which holds a public key and a block.
 use Rattle.std.specs.Prelude.{List, ℕ, codes}
-use Rattle.picky_layout.specs.Flaw.{Reason}
-use Rattle.picky_layout.specs.Grammar.{Grammar}
-use Rattle.picky_layout.specs.Combine.{at, done, ◌>>=◌}
-use Rattle.picky_layout.specs.Fixed.{raw, fixed_uint32}
-use Rattle.picky_layout.specs.Numbers.{byte}
-use Rattle.picky_layout.specs.Wire.{string, text}
+use Rattle.picky_wire_base.specs.Flaw.{Reason}
+use Rattle.picky_wire_base.specs.Grammar.{Grammar}
+use Rattle.picky_wire_base.specs.Combine.{at, done, ◌>>=◌}
+use Rattle.picky_wire_base.specs.Fixed.{raw, fixed_uint32}
+use Rattle.picky_wire_base.specs.Numbers.{byte}
+use Rattle.picky_wire_base.specs.Wire.{string, text}
 use Rattle.picky_sshkey.specs.declared.kdf.KdfOption.{KdfOption}
 use Rattle.picky_sshkey.specs.Kdf.{kdf_option}
 

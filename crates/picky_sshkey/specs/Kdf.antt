@@ -1,13 +1,13 @@
 -- What is given to a derivation beside the passphrase (OpenSSH's PROTOCOL.key, section 2): nothing, or bcrypt's salt and rounds.
 use Rattle.std.specs.Prelude.{List, [], ℕ, Bool, ◌++◌, ◌==◌, ◌&&◌, ◌<◌, ◌-◌, ◌^◌, if◌then◌else◌, length, codes}
 use Rattle.std.specs.Int.{w32, to_be_bytes}
-use Rattle.picky_layout.specs.Flaw.{Flaw}
-use Rattle.picky_layout.specs.Grammar.{Grammar}
-use Rattle.picky_layout.specs.Combine.{done, ◌>>=◌}
-use Rattle.picky_layout.specs.Wire.{string, string_of, uint32}
-use Rattle.picky_layout.specs.Inside.{begins, inside}
-use Rattle.picky_layout.specs.Narrowed.{Narrowing}
-use Rattle.picky_layout.specs.OrEmpty.{empty_or}
+use Rattle.picky_wire_base.specs.Flaw.{Flaw}
+use Rattle.picky_wire_base.specs.Grammar.{Grammar}
+use Rattle.picky_wire_base.specs.Combine.{done, ◌>>=◌}
+use Rattle.picky_wire_base.specs.Wire.{string, string_of, uint32}
+use Rattle.picky_wire_base.specs.Inside.{begins, inside}
+use Rattle.picky_wire_base.specs.Narrowed.{Narrowing}
+use Rattle.picky_wire_base.specs.OrEmpty.{empty_or}
 use Rattle.picky_sshkey.specs.declared.kdf.KdfOption.{KdfOption}
 
 -- the names of no cipher and no derivation, and of the one derivation

@@ -1,9 +1,9 @@
 -- The options of a key derivation as an element of the wire: how they are read, and which aren't written.
 use Rattle.std.specs.Prelude.{◌<◌, ◌-◌, ◌^◌, List, ℕ, nat_lt, length, Option, None, Some, Result, Ok, if◌then◌else◌}
-use Rattle.picky_layout.specs.Grammar.{Grammar}
-use Rattle.picky_layout.specs.Combine.{tag}
-use Rattle.picky_layout.specs.Outcome.{and_then, map_err}
-use Rattle.picky_layout.specs.Wire.{string}
+use Rattle.picky_wire_base.specs.Grammar.{Grammar}
+use Rattle.picky_wire_base.specs.Combine.{tag}
+use Rattle.picky_wire_base.specs.Outcome.{and_then, map_err}
+use Rattle.picky_wire_base.specs.Wire.{string}
 use Rattle.picky_wire.specs.Flaws.{wire_error}
 use Rattle.picky_wire.specs.declared.error.WireError.{WireError}
 use Rattle.picky_wire.specs.declared.error.WireError.TheVariants as errors

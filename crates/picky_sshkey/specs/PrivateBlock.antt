@@ -1,10 +1,10 @@
 -- The block of a private key (OpenSSH's PROTOCOL.key, section 3): two equal numbers, the key, its comment, and padding.
 use Rattle.std.specs.Prelude.{List, ℕ}
-use Rattle.picky_layout.specs.Grammar.{Grammar}
-use Rattle.picky_layout.specs.Combine.{tag, narrow, done, ◌>>=◌}
-use Rattle.picky_layout.specs.Fixed.{is_number}
-use Rattle.picky_layout.specs.Flaw.{Flaw}
-use Rattle.picky_layout.specs.Wire.{text, uint32}
+use Rattle.picky_wire_base.specs.Grammar.{Grammar}
+use Rattle.picky_wire_base.specs.Combine.{tag, narrow, done, ◌>>=◌}
+use Rattle.picky_wire_base.specs.Fixed.{is_number}
+use Rattle.picky_wire_base.specs.Flaw.{Flaw}
+use Rattle.picky_wire_base.specs.Wire.{text, uint32}
 use Rattle.picky_wire.specs.Flaws.{wire_error}
 use Rattle.picky_sshkey_blob.specs.declared.error.SshPrivateKeyError.{SshPrivateKeyError}
 use Rattle.picky_sshkey_blob.specs.declared.error.SshPrivateKeyError.TheVariants as errors

@@ -4,10 +4,10 @@ use Rattle.std.specs.Prelude.{◌||◌, ◌%◌, ◌==◌, Bool, false, List, �
 use Rattle.std.specs.Prelude.{if◌then◌else◌, is_some, not}
 use Rattle.std.specs.Option.{ok_or}
 use Rattle.std.specs.Str.{bytes_eq}
-use Rattle.picky_layout.specs.Flaw.{Why, Reason, Flawed, Length, Magic, Name, Number}
-use Rattle.picky_layout.specs.Front.{read_front}
-use Rattle.picky_layout.specs.Outcome.{and_then, map_err}
-use Rattle.picky_layout.specs.Table.{find_entry}
+use Rattle.picky_wire_base.specs.Flaw.{Why, Reason, Flawed, Length, Magic, Name, Number}
+use Rattle.picky_wire_base.specs.Front.{read_front}
+use Rattle.picky_wire_base.specs.Outcome.{and_then, map_err}
+use Rattle.picky_wire_base.specs.Table.{find_entry}
 use Rattle.picky_sshkey_blob.specs.PemRefusal.{pem_content}
 use Rattle.picky_suite.specs.Meanings.{Meanings}
 use Rattle.picky_suite.specs.Ranges.{bcrypt_fits}

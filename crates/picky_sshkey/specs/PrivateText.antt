@@ -1,7 +1,7 @@
 -- What an OpenSSH private key's text says under a passphrase (OpenSSH's PROTOCOL.key).
 use Rattle.std.specs.Prelude.{◌≡◌, ◌⊎◌, ◌<◌, ◌^◌, List, [], ℕ, true, Option, None, Some, length}
 use Rattle.std.specs.Str.{trim_end}
-use Rattle.picky_layout.specs.Grammar.{Fits}
+use Rattle.picky_wire_base.specs.Grammar.{Fits}
 use Rattle.picky_sshkey_blob.specs.Pem.{IsPem}
 use Rattle.picky_suite.specs.Meanings.{Meanings}
 use Rattle.picky_suite.specs.Ranges.{BcryptOk, IsWhole}

@@ -1,10 +1,10 @@
 //! The block of a private key, seen where it was opened.
 
 ghost use Rattle.std.specs.Prelude.{◌≡◌, ◌^◌, ◌<◌, Ok, Err, drop, length, IfOk, IfErr};
-ghost use Rattle.picky_layout.specs.Flaw.{Flaw, Flawed};
-ghost use Rattle.picky_layout.specs.Front.{read_front};
-ghost use Rattle.picky_wire.specs.Gives.{Gives};
-ghost use Rattle.picky_wire.specs.View.{why_of};
+ghost use Rattle.picky_wire_base.specs.Flaw.{Flaw, Flawed};
+ghost use Rattle.picky_wire_base.specs.Front.{read_front};
+ghost use Rattle.picky_wire_base.specs.Gives.{Gives};
+ghost use Rattle.picky_wire_base.specs.View.{why_of};
 ghost use Rattle.picky_sshkey_blob.specs.Key.{IsPrivateKey};
 ghost use Rattle.picky_sshkey_blob.specs.View.{key_seen};
 ghost use Rattle.picky_sshkey.specs.PrivateBlock.{check_numbers, flaw_error, private_block};

@@ -1,7 +1,7 @@
 //! The ciphers of a sealed private key.
 
 ghost use Rattle.std.specs.Prelude.{◌≡◌, ◌≤◌, bytes_eq, length};
-ghost use Rattle.picky_layout.specs.Table.{find_entry};
+ghost use Rattle.picky_wire_base.specs.Table.{find_entry};
 ghost use Rattle.picky_sshkey.specs.Cipher.{ciphers, key_len, is_cbc};
 ghost use Rattle.picky_sshkey.specs.CipherNames.{cipher_name};
 

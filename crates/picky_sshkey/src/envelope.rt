@@ -1,11 +1,11 @@
 //! The envelope of a private key, seen in the content of its text.
 
 ghost use Rattle.std.specs.Prelude.{◌≡◌, ◌^◌, ◌<◌, ⊤, drop, length, Ok, Err, IfOk, IfErr};
-ghost use Rattle.picky_layout.specs.Front.{read_front};
-ghost use Rattle.picky_layout.specs.Outcome.{map_err};
-ghost use Rattle.picky_layout.specs.Flaw.{Flawed};
-ghost use Rattle.picky_layout.specs.Fixed.{fixed_uint32, raw};
-ghost use Rattle.picky_wire.specs.View.{Seen, why_of, why_in};
+ghost use Rattle.picky_wire_base.specs.Front.{read_front};
+ghost use Rattle.picky_wire_base.specs.Outcome.{map_err};
+ghost use Rattle.picky_wire_base.specs.Flaw.{Flawed};
+ghost use Rattle.picky_wire_base.specs.Fixed.{fixed_uint32, raw};
+ghost use Rattle.picky_wire_base.specs.View.{Seen, why_of, why_in};
 ghost use Rattle.picky_sshkey.specs.Envelope.{envelope, envelope_fields, envelope_parts, magic};
 ghost use Rattle.picky_sshkey.specs.Kdf.{kdf_option};
 ghost use Rattle.picky_sshkey.specs.PrivateRefusal.{envelope_error, envelope_why};
@@ -51,7 +51,7 @@ pub fn envelope_in(content: &[u8]) -> Result<EnvelopeView<'_>, SshPrivateKeyErro
 }
 
 /// The place after the magic.
-#[tactic(auto, unfolding(crate::specs::Envelope::magic, picky_layout::specs::Fixed::raw, picky_layout::specs::Wire::byte_array))]
+#[tactic(auto, unfolding(crate::specs::Envelope::magic, picky_wire_base::specs::Fixed::raw, picky_wire_base::specs::Wire::byte_array))]
 fn magic_at(content: &[u8]) -> Result<usize, SshPrivateKeyError>
     ensures ok { IfOk result (λ next. (raw 0 magic).read content.now ≡ Ok (magic, drop next content.now)) }
     ensures err { IfErr result (λ e. map_err envelope_error ((raw 0 magic).read content.now) ≡ Err e) }

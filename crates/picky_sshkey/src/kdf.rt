@@ -2,10 +2,10 @@
 
 ghost use Rattle.std.specs.Prelude.{◌≡◌, ◌^◌, ◌<◌, Ok, Err, IfOk, IfErr, length};
 ghost use Rattle.std.specs.List.{concat};
-ghost use Rattle.picky_layout.specs.Flaw.{Flawed};
-ghost use Rattle.picky_layout.specs.Front.{read_front};
-ghost use Rattle.picky_layout.specs.Outcome.{map_err};
-ghost use Rattle.picky_wire.specs.View.{why_of};
+ghost use Rattle.picky_wire_base.specs.Flaw.{Flawed};
+ghost use Rattle.picky_wire_base.specs.Front.{read_front};
+ghost use Rattle.picky_wire_base.specs.Outcome.{map_err};
+ghost use Rattle.picky_wire_base.specs.View.{why_of};
 ghost use Rattle.picky_sshkey.specs.Kdf.{HasRoom, bcrypt, is_no_option as is_no_option_of, kdf_fields, kdf_option_of, no_option, none, option_inside};
 ghost use Rattle.picky_sshkey.specs.View.{option_seen};
 

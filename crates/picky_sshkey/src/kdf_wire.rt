@@ -1,11 +1,11 @@
 //! The options of a key derivation, as an element of the wire.
 
 ghost use Rattle.std.specs.Prelude.{◌≡◌, ◌≢◌, ◌^◌, ◌<◌, length, IfErr};
-ghost use Rattle.picky_wire.specs.Gives.{Gives};
-ghost use Rattle.picky_layout.specs.Flaw.{Flaw, Flawed};
-ghost use Rattle.picky_layout.specs.Wire.{string};
+ghost use Rattle.picky_wire_base.specs.Gives.{Gives};
+ghost use Rattle.picky_wire_base.specs.Flaw.{Flaw, Flawed};
+ghost use Rattle.picky_wire_base.specs.Wire.{string};
 ghost use Rattle.picky_wire.specs.Flaws.{wire_error};
-ghost use Rattle.picky_wire.specs.View.{why_of};
+ghost use Rattle.picky_wire_base.specs.View.{why_of};
 ghost use Rattle.picky_sshkey.specs.Kdf.{kdf_option_of};
 ghost use Rattle.picky_sshkey.specs.KdfLayout.{IsOption, kdf_layout, option_said as option_said_of, read_option, unwritten};
 ghost use Rattle.picky_sshkey.specs.carried.Kdf.{option_own, option_reads_layout, option_used, option_solid, option_spells, unwritten_for_length};

@@ -3,7 +3,7 @@
 ghost use Rattle.std.specs.Prelude.{◌≡◌, ◌^◌, ◌<◌, [], true, false, Ok, Err, length, IfOk, if◌then◌else◌};
 ghost use Rattle.std.specs.Option.{option_copied};
 ghost use Rattle.std.specs.Str.{trim_end};
-ghost use Rattle.picky_wire.specs.Gives.{Gives};
+ghost use Rattle.picky_wire_base.specs.Gives.{Gives};
 ghost use Rattle.picky_keys.specs.LineRefusal.{is_short_text};
 ghost use Rattle.picky_sshkey_blob.specs.Key.{IsPrivateKey, public_part as public_part_of};
 ghost use Rattle.picky_sshkey_blob.specs.View.{key_seen};

@@ -2,10 +2,10 @@
 
 ghost use Rattle.std.specs.Prelude.{◌≡◌, ◌≢◌, ◌++◌, List, ℕ, Option, Ok, Err, length};
 ghost use Rattle.std.specs.Option.{IfSome};
-ghost use Rattle.picky_layout.specs.Numbers.{IsBytes};
+ghost use Rattle.picky_wire_base.specs.Numbers.{IsBytes};
 ghost use Rattle.picky_sshkey_blob.specs.declared.pem_error.PemError.TheVariants as pem_errors;
 ghost use Rattle.picky_suite.specs.Meanings.{Meanings};
-ghost use Rattle.picky_wire.specs.Equality.{IsEquality, IsEqualityOf};
+ghost use Rattle.picky_wire_base.specs.Equality.{IsEquality, IsEqualityOf};
 ghost use Rattle.picky_sshkey_blob.specs.declared.error.SshPrivateKeyError.TheVariants as errors;
 ghost use Rattle.picky_sshkey.specs.declared.kdf.KdfOption.{KdfOption as Salted};
 ghost use Rattle.picky_sshkey.specs.declared.private_key.SshPrivateKey.{SshPrivateKey as Key};

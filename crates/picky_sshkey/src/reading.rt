@@ -2,12 +2,12 @@
 
 ghost use Rattle.std.specs.Prelude.{◌≡◌, ◌≢◌, ◌⊎◌, ◌^◌, ◌<◌, true, false, None, Some, Ok, Err, length, not, IfOk, IfErr, IfSome, if◌then◌else◌};
 ghost use Rattle.std.specs.Option.{option_copied};
-ghost use Rattle.picky_layout.specs.Front.{read_front};
-ghost use Rattle.picky_layout.specs.Outcome.{and_then};
+ghost use Rattle.picky_wire_base.specs.Front.{read_front};
+ghost use Rattle.picky_wire_base.specs.Outcome.{and_then};
 ghost use Rattle.picky_suite.specs.Asked.{GivesAsked, LeavesSuite};
 ghost use Rattle.picky_suite.specs.Ranges.{BcryptOk, IsWhole};
 ghost use Rattle.picky_wire.specs.Count.{Rose};
-ghost use Rattle.picky_wire.specs.Gives.{Gives};
+ghost use Rattle.picky_wire_base.specs.Gives.{Gives};
 ghost use Rattle.picky_keys.specs.LineRefusal.{is_short_text};
 ghost use Rattle.picky_sshkey.specs.Cipher.{is_cbc};
 ghost use Rattle.picky_sshkey.specs.PrivateRefusal.{content_asks, content_key, envelope_under, key_closed, text_asks, text_key};

@@ -4,9 +4,9 @@ ghost use Rattle.std.specs.Prelude.{◌≡◌, ◌⊎◌, ◌^◌, ◌<◌, ◌�
 ghost use Rattle.std.specs.List.{concat};
 ghost use Rattle.std.specs.Option.{IfSome};
 ghost use Rattle.picky_suite.specs.Asked.{GivesAsked, LeavesSuite};
-ghost use Rattle.picky_layout.specs.Wire.{string_of};
+ghost use Rattle.picky_wire_base.specs.Wire.{string_of};
 ghost use Rattle.picky_wire.specs.Count.{Rose};
-ghost use Rattle.picky_wire.specs.Gives.{Gives};
+ghost use Rattle.picky_wire_base.specs.Gives.{Gives};
 ghost use Rattle.picky_sshkey_blob.specs.Pem.{pem_text as pem_text_of};
 ghost use Rattle.picky_keys.specs.Blob.{blob_of};
 ghost use Rattle.picky_keys.specs.Key.{IsString, IsText};

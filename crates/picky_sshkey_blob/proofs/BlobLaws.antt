@@ -1,13 +1,13 @@
 -- A private key's blob that is written is read back, and one that is read stands where it is spelled.
 use Rattle.std.specs.Prelude.{◌≡◌, List, ℕ, ◌++◌, drop, Some, Result, Ok, Err}
 use Rattle.std.proofs.Common.{ap, subst, ◌∙◌}
-use Rattle.picky_layout.specs.Flaw.{Why, Reason}
-use Rattle.picky_layout.specs.Numbers.{IsBytes}
-use Rattle.picky_layout.proofs.Numbers.{bytes_in_front}
-use Rattle.picky_layout.specs.Grammar.{Fits}
-use Rattle.picky_layout.specs.Outcome.{map_err}
-use Rattle.picky_layout.specs.carried.Outcome.{map_err_ok}
-use Rattle.picky_wire.specs.View.{Sees, why_in}
+use Rattle.picky_wire_base.specs.Flaw.{Why, Reason}
+use Rattle.picky_wire_base.specs.Numbers.{IsBytes}
+use Rattle.picky_wire_base.proofs.Numbers.{bytes_in_front}
+use Rattle.picky_wire_base.specs.Grammar.{Fits}
+use Rattle.picky_wire_base.specs.Outcome.{map_err}
+use Rattle.picky_wire_base.specs.carried.Outcome.{map_err_ok}
+use Rattle.picky_wire_base.specs.View.{Sees, why_in}
 use Rattle.picky_sshkey_blob.specs.declared.key.SshBasePrivateKey.{SshBasePrivateKey}
 use Rattle.picky_sshkey_blob.specs.declared.view.PrivateView.{PrivateView}
 use Rattle.picky_sshkey_blob.specs.declared.view.Stopped.{Stopped}

@@ -3,9 +3,9 @@ use Rattle.std.proofs.Common.{◌≡◌, ◌<◌, ◌^◌, ℕ, List, ◌++◌, 
 use Rattle.std.specs.Option.{ok_or}
 use Rattle.std.proofs.lemmas.Bool.{ltb-true, lt-ltb}
 use Rattle.std.proofs.lemmas.List.{append_assoc}
-use Rattle.picky_layout.specs.Numbers.{IsBytes}
-use Rattle.picky_layout.specs.carried.Outcome.{and_then_ok, passed_ok}
-use Rattle.picky_layout.proofs.Numbers.{bytes_in_front, bytes_behind}
+use Rattle.picky_wire_base.specs.Numbers.{IsBytes}
+use Rattle.picky_wire_base.specs.carried.Outcome.{and_then_ok, passed_ok}
+use Rattle.picky_wire_base.proofs.Numbers.{bytes_in_front, bytes_behind}
 use Rattle.picky_text.specs.Base64.{base64_of, decoded}
 use Rattle.picky_text.proofs.Base64Laws.{base64_is_read_back, base64_is_of_what_it_gives, decoded_is_bytes}
 use Rattle.picky_sshkey_blob.specs.Pem.{header, footer, packed, IsPem}

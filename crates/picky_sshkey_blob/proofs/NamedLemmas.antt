@@ -3,19 +3,19 @@
 use Rattle.std.specs.Prelude.{◌≡◌, ◌≢◌, ◌<◌, ◌^◌, ◌++◌, ℕ, List, [], Option, Some, None, ok_or, length, IsUtf8}
 use Rattle.std.specs.Prelude.{Result, Ok, Err}
 use Rattle.std.proofs.Common.{refl, ap, ◌∙◌, arith}
-use Rattle.picky_layout.specs.Flaw.{Flaw, Reason, Flawed, Name}
-use Rattle.picky_layout.specs.Outcome.{and_then, map_err}
-use Rattle.picky_layout.specs.carried.Outcome.{map_err_ok}
-use Rattle.picky_layout.specs.Grammar.{Grammar}
-use Rattle.picky_layout.specs.Joined.{used_then}
-use Rattle.picky_layout.specs.Combine.{tag, ◌>>=◌}
-use Rattle.picky_layout.specs.Narrowed.{meant}
-use Rattle.picky_layout.specs.Table.{Table, find_entry}
-use Rattle.picky_layout.specs.Entry.{entry}
-use Rattle.picky_layout.specs.Named.{named}
-use Rattle.picky_layout.specs.Wire.{text, string_of}
-use Rattle.picky_layout.proofs.Strings.{text_reads_back}
-use Rattle.picky_layout.proofs.Narrowed.{place_keeps}
+use Rattle.picky_wire_base.specs.Flaw.{Flaw, Reason, Flawed, Name}
+use Rattle.picky_wire_base.specs.Outcome.{and_then, map_err}
+use Rattle.picky_wire_base.specs.carried.Outcome.{map_err_ok}
+use Rattle.picky_wire_base.specs.Grammar.{Grammar}
+use Rattle.picky_wire_base.specs.Joined.{used_then}
+use Rattle.picky_wire_base.specs.Combine.{tag, ◌>>=◌}
+use Rattle.picky_wire_base.specs.Narrowed.{meant}
+use Rattle.picky_wire_base.specs.Table.{Table, find_entry}
+use Rattle.picky_wire_base.specs.Entry.{entry}
+use Rattle.picky_wire_base.specs.Named.{named}
+use Rattle.picky_wire_base.specs.Wire.{text, string_of}
+use Rattle.picky_wire_base.proofs.Strings.{text_reads_back}
+use Rattle.picky_wire_base.proofs.Narrowed.{place_keeps}
 use Rattle.picky_wire.specs.declared.error.WireError.{WireError}
 use Rattle.picky_wire.specs.declared.error.WireError.TheVariants as errors
 use Rattle.picky_wire.specs.declared.stop.Stop.{Stop}

@@ -1,12 +1,12 @@
 -- No field after the name is refused for a name.
 use Rattle.std.specs.Prelude.{List, ℕ, ◌&&◌, ◌==◌, nat_le, length, take, drop, bytes_eq}
 use Rattle.std.proofs.Common.{subst}
-use Rattle.picky_layout.specs.Flaw.{Flaw, Length}
-use Rattle.picky_layout.specs.Grammar.{Grammar}
-use Rattle.picky_layout.specs.Combine.{at}
-use Rattle.picky_layout.specs.Numbers.{byte}
-use Rattle.picky_layout.specs.Wire.{string, text, of_length}
-use Rattle.picky_layout.specs.Mpint.{mpint}
+use Rattle.picky_wire_base.specs.Flaw.{Flaw, Length}
+use Rattle.picky_wire_base.specs.Grammar.{Grammar}
+use Rattle.picky_wire_base.specs.Combine.{at}
+use Rattle.picky_wire_base.specs.Numbers.{byte}
+use Rattle.picky_wire_base.specs.Wire.{string, text, of_length}
+use Rattle.picky_wire_base.specs.Mpint.{mpint}
 use Rattle.picky_keys.specs.declared.kind.KeyKind.{KeyKind}
 use Rattle.picky_keys.specs.declared.kind.KeyKind.TheVariants as kinds
 use Rattle.picky_keys.specs.declared.curve.EcCurve.{EcCurve}

@@ -1,11 +1,11 @@
 -- For which reasons a layout is refused: what holds of the reasons of its fields holds of its own.
 use Rattle.std.specs.Prelude.{◌≡◌, Bool, true, false, if◌then◌else◌, List, ℕ, ◌⊎◌, Option, Some, None, ok_or, Result, Ok, Err}
 use Rattle.std.proofs.Common.{refl, ap, subst, inl, inr}
-use Rattle.picky_layout.specs.Flaw.{Flaw, Reason, Flawed, Length, Magic, Name, Number}
-use Rattle.picky_layout.specs.Outcome.{and_then, map_err}
-use Rattle.picky_layout.specs.Grammar.{Grammar}
-use Rattle.picky_layout.specs.Narrowed.{Narrowing, meant}
-use Rattle.picky_layout.specs.Combine.{at, placed, narrow}
+use Rattle.picky_wire_base.specs.Flaw.{Flaw, Reason, Flawed, Length, Magic, Name, Number}
+use Rattle.picky_wire_base.specs.Outcome.{and_then, map_err}
+use Rattle.picky_wire_base.specs.Grammar.{Grammar}
+use Rattle.picky_wire_base.specs.Narrowed.{Narrowing, meant}
+use Rattle.picky_wire_base.specs.Combine.{at, placed, narrow}
 
 -- each reason for which the reading is refused is such a one
 abbrev pub RefusesAs : {E A : Type 0} → (E → Type 0) → (List ℕ → Result (A × List ℕ) E) → Type 0

@@ -2,10 +2,10 @@
 use Rattle.std.specs.Prelude.{Bool, true, false, if◌then◌else◌, ◌==◌, ◌<◌, ◌^◌, None, length, replicate, IsUtf8}
 use Rattle.std.proofs.Common.{◌≡◌, ℕ, List, [], ◌∷◌, ◌++◌, refl, ap, ◌∙◌, inl, inr, Err}
 use Rattle.std.specs.Str.{is_utf8, chars}
-use Rattle.picky_layout.specs.Flaw.{Flaw, Reason, Flawed, Short, NotUtf8, Big, Length, Magic, Name, Number}
-use Rattle.picky_layout.specs.Outcome.{map_err, and_then}
-use Rattle.picky_layout.specs.Table.{find_entry}
-use Rattle.picky_layout.specs.Wire.{byte_array, uint32, string, string_of, text}
+use Rattle.picky_wire_base.specs.Flaw.{Flaw, Reason, Flawed, Short, NotUtf8, Big, Length, Magic, Name, Number}
+use Rattle.picky_wire_base.specs.Outcome.{map_err, and_then}
+use Rattle.picky_wire_base.specs.Table.{find_entry}
+use Rattle.picky_wire_base.specs.Wire.{byte_array, uint32, string, string_of, text}
 use Rattle.picky_keys.specs.declared.kind.KeyKind.{KeyKind}
 use Rattle.picky_keys.specs.declared.kind.KeyKind.TheVariants as kinds
 use Rattle.picky_keys.specs.declared.curve.EdAlgorithm.TheVariants.{Ed25519}

@@ -1,11 +1,11 @@
 -- Lemmas on what a reader takes: one layout, and then the one that its value decides.
 use Rattle.std.specs.Prelude.{◌≡◌, ◌≤◌, ℕ, List, Option, IsSome, Result, Ok, Err}
 use Rattle.std.proofs.Common.{refl, sym, ap, subst, ◌∙◌, arith}
-use Rattle.picky_layout.specs.Flaw.{Flaw, Reason, Flawed}
-use Rattle.picky_layout.specs.Outcome.{and_then, map_err}
-use Rattle.picky_layout.specs.Grammar.{Grammar}
-use Rattle.picky_layout.specs.Joined.{used_then}
-use Rattle.picky_layout.specs.Combine.{at, placed}
+use Rattle.picky_wire_base.specs.Flaw.{Flaw, Reason, Flawed}
+use Rattle.picky_wire_base.specs.Outcome.{and_then, map_err}
+use Rattle.picky_wire_base.specs.Grammar.{Grammar}
+use Rattle.picky_wire_base.specs.Joined.{used_then}
+use Rattle.picky_wire_base.specs.Combine.{at, placed}
 use Rattle.picky_wire.specs.declared.stop.Stop.{Stop}
 use Rattle.picky_wire.specs.Count.{Rose}
 use Rattle.picky_wire.specs.Flaws.{TakesLayout, flaw_stop, stop_causes}

@@ -2,23 +2,23 @@
 use Rattle.std.specs.Prelude.{◌≡◌, List, ℕ, ◌+◌, ◌-◌, ◌++◌, ◌≤◌, ⊤, ◌==◌, length, take, drop, IfOk, IfErr, Result, Ok, Err}
 use Rattle.std.proofs.Common.{refl, sym, ap, subst, ◌∙◌, arith, inl, inr}
 use Rattle.std.proofs.lemmas.List.{take-append-drop, length-take-le, length-drop, take-take}
-use Rattle.picky_layout.specs.Flaw.{Why, Reason, Flawed, Length, Name}
-use Rattle.picky_layout.specs.Grammar.{Grammar}
-use Rattle.picky_layout.specs.Outcome.{and_then, map_err}
-use Rattle.picky_layout.specs.Narrowed.{meant}
-use Rattle.picky_layout.specs.Combine.{at}
-use Rattle.picky_layout.specs.Numbers.{IsBytes}
-use Rattle.picky_layout.proofs.Numbers.{bytes_in_front, back_bytes}
-use Rattle.picky_layout.proofs.Narrowed.{place_cases}
-use Rattle.picky_layout.specs.Entry.{entry}
-use Rattle.picky_layout.specs.Table.{find_entry}
-use Rattle.picky_layout.specs.Wire.{string, text, of_length}
+use Rattle.picky_wire_base.specs.Flaw.{Why, Reason, Flawed, Length, Name}
+use Rattle.picky_wire_base.specs.Grammar.{Grammar}
+use Rattle.picky_wire_base.specs.Outcome.{and_then, map_err}
+use Rattle.picky_wire_base.specs.Narrowed.{meant}
+use Rattle.picky_wire_base.specs.Combine.{at}
+use Rattle.picky_wire_base.specs.Numbers.{IsBytes}
+use Rattle.picky_wire_base.proofs.Numbers.{bytes_in_front, back_bytes}
+use Rattle.picky_wire_base.proofs.Narrowed.{place_cases}
+use Rattle.picky_wire_base.specs.Entry.{entry}
+use Rattle.picky_wire_base.specs.Table.{find_entry}
+use Rattle.picky_wire_base.specs.Wire.{string, text, of_length}
 use Rattle.picky_keys.specs.declared.kind.KeyKind.{KeyKind}
 use Rattle.picky_keys.specs.KeyNameTables.{key_types}
-use Rattle.picky_wire.specs.declared.view.Stuck.{Stuck}
-use Rattle.picky_wire.specs.declared.view.Stuck.TheVariants as stucks
-use Rattle.picky_wire.specs.declared.view.Part.{Part}
-use Rattle.picky_wire.specs.View.{Seen, Lies, end_of, part_bytes, why_in, why_of}
+use Rattle.picky_wire_base.specs.declared.view.Stuck.{Stuck}
+use Rattle.picky_wire_base.specs.declared.view.Stuck.TheVariants as stucks
+use Rattle.picky_wire_base.specs.declared.view.Part.{Part}
+use Rattle.picky_wire_base.specs.View.{Seen, Lies, end_of, part_bytes, why_in, why_of}
 use Rattle.picky_keys.specs.Key.{IsText}
 use Rattle.picky_keys.specs.Blob.{key_type, ed_key}
 use Rattle.picky_keys.proofs.KeyLaws.{text_keeps}

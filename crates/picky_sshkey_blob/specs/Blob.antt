@@ -2,12 +2,12 @@
 use Rattle.std.specs.Prelude.{List, [], ◌∷◌, ℕ, ◌++◌}
 use Rattle.std.specs.Int.{w8, to_be_bytes}
 use Rattle.std.specs.List.{concat}
-use Rattle.picky_layout.specs.Flaw.{Reason, Length}
-use Rattle.picky_layout.specs.Grammar.{Grammar}
-use Rattle.picky_layout.specs.Combine.{at, done, narrow, ◌>>=◌}
-use Rattle.picky_layout.specs.Wire.{string, string_of, text}
-use Rattle.picky_layout.specs.Numbers.{byte}
-use Rattle.picky_layout.specs.Mpint.{mpint, mpint_of}
+use Rattle.picky_wire_base.specs.Flaw.{Reason, Length}
+use Rattle.picky_wire_base.specs.Grammar.{Grammar}
+use Rattle.picky_wire_base.specs.Combine.{at, done, narrow, ◌>>=◌}
+use Rattle.picky_wire_base.specs.Wire.{string, string_of, text}
+use Rattle.picky_wire_base.specs.Numbers.{byte}
+use Rattle.picky_wire_base.specs.Mpint.{mpint, mpint_of}
 use Rattle.picky_keys.specs.declared.curve.EcCurve.{EcCurve}
 use Rattle.picky_keys.specs.declared.curve.EcCurve.TheVariants.{NistP256}
 use Rattle.picky_keys.specs.declared.kind.KeyKind.{KeyKind}

@@ -1,6 +1,6 @@
 -- A secret of 32 bytes that stands before a copy of the public key, as an Ed25519 private key has it (PROTOCOL.key).
 use Rattle.std.specs.Prelude.{List, ℕ}
-use Rattle.picky_layout.specs.Narrowed.{Narrowing}
+use Rattle.picky_wire_base.specs.Narrowed.{Narrowing}
 use Rattle.picky_sshkey_blob.specs.Before.{StandsBefore, read_before}
 use Rattle.picky_sshkey_blob.specs.carried.Before.{before_sound, before_complete}
 

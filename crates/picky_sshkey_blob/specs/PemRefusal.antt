@@ -2,7 +2,7 @@
 use Rattle.std.specs.Prelude.{◌==◌, ◌^◌, nat_lt, length, List, [], ◌∷◌, ℕ, Option, Some, None}
 use Rattle.std.specs.Prelude.{Result, Ok, Err, if◌then◌else◌, is_some, option_map}
 use Rattle.std.specs.Option.{ok_or}
-use Rattle.picky_layout.specs.Outcome.{and_then}
+use Rattle.picky_wire_base.specs.Outcome.{and_then}
 use Rattle.picky_text.specs.Base64.{decoded}
 use Rattle.picky_sshkey_blob.specs.declared.pem_error.PemError.{PemError}
 use Rattle.picky_sshkey_blob.specs.declared.pem_error.PemError.TheVariants as errors

@@ -2,8 +2,8 @@
 use Rattle.std.specs.Prelude.{◌≡◌, List, [], ◌∷◌, ℕ, ◌++◌, ◌<◌, ◌^◌, length}
 use Rattle.std.specs.Int.{w8, to_be_bytes}
 use Rattle.std.specs.List.{concat}
-use Rattle.picky_layout.specs.Row.{Row}
-use Rattle.picky_layout.specs.Wire.{string_of}
+use Rattle.picky_wire_base.specs.Row.{Row}
+use Rattle.picky_wire_base.specs.Wire.{string_of}
 use Rattle.picky_keys.specs.KeyNames.{kind_name}
 use Rattle.picky_keys.specs.BlobSpelled.{NumberSpelled, AnyText}
 use Rattle.picky_sshkey_blob.specs.declared.key.SshBasePrivateKey.{SshBasePrivateKey}

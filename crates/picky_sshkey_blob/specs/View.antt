@@ -1,14 +1,14 @@
 -- What a private key's view shows, where its parts lie, and what a view is stopped by.
 use Rattle.std.specs.Prelude.{◌≡◌, ◌-◌, List, [], ◌∷◌, ℕ, drop, Result, Ok, Err}
-use Rattle.picky_layout.specs.Flaw.{Why, Reason}
-use Rattle.picky_layout.specs.Grammar.{Grammar}
-use Rattle.picky_layout.specs.Outcome.{map_err}
-use Rattle.picky_layout.specs.Wire.{string, text}
-use Rattle.picky_layout.specs.Numbers.{byte}
-use Rattle.picky_layout.specs.Mpint.{mpint}
-use Rattle.picky_wire.specs.declared.view.Stuck.{Stuck}
-use Rattle.picky_wire.specs.declared.view.Stuck.TheVariants as stucks
-use Rattle.picky_wire.specs.View.{Lies, Places, end_of, stuck_shown, why_of}
+use Rattle.picky_wire_base.specs.Flaw.{Why, Reason}
+use Rattle.picky_wire_base.specs.Grammar.{Grammar}
+use Rattle.picky_wire_base.specs.Outcome.{map_err}
+use Rattle.picky_wire_base.specs.Wire.{string, text}
+use Rattle.picky_wire_base.specs.Numbers.{byte}
+use Rattle.picky_wire_base.specs.Mpint.{mpint}
+use Rattle.picky_wire_base.specs.declared.view.Stuck.{Stuck}
+use Rattle.picky_wire_base.specs.declared.view.Stuck.TheVariants as stucks
+use Rattle.picky_wire_base.specs.View.{Lies, Places, end_of, stuck_shown, why_of}
 use Rattle.picky_keys.specs.Key.{IsText}
 use Rattle.picky_keys.specs.Blob.{ed_key}
 use Rattle.picky_sshkey_blob.specs.declared.key.SshBasePrivateKey.{SshBasePrivateKey}

@@ -1,12 +1,12 @@
 //! The laws of this crate, each as the contract of a function that does no more than it says.
 
 ghost use Rattle.std.specs.Prelude.{◌≡◌, ◌++◌, List, ℕ, Some, Result, Ok, Err, drop};
-ghost use Rattle.picky_layout.specs.Flaw.{Why};
-ghost use Rattle.picky_layout.specs.Outcome.{map_err};
-ghost use Rattle.picky_layout.specs.Numbers.{IsBytes};
-ghost use Rattle.picky_layout.specs.Grammar.{Fits};
-ghost use Rattle.picky_wire.specs.View.{Sees, why_in};
-ghost use Rattle.picky_wire.specs.Equality.{IsEquality, IsEqualityOf};
+ghost use Rattle.picky_wire_base.specs.Flaw.{Why};
+ghost use Rattle.picky_wire_base.specs.Outcome.{map_err};
+ghost use Rattle.picky_wire_base.specs.Numbers.{IsBytes};
+ghost use Rattle.picky_wire_base.specs.Grammar.{Fits};
+ghost use Rattle.picky_wire_base.specs.View.{Sees, why_in};
+ghost use Rattle.picky_wire_base.specs.Equality.{IsEquality, IsEqualityOf};
 ghost use Rattle.picky_keys.specs.Key.{IsKey};
 ghost use Rattle.picky_sshkey_blob.specs.declared.key.SshBasePrivateKey.{SshBasePrivateKey as BaseKey};
 ghost use Rattle.picky_sshkey_blob.specs.declared.view.PrivateView.{PrivateView as View};

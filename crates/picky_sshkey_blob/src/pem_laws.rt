@@ -2,9 +2,9 @@
 
 ghost use Rattle.std.specs.Prelude.{◌≡◌, ◌<◌, ◌≤◌, ◌^◌, ◌++◌, List, ℕ, Ok, length};
 ghost use Rattle.std.specs.Str.{IsAscii};
-ghost use Rattle.picky_layout.specs.Numbers.{IsBytes};
+ghost use Rattle.picky_wire_base.specs.Numbers.{IsBytes};
 ghost use Rattle.picky_text.specs.Base64.{base64_of};
-ghost use Rattle.picky_wire.specs.Equality.{IsEquality};
+ghost use Rattle.picky_wire_base.specs.Equality.{IsEquality};
 ghost use Rattle.picky_sshkey_blob.specs.Pem.{header, footer, pem_lines, pem_text, IsPem};
 ghost use Rattle.picky_sshkey_blob.specs.PemRefusal.{pem_content};
 

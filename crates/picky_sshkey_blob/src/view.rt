@@ -1,7 +1,7 @@
 //! A private key's blob, seen where it stands: its parts are slices of it.
 
 ghost use Rattle.std.specs.Prelude.{◌≡◌, ◌^◌, ◌<◌, length, IfOk};
-ghost use Rattle.picky_wire.specs.View.{Seen, end_of, why_in};
+ghost use Rattle.picky_wire_base.specs.View.{Seen, end_of, why_in};
 ghost use Rattle.picky_keys.specs.Blob.{key_type};
 ghost use Rattle.picky_sshkey_blob.specs.Key.{IsPrivateKey};
 ghost use Rattle.picky_sshkey_blob.specs.Blob.{secret as secret_layout};

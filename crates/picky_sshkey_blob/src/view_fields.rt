@@ -1,11 +1,11 @@
 //! The fields of a private key's blob, seen at their places, each with its number in the blob.
 
 ghost use Rattle.std.specs.Prelude.{◌≡◌, ◌^◌, ◌<◌, ◌-◌, ⊤, length};
-ghost use Rattle.picky_layout.specs.Combine.{at};
-ghost use Rattle.picky_layout.specs.Wire.{string, text};
-ghost use Rattle.picky_layout.specs.Numbers.{byte};
-ghost use Rattle.picky_layout.specs.Mpint.{mpint};
-ghost use Rattle.picky_wire.specs.View.{Lies, end_of, part_bytes};
+ghost use Rattle.picky_wire_base.specs.Combine.{at};
+ghost use Rattle.picky_wire_base.specs.Wire.{string, text};
+ghost use Rattle.picky_wire_base.specs.Numbers.{byte};
+ghost use Rattle.picky_wire_base.specs.Mpint.{mpint};
+ghost use Rattle.picky_wire_base.specs.View.{Lies, end_of, part_bytes};
 ghost use Rattle.picky_keys.specs.Blob.{key_type, ed_key};
 ghost use Rattle.picky_sshkey_blob.specs.Blob.{ed_secret};
 ghost use Rattle.picky_sshkey_blob.specs.View.{SeenAt};

@@ -3,7 +3,7 @@
 use Rattle.std.specs.Prelude.{◌≡◌, ℕ, List, length, refl}
 use Rattle.sha1.specs.Sha1.{sha1}
 use Rattle.sha2.specs.Sha256.{sha256}
-use Rattle.picky_layout.specs.Numbers.{IsBytes}
+use Rattle.picky_wire_base.specs.Numbers.{IsBytes}
 use Rattle.picky_suite.specs.declared.flavour.Flavour.{Flavour}
 use Rattle.picky_suite.specs.Hmac.{hmac}
 use Rattle.picky_suite.specs.Mac.{IsMac}

@@ -4,7 +4,7 @@ use Rattle.std.specs.Prelude.{ℕ, zero, suc, ◌+◌, ◌/◌, List, [], ◌∷
 use Rattle.std.specs.Int.{w32, to_be_bytes}
 use Rattle.std.specs.List.{flat_map}
 use Rattle.sha2.specs.Sha512.{sha512}
-use Rattle.picky_layout.specs.Wire.{string_of}
+use Rattle.picky_wire_base.specs.Wire.{string_of}
 use Rattle.picky_suite.specs.declared.flavour.Flavour.{Flavour}
 use Rattle.picky_suite.specs.declared.flavour.Flavour.TheVariants.{Argon2d, Argon2i, Argon2id}
 

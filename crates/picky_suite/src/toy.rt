@@ -4,7 +4,7 @@ ghost use Rattle.std.specs.Prelude.{◌≡◌, ◌^◌, ◌+◌, ◌*◌, ◌<�
 ghost use Rattle.std.specs.Int.{w32, to_be_bytes};
 ghost use Rattle.std.specs.List.{flat_map};
 ghost use Rattle.sha2.specs.Hashers.{Holds512};
-ghost use Rattle.picky_layout.specs.Wire.{string_of};
+ghost use Rattle.picky_wire_base.specs.Wire.{string_of};
 ghost use Rattle.picky_suite.specs.Toy.{xored, first_block, ciphered, masks, toy_seal, toy_open, toy_ctr, derived_block, derived, flavour_number};
 
 use crate::flavour::Flavour;
@@ -143,7 +143,7 @@ fn derived_block(pass: &[u8], salt: &[u8], numbers: &[u32], index: u8) -> [u8; 6
 }
 
 // Feeds bytes behind their length.
-#[tactic(auto, unfolding(picky_layout::specs::Wire::string_of))]
+#[tactic(auto, unfolding(picky_wire_base::specs::Wire::string_of))]
 fn put_string(hasher: &mut Sha512, bytes: &[u8])
     requires { length bytes.now < 2 ^ 32 }
     ensures { (m : List ℕ) → Holds512 hasher.old m → Holds512 hasher.new (m ++ string_of bytes.now) }

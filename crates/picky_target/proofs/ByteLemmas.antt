@@ -5,9 +5,9 @@ use Rattle.std.specs.Option.{IfSome}
 use Rattle.std.specs.Str.{IsAscii, IsUtf8}
 use Rattle.std.proofs.lemmas.List.{get_or-drop}
 use Rattle.sha1.specs.Sha1.{sha1, digest_bytes}
-use Rattle.picky_layout.specs.Numbers.{IsBytes}
-use Rattle.picky_layout.specs.Mpint.{mpint_of}
-use Rattle.picky_layout.specs.Zeros.{without_zeros}
+use Rattle.picky_wire_base.specs.Numbers.{IsBytes}
+use Rattle.picky_wire_base.specs.Mpint.{mpint_of}
+use Rattle.picky_wire_base.specs.Zeros.{without_zeros}
 use Rattle.picky_suite.specs.Meanings.{Meanings}
 use Rattle.picky_keys.proofs.ByteLaws.{bytes_by_test, bytes_first, bytes_joined, mpint_bytes_each, no_bytes, number_bytes}
 use Rattle.picky_sshkey_blob.specs.declared.key.SshBasePrivateKey.{SshBasePrivateKey}

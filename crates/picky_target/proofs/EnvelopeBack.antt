@@ -4,7 +4,7 @@ use Rattle.std.specs.Option.{IfSome}
 use Rattle.std.specs.Str.{IsUtf8, trim_end}
 use Rattle.std.proofs.lemmas.Bool.{lt-ltb}
 use Rattle.std.proofs.lemmas.List.{append-nil, length-take}
-use Rattle.picky_layout.specs.Numbers.{IsBytes}
+use Rattle.picky_wire_base.specs.Numbers.{IsBytes}
 use Rattle.picky_sshkey_blob.specs.Pem.{pem_text}
 use Rattle.picky_sshkey_blob.proofs.TextLaws.{text_is_ascii}
 use Rattle.picky_suite.specs.Meanings.{Meanings}

@@ -1,7 +1,7 @@
 -- Lemmas on what is written of OpenSSH's private key.
 use Rattle.std.proofs.Common.{◌≡◌, ◌≢◌, ℕ, List, Bool, true, false, Option, None, Some, Ok, Err, length, take, refl}
 use Rattle.std.specs.Prelude.{nat_le, if◌then◌else◌}
-use Rattle.picky_layout.specs.Outcome.{map_err}
+use Rattle.picky_wire_base.specs.Outcome.{map_err}
 use Rattle.picky_suite.specs.Ranges.{bcrypt_fits}
 use Rattle.picky_sshkey_blob.specs.declared.error.SshPrivateKeyError.TheVariants as private
 use Rattle.picky_sshkey_blob.specs.declared.key.SshBasePrivateKey.{SshBasePrivateKey}

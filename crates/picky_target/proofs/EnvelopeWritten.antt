@@ -4,8 +4,8 @@ use Rattle.std.specs.Prelude.{◌++◌, nat_le}
 use Rattle.std.specs.Int.{w32, to_be_bytes}
 use Rattle.std.proofs.lemmas.Bool.{cases_Bool, leb-true, le-leb, ltb-false, lt-ltb, le-ltb}
 use Rattle.std.proofs.lemmas.List.{length-append, length-take}
-use Rattle.picky_layout.specs.Wire.{string_of}
-use Rattle.picky_wire.proofs.WriteLemmas.{length-string_of}
+use Rattle.picky_wire_base.specs.Wire.{string_of}
+use Rattle.picky_wire_base.proofs.PieceLemmas.{length-string_of}
 use Rattle.picky_sshkey_blob.specs.Pem.{pem_text}
 use Rattle.picky_sshkey_blob.proofs.TextLaws.{text_is_long}
 use Rattle.picky_suite.specs.Meanings.{Meanings}

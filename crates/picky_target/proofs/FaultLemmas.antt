@@ -1,11 +1,11 @@
 -- No refusal of PuTTY's file that comes before the suite is asked, or after it answered, is the suite's fault.
 use Rattle.std.proofs.Common.{◌≡◌, ◌≢◌, ℕ, ◌+◌, List, Bool, true, false, Result, Ok, Err, length, refl, sym, ◌∙◌, ◌⊎◌, inl, inr}
 use Rattle.std.specs.Prelude.{◌&&◌, ◌++◌, nat_le, codes}
-use Rattle.picky_layout.specs.Outcome.{map_err}
+use Rattle.picky_wire_base.specs.Outcome.{map_err}
 use Rattle.picky_kv_words.specs.declared.choices.PpkVersionKey.{PpkVersionKey}
 use Rattle.picky_suite.specs.Asked.{LeavesSuite}
 use Rattle.picky_suite.specs.Meanings.{Meanings}
-use Rattle.picky_wire.specs.Gives.{Gives}
+use Rattle.picky_wire_base.specs.Gives.{Gives}
 use Rattle.picky_keys.specs.Blob.{blob_of}
 use Rattle.picky_keys.specs.LineRefusal.{is_short}
 use Rattle.picky_sshkey_blob.specs.declared.key.SshBasePrivateKey.{SshBasePrivateKey}

@@ -1,8 +1,8 @@
 -- Lemmas on PuTTY's file of a key.
 use Rattle.std.proofs.Common.{◌≡◌, ℕ, List, Bool, true, false, Result, Ok, Err, refl, ap, sym, ◌∙◌}
 use Rattle.std.specs.Prelude.{if◌then◌else◌}
-use Rattle.picky_layout.specs.Outcome.{and_then}
-use Rattle.picky_layout.specs.carried.Outcome.{and_then_ok, map_err_ok}
+use Rattle.picky_wire_base.specs.Outcome.{and_then}
+use Rattle.picky_wire_base.specs.carried.Outcome.{and_then_ok, map_err_ok}
 use Rattle.picky_kv_words.specs.declared.choices.PpkVersionKey.{PpkVersionKey}
 use Rattle.picky_kv_words.specs.declared.choices.PpkVersionKey.TheVariants.{V2, V3}
 use Rattle.picky_suite.specs.Meanings.{Meanings}

@@ -5,7 +5,7 @@ use Rattle.std.specs.Prelude.{nat_le, codes}
 use Rattle.std.specs.Fmt.{decimal}
 use Rattle.hex.specs.Hex.{lower_digits}
 use Rattle.hex.proofs.HexLemmas.{length-encode_with}
-use Rattle.picky_layout.specs.Mpint.{mpint_of, with_sign}
+use Rattle.picky_wire_base.specs.Mpint.{mpint_of, with_sign}
 use Rattle.picky_text.specs.Lines.{text_of, end_bytes}
 use Rattle.picky_text.specs.Rows.{rows_within, rows_of}
 use Rattle.picky_text.specs.declared.lines.LineEnd.{LineEnd}
@@ -18,7 +18,7 @@ use Rattle.picky_kv.specs.declared.algorithm.PpkKeyAlgorithmValue.{PpkKeyAlgorit
 use Rattle.picky_ppk_file.specs.declared.file.PpkSealing.{PpkSealing}
 use Rattle.picky_ppk_file.specs.File.{version_of}
 use Rattle.picky_ppk_file.specs.Written.{end_of, file_lines, file_text, line_of, rows_under, sealing_lines}
-use Rattle.picky_wire.proofs.WriteLemmas.{length-string_of}
+use Rattle.picky_wire_base.proofs.PieceLemmas.{length-string_of}
 
 -- ---- a number's field
 

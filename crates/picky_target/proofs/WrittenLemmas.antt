@@ -4,7 +4,7 @@ use Rattle.std.specs.Prelude.{◌&&◌, nat_le}
 use Rattle.std.proofs.lemmas.Bool.{cases_Bool, le-leb}
 use Rattle.picky_suite.specs.Asked.{GivesAsked, LeavesSuite}
 use Rattle.picky_suite.specs.Meanings.{Meanings}
-use Rattle.picky_wire.specs.Gives.{Gives}
+use Rattle.picky_wire_base.specs.Gives.{Gives}
 use Rattle.picky_keys.specs.declared.key.SshBasePublicKey.{SshBasePublicKey}
 use Rattle.picky_keys.specs.declared.key.SshPublicKey.{SshPublicKey}
 use Rattle.picky_keys.specs.Blob.{blob_of}

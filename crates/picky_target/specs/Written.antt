@@ -1,6 +1,6 @@
 -- What is written of a meaning, or the first reason why nothing is, and whether a suite is asked.
 use Rattle.std.specs.Prelude.{◌&&◌, Bool, true, false, List, ℕ, Result, Ok, Err, is_some}
-use Rattle.picky_layout.specs.Outcome.{and_then}
+use Rattle.picky_wire_base.specs.Outcome.{and_then}
 use Rattle.picky_suite.specs.Meanings.{Meanings}
 use Rattle.picky_sshkey_blob.specs.declared.error.SshPrivateKeyError.TheVariants as private
 use Rattle.picky_ppk_parts.specs.declared.error.PuttyError.TheVariants as putty

@@ -2,11 +2,11 @@
 
 ghost use Rattle.std.specs.Prelude.{◌≡◌, ◌<◌, ◌^◌, IfOk, length, nat_le, replicate, slice_index};
 ghost use Rattle.std.specs.Option.{option_copied};
-ghost use Rattle.picky_layout.specs.Mpint.{mpint_of};
+ghost use Rattle.picky_wire_base.specs.Mpint.{mpint_of};
 ghost use Rattle.picky_kv_words.specs.declared.choices.PpkVersionKey.TheVariants.{V3};
 ghost use Rattle.picky_suite.specs.Asked.{GivesAsked, LeavesSuite};
 ghost use Rattle.picky_wire.specs.Count.{Rose};
-ghost use Rattle.picky_wire.specs.Gives.{Gives};
+ghost use Rattle.picky_wire_base.specs.Gives.{Gives};
 ghost use Rattle.picky_sshkey_blob.specs.Key.{public_part};
 ghost use Rattle.picky_ppk_parts.specs.Secret.{secret_bytes};
 ghost use Rattle.picky_ppk_file.specs.File.{version_of};

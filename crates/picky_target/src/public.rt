@@ -1,7 +1,7 @@
 //! A public key written as a line, and as PuTTY's public key.
 
 ghost use Rattle.std.specs.Prelude.{◌≡◌, ◌⊎◌};
-ghost use Rattle.picky_wire.specs.Gives.{Gives};
+ghost use Rattle.picky_wire_base.specs.Gives.{Gives};
 ghost use Rattle.picky_ppk_parts.specs.Unsupported.{no_hardware_keys as no_hardware_keys_of};
 ghost use Rattle.picky_target.specs.inner.Public.{line_written, putty_written, putty_refusal as putty_refusal_of, text_of_putty as text_of_putty_of};
 

@@ -2,16 +2,16 @@
 use Rattle.std.proofs.Common.{◌≡◌, ℕ, ◌+◌, ◌≤◌, ◌<◌, List, ◌++◌, length, sym, ap, ◌∙◌, arith, refl, Result, Ok, Err}
 use Rattle.std.proofs.lemmas.List.{length-append, append_assoc}
 use Rattle.std.specs.Prelude.{Option, IsSome}
-use Rattle.picky_layout.specs.Flaw.{Flaw}
-use Rattle.picky_layout.specs.Outcome.{map_err}
-use Rattle.picky_layout.specs.carried.Outcome.{map_err_ok}
-use Rattle.picky_layout.specs.Wire.{byte_array}
+use Rattle.picky_wire_base.specs.Flaw.{Flaw}
+use Rattle.picky_wire_base.specs.Outcome.{map_err}
+use Rattle.picky_wire_base.specs.carried.Outcome.{map_err_ok}
+use Rattle.picky_wire_base.specs.Wire.{byte_array}
 use Rattle.picky_wire.specs.declared.error.WireError.{WireError}
 use Rattle.picky_wire.specs.declared.error.WireError.TheVariants as errors
 use Rattle.picky_wire.specs.Count.{Rose}
 use Rattle.picky_wire.specs.Takes.{EndsIn}
 use Rattle.picky_wire.specs.Flaws.{TakesField, wire_error}
-use Rattle.picky_wire.proofs.ReadLemmas.{byte_array-read, byte_array-short, byte_array-refused, piece_taken}
+use Rattle.picky_wire_base.proofs.ReadLemmas.{byte_array-read, byte_array-short, byte_array-refused, piece_taken}
 
 -- what ended with the bytes before ends with those after
 pub ends_later : (bytes before taken after : List ℕ) → before ≡ taken ++ after → EndsIn bytes before

@@ -4,17 +4,17 @@ use Rattle.std.proofs.lemmas.List.{length-replicate}
 use Rattle.std.proofs.lemmas.Bool.{le-ltb}
 use Rattle.std.specs.Str.{is_utf8, chars}
 use Rattle.std.specs.Prelude.{◌++◌, replicate, if◌then◌else◌}
-use Rattle.picky_layout.specs.Flaw.{Flaw, Short, NotUtf8, Big, Reason, Flawed}
-use Rattle.picky_layout.specs.Outcome.{map_err, and_then}
-use Rattle.picky_layout.specs.Combine.{at, placed, tag}
-use Rattle.picky_layout.specs.Narrowed.{meant}
-use Rattle.picky_layout.specs.Numbers.{uint64}
-use Rattle.picky_layout.specs.Wire.{byte_array, uint32, string, string_of, text}
-use Rattle.picky_layout.proofs.Strings.{string_reads_back, text_stuck}
-use Rattle.picky_layout.specs.Zeros.{without_zeros, BeginsWithNoZero}
-use Rattle.picky_layout.specs.carried.Zeros.{all_is_kept}
-use Rattle.picky_layout.specs.Mpint.{mpint, as_mpint}
-use Rattle.picky_layout.specs.Magnitude.{read_mpint}
+use Rattle.picky_wire_base.specs.Flaw.{Flaw, Short, NotUtf8, Big, Reason, Flawed}
+use Rattle.picky_wire_base.specs.Outcome.{map_err, and_then}
+use Rattle.picky_wire_base.specs.Combine.{at, placed, tag}
+use Rattle.picky_wire_base.specs.Narrowed.{meant}
+use Rattle.picky_wire_base.specs.Numbers.{uint64}
+use Rattle.picky_wire_base.specs.Wire.{byte_array, uint32, string, string_of, text}
+use Rattle.picky_wire_base.proofs.Strings.{string_reads_back, text_stuck}
+use Rattle.picky_wire_base.specs.Zeros.{without_zeros, BeginsWithNoZero}
+use Rattle.picky_wire_base.specs.carried.Zeros.{all_is_kept}
+use Rattle.picky_wire_base.specs.Mpint.{mpint, as_mpint}
+use Rattle.picky_wire_base.specs.Magnitude.{read_mpint}
 use Rattle.picky_wire.specs.declared.error.WireError.{WireError}
 use Rattle.picky_wire.specs.declared.error.WireError.TheVariants as errors
 use Rattle.picky_wire.specs.Flaws.{wire_error, wire_causes}

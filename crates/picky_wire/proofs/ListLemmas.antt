@@ -1,29 +1,29 @@
 -- Lemmas on lists of elements: their spellings joined, and their values read one after another.
 use Rattle.std.proofs.Common.{◌≡◌, ◌≢◌, ◌⊎◌, inl, inr, ℕ, ◌+◌, ◌≤◌, ◌<◌, ◌^◌, ◌-◌, List, [], ◌∷◌, ◌++◌, length, take, drop, get_or, min, sym, ap, ◌∙◌, arith, refl, add-one, Result, Ok, Err}
-use Rattle.std.proofs.Math.Seq.{drop-cons, take-suc}
-use Rattle.std.proofs.lemmas.List.{take-append-drop, append-nil, append_assoc, length-append}
+use Rattle.std.proofs.Math.Seq.{drop-cons}
+use Rattle.std.proofs.lemmas.List.{take-append-drop}
 use Rattle.std.proofs.lemmas.Grind.{flat_map-append}
 use Rattle.std.proofs.lemmas.List.Concat.{flat_map-cons}
 use Rattle.std.proofs.lemmas.List.Folds.{length-flat_map-take}
-use Rattle.std.specs.List.{All, concat, flat_map}
+use Rattle.std.specs.List.{All, flat_map}
 use Rattle.std.specs.Prelude.{Option, Some, None, IfErr, MatchOption}
-use Rattle.picky_layout.specs.Flaw.{Flaw}
-use Rattle.picky_layout.specs.Grammar.{Grammar}
-use Rattle.picky_layout.specs.Short.{EndsInString}
-use Rattle.picky_layout.proofs.Short.{string_refused}
-use Rattle.picky_layout.specs.Row.{Row, read_all}
-use Rattle.picky_layout.proofs.Row.{row_spells}
-use Rattle.picky_layout.proofs.Steps.{following, taking_refused}
-use Rattle.picky_layout.specs.Outcome.{map_err}
-use Rattle.picky_layout.specs.carried.Outcome.{map_err_ok}
-use Rattle.picky_layout.specs.Many.{read_many}
-use Rattle.picky_layout.proofs.Strings.{string_reads_back}
-use Rattle.picky_layout.specs.Wire.{string, string_of}
+use Rattle.picky_wire_base.specs.Flaw.{Flaw}
+use Rattle.picky_wire_base.specs.Grammar.{Grammar}
+use Rattle.picky_wire_base.specs.Short.{EndsInString}
+use Rattle.picky_wire_base.proofs.Short.{string_refused}
+use Rattle.picky_wire_base.specs.Row.{Row, read_all}
+use Rattle.picky_wire_base.proofs.Row.{row_spells}
+use Rattle.picky_wire_base.proofs.Steps.{following, taking_refused}
+use Rattle.picky_wire_base.specs.Outcome.{map_err}
+use Rattle.picky_wire_base.specs.carried.Outcome.{map_err_ok}
+use Rattle.picky_wire_base.specs.Many.{read_many}
+use Rattle.picky_wire_base.proofs.Strings.{string_reads_back}
+use Rattle.picky_wire_base.specs.Wire.{string, string_of}
 use Rattle.picky_wire.specs.declared.error.WireError.{WireError}
 use Rattle.picky_wire.specs.declared.error.WireError.TheVariants as errors
 use Rattle.picky_wire.specs.Count.{Rose}
 use Rattle.picky_wire.specs.Flaws.{TakesField, wire_error}
-use Rattle.picky_wire.specs.Gives.{Gives}
+use Rattle.picky_wire_base.specs.Gives.{Gives}
 use Rattle.picky_wire.specs.Puts.{Puts}
 use Rattle.picky_wire.specs.Takes.{Takes, TakesString, HasCause, causes_of}
 use Rattle.picky_wire.proofs.ThenLemmas.{judged_takes, judged_cause}
@@ -85,30 +85,6 @@ pub puts_taken : {E : Type 0} (reason : Option E) (P : Type 0) (Q : E → Type 0
     → MatchOption reason P Q → P
 puts_taken None P Q is holds = holds
 puts_taken (Some e) P Q is holds = cc is
-
--- the pieces of a table, joined
-pub pieces_joined : (xs : List (List ℕ)) → concat xs ≡ flat_map (λ x. x) xs
-pieces_joined [] = refl
-pieces_joined (x ∷ xs) = ap (λ r. x ++ r) (pieces_joined xs)
-
-next_piece : (xs : List (List ℕ)) (i : ℕ) (x : List ℕ) → i < length xs → x ≡ get_or xs i x
-    → concat (take (i + 1) xs) ≡ concat (take i xs) ++ x
-next_piece xs i x within is =
-    pieces_joined (take (i + 1) xs)
-    ∙ ap (flat_map (λ y. y)) (ap (λ k. take k xs) (add-one i) ∙ take-suc xs i x within ∙ ap (λ y. take i xs ++ y ∷ []) (sym is))
-    ∙ flat_map-append (λ y. y) (take i xs) (x ∷ [])
-    ∙ ap (λ r. flat_map (λ y. y) (take i xs) ++ r) (append-nil x)
-    ∙ ap (λ r. r ++ x) (sym (pieces_joined (take i xs)))
-
--- one more piece
-pub one_more_piece : (xs : List (List ℕ)) (i : ℕ) (x before : List ℕ) → i < length xs → x ≡ get_or xs i x
-    → (before ++ concat (take i xs)) ++ x ≡ before ++ concat (take (i + 1) xs)
-one_more_piece xs i x before within is =
-    append_assoc before (concat (take i xs)) x ∙ ap (λ r. before ++ r) (sym (next_piece xs i x within is))
-
-pub one_more_len : (xs : List (List ℕ)) (i : ℕ) (x : List ℕ) → i < length xs → x ≡ get_or xs i x
-    → length (concat (take (i + 1) xs)) ≡ length (concat (take i xs)) + length x
-one_more_len xs i x within is = ap length (next_piece xs i x within is) ∙ length-append (concat (take i xs)) x
 
 -- ---- values read one after another
 

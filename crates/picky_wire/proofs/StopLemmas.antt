@@ -1,10 +1,10 @@
 -- Lemmas on a layer's own error in place of the stop of its readers.
 use Rattle.std.proofs.Common.{◌≡◌, ℕ, List, ap, ◌∙◌, Result, Ok, Err}
 use Rattle.std.specs.Prelude.{Option}
-use Rattle.picky_layout.specs.Flaw.{Reason}
-use Rattle.picky_layout.specs.Outcome.{map_err}
-use Rattle.picky_layout.specs.Grammar.{Grammar}
-use Rattle.picky_layout.specs.Combine.{tag}
+use Rattle.picky_wire_base.specs.Flaw.{Reason}
+use Rattle.picky_wire_base.specs.Outcome.{map_err}
+use Rattle.picky_wire_base.specs.Grammar.{Grammar}
+use Rattle.picky_wire_base.specs.Combine.{tag}
 use Rattle.picky_wire.specs.declared.error.WireError.{WireError}
 use Rattle.picky_wire.specs.declared.error.WireError.TheVariants as errors
 use Rattle.picky_wire.specs.declared.stop.Stop.{Stop}

@@ -1,8 +1,8 @@
 -- Lemmas on bytes that are taken whole, and then judged.
 use Rattle.std.proofs.Common.{◌≡◌, ◌≢◌, ◌⊎◌, ℕ, List, ap, ◌∙◌, inl, inr, Result, Ok, Err}
 use Rattle.std.specs.Prelude.{Option, IfErr}
-use Rattle.picky_layout.specs.Outcome.{and_then}
-use Rattle.picky_wire.specs.Gives.{Gives}
+use Rattle.picky_wire_base.specs.Outcome.{and_then}
+use Rattle.picky_wire_base.specs.Gives.{Gives}
 use Rattle.picky_wire.specs.Takes.{Causes, Takes, HasCause}
 
 -- the value in front, as it is judged, and what follows it

@@ -3,19 +3,19 @@ use Rattle.std.proofs.Common.{◌≡◌, ◌≢◌, ◌≤◌, ◌<◌, ◌+◌,
 use Rattle.std.proofs.lemmas.List.{length-drop, take_at, drop_at}
 use Rattle.std.specs.Int.{w32, from_be_bytes}
 use Rattle.std.specs.Prelude.{take, Option, Some, None, IsSome, IfSome}
-use Rattle.picky_layout.specs.Flaw.{Flaw}
-use Rattle.picky_layout.specs.Outcome.{map_err, and_then}
-use Rattle.picky_layout.specs.carried.Outcome.{map_err_ok, and_then_ok, same_pair}
-use Rattle.picky_layout.specs.Combine.{each}
-use Rattle.picky_layout.specs.Narrowed.{meant}
-use Rattle.picky_layout.specs.Wire.{byte_array, uint32}
-use Rattle.picky_layout.specs.Short.{EndsInString}
+use Rattle.picky_wire_base.specs.Flaw.{Flaw}
+use Rattle.picky_wire_base.specs.Outcome.{map_err, and_then}
+use Rattle.picky_wire_base.specs.carried.Outcome.{map_err_ok, and_then_ok, same_pair}
+use Rattle.picky_wire_base.specs.Combine.{each}
+use Rattle.picky_wire_base.specs.Narrowed.{meant}
+use Rattle.picky_wire_base.specs.Wire.{byte_array, uint32}
+use Rattle.picky_wire_base.specs.Short.{EndsInString}
 use Rattle.picky_wire.specs.declared.error.WireError.{WireError}
 use Rattle.picky_wire.specs.declared.error.WireError.TheVariants as errors
 use Rattle.picky_wire.specs.Takes.{StopsShort}
 use Rattle.picky_wire.specs.Unread.{LeavesUnread}
 use Rattle.picky_wire.specs.Flaws.{wire_error, wire_causes}
-use Rattle.picky_wire.proofs.ReadLemmas.{byte_array-front, byte_array-refused}
+use Rattle.picky_wire_base.proofs.ReadLemmas.{byte_array-front, byte_array-refused}
 
 -- a number that was read took four bytes, and is what they say
 pub record FourBytes (bytes rest : List ℕ) (n : ℕ) : Type 0 where

@@ -2,9 +2,6 @@
 use Rattle.std.proofs.Common.{◌≡◌, ℕ, ◌<◌, ◌+◌, ◌-◌, List, ◌++◌, length, take, drop, sym, ap, ◌∙◌, arith, subst, Result, Ok, Err}
 use Rattle.std.proofs.lemmas.List.{append_assoc, length-append, length-drop, take_all, take-append-le}
 use Rattle.std.proofs.Math.Seq.{take-add, take-append-add}
-use Rattle.std.specs.Int.{w32, to_be_bytes}
-use Rattle.picky_layout.specs.Wire.{string_of}
-use Rattle.picky_layout.proofs.Mpint.{mpint_of_high, mpint_of_low}
 use Rattle.std.specs.Prelude.{IfErr, OnOk}
 use Rattle.picky_wire.specs.Count.{Rose}
 use Rattle.picky_wire.specs.Puts.{Writes, Puts}
@@ -59,14 +56,6 @@ later_calm (Err e) old mid new calm later = tt
 pub writes_same : {A E : Type 0} (r : Result A E) (p q old new : List ℕ) → p ≡ q
     → Writes r p old new → Writes r q old new
 writes_same r p q old new same writes = subst (λ b. Writes r b old new) same writes
-
--- a string is its bytes and four more
-pub length-string_of : (v : List ℕ) → length (string_of v) ≡ length v + 4
-unfolding string_of
-length-string_of v = omega (arith, length-append (to_be_bytes w32 (length v)) v)
-
--- a number's string, by its first byte
-pub ruleset numbers = (mpint_of_high, mpint_of_low)
 
 -- ---- what a call promises that writes one piece after another
 

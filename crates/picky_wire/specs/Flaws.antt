@@ -1,8 +1,8 @@
 -- What is wrong with a field or a layout, as the errors of the calls that read it.
 use Rattle.std.specs.Prelude.{ℕ, List, Option, Result}
-use Rattle.picky_layout.specs.Flaw.{Flaw, Short, NotUtf8, Big}
-use Rattle.picky_layout.specs.Grammar.{Grammar}
-use Rattle.picky_layout.specs.Combine.{tag}
+use Rattle.picky_wire_base.specs.Flaw.{Flaw, Short, NotUtf8, Big}
+use Rattle.picky_wire_base.specs.Grammar.{Grammar}
+use Rattle.picky_wire_base.specs.Combine.{tag}
 use Rattle.picky_wire.specs.declared.error.WireError.{WireError}
 use Rattle.picky_wire.specs.declared.error.WireError.TheVariants as errors
 use Rattle.picky_wire.specs.declared.stop.Stop.{Stop}

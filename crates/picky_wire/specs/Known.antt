@@ -1,6 +1,6 @@
 -- What std's readers and writers tell of their bytes.
 use Rattle.std.specs.Prelude.{List, [], ℕ, Option, Some, None, IsSome}
-use Rattle.picky_layout.specs.Numbers.{IsBytes}
+use Rattle.picky_wire_base.specs.Numbers.{IsBytes}
 
 -- the bytes, where they are told
 abbrev pub known_or_nil : Option (List ℕ) → List ℕ

@@ -1,6 +1,6 @@
 -- A string's length is read first, and what the source knows is asked then (RFC 4251, section 5).
 use Rattle.std.specs.Prelude.{◌≡◌, ◌<◌, ◌⊎◌, ℕ, List, Option, Result, Ok, Err, IfSome, IfErr}
-use Rattle.picky_layout.specs.Wire.{byte_array, uint32}
+use Rattle.picky_wire_base.specs.Wire.{byte_array, uint32}
 use Rattle.picky_wire.specs.declared.error.WireError.{WireError}
 use Rattle.picky_wire.specs.declared.error.WireError.TheVariants as errors
 use Rattle.picky_wire.specs.Count.{Rose}

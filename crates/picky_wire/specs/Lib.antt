@@ -1,8 +1,6 @@
 pub mod Count
 pub mod Known
-pub mod Equality
 pub mod Memory
-pub mod Gives
 pub mod Takes
 pub mod Puts
 pub mod Unread
@@ -10,7 +8,5 @@ pub mod Flaws
 pub mod LengthFirst
 pub mod Moment
 pub mod Principals
-pub mod View
-pub mod Reading
 pub mod carried
 pub mod inner

@@ -1,8 +1,8 @@
 -- A text as an element, as the principals of a certificate are (PROTOCOL.certkeys, "valid principals").
 use Rattle.std.specs.Prelude.{ℕ, List, ◌<◌, ◌^◌, length, IsUtf8}
-use Rattle.picky_layout.specs.Grammar.{Grammar}
-use Rattle.picky_layout.specs.Combine.{tag}
-use Rattle.picky_layout.specs.Wire.{text}
+use Rattle.picky_wire_base.specs.Grammar.{Grammar}
+use Rattle.picky_wire_base.specs.Combine.{tag}
+use Rattle.picky_wire_base.specs.Wire.{text}
 use Rattle.picky_wire.specs.declared.error.WireError.{WireError}
 use Rattle.picky_wire.specs.Flaws.{wire_error}
 

@@ -1,8 +1,8 @@
 -- What a call that reads from a source answers, what it takes and what it leaves.
 use Rattle.std.specs.Prelude.{◌≡◌, ◌≢◌, ◌<◌, ◌≤◌, ◌+◌, ◌-◌, ◌++◌, ◌⊎◌, ℕ, List, Option, IsSome, length}
 use Rattle.std.specs.Prelude.{Result, Ok, Err}
-use Rattle.picky_layout.specs.Wire.{string}
-use Rattle.picky_layout.specs.Short.{EndsInString}
+use Rattle.picky_wire_base.specs.Wire.{string}
+use Rattle.picky_wire_base.specs.Short.{EndsInString}
 use Rattle.picky_wire.specs.declared.error.WireError.{WireError}
 use Rattle.picky_wire.specs.declared.error.WireError.TheVariants as errors
 use Rattle.picky_wire.specs.Count.{Rose}

@@ -1,6 +1,6 @@
 -- A string that is longer than what is known to be left.
 use Rattle.std.specs.Prelude.{◌≡◌, ◌<◌, ◌≤◌, ◌+◌, ◌⊎◌, ℕ, List, Option, IsSome, drop, length, Result, Err}
-use Rattle.picky_layout.specs.Short.{EndsInString}
+use Rattle.picky_wire_base.specs.Short.{EndsInString}
 use Rattle.picky_wire.specs.Takes.{Causes}
 
 -- the length is there, and the source knows that fewer bytes are left than it says

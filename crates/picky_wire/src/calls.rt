@@ -3,7 +3,7 @@
 ghost use Rattle.std.specs.Prelude.{◌≡◌, ◌-◌, IfOk};
 ghost use Rattle.picky_wire.specs.Count.{Calls, next_fails, passed, failed};
 
-use crate::error::NoMemory;
+use picky_wire_base::NoMemory;
 use std::alloc::Global;
 use std::marker::Model;
 

@@ -1,8 +1,8 @@
 //! Values that have a spelling of their own on the wire.
 
 ghost use Rattle.std.specs.Prelude.{◌≡◌, ◌≢◌, ◌^◌, ◌↔◌, ℕ, List, Option, Some, None, Result, Err, length, min, IsTrue, IfErr, MatchOption};
-ghost use Rattle.picky_layout.specs.Grammar.{Grammar};
-ghost use Rattle.picky_layout.specs.Row.{Solid};
+ghost use Rattle.picky_wire_base.specs.Grammar.{Grammar};
+ghost use Rattle.picky_wire_base.specs.Row.{Solid};
 ghost use Rattle.picky_wire.specs.declared.error.WireError.{WireError};
 ghost use Rattle.picky_wire.specs.declared.error.WireError.TheVariants as errors;
 ghost use Rattle.picky_wire.specs.Count.{Rose};

@@ -3,26 +3,10 @@
 use crate::element::CodecError;
 use thiserror::Error;
 
-/// Memory ran out.
-#[derive(Debug, Drop, PartialEq, Eq, Error)]
-#[error("NoMemory")]
-pub struct NoMemory;
-
 /// A source, a sink or a suite failed, and counted it.
 #[derive(Debug, Drop, PartialEq, Eq, Error)]
 #[error("Failed")]
 pub struct Failed;
-
-/// Why a value of the wire can't be made.
-#[derive(Debug, Drop, PartialEq, Eq, Error)]
-pub enum SizeError {
-    /// There are more bytes than a length of the wire can say.
-    #[error("TooLong")]
-    TooLong,
-    /// Memory ran out.
-    #[error("NoMemory")]
-    NoMemory,
-}
 
 /// What went wrong with the bytes of a stream.
 #[derive(Clone, Copy, Debug, PartialEq, Eq, Error)]
@@ -62,7 +46,6 @@ pub enum WireError {
 }
 
 impl CodecError for WireError {
-    ghost use Rattle.std.specs.Prelude.{◌≡◌};
 
     ghost of_wire = { λ e. e };
 

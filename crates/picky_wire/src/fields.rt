@@ -1,17 +1,16 @@
 //! The fields of a layout, read from a source.
 
 ghost use Rattle.std.specs.Prelude.{IfErr};
-ghost use Rattle.picky_layout.specs.Wire.{string, text, uint32};
-ghost use Rattle.picky_layout.specs.Numbers.{byte, uint64};
-ghost use Rattle.picky_layout.specs.Mpint.{mpint};
+ghost use Rattle.picky_wire_base.specs.Wire.{string, text, uint32};
+ghost use Rattle.picky_wire_base.specs.Numbers.{byte, uint64};
+ghost use Rattle.picky_wire_base.specs.Mpint.{mpint};
 ghost use Rattle.picky_wire.specs.Count.{Rose};
 ghost use Rattle.picky_wire.specs.Flaws.{TakesLayout, StopHasCause, StopIsShort, StopsUnread, flaw_stop};
 
-use crate::bytes::{Bytes, Text};
-use crate::mpint::Mpint;
 use crate::read::{SshReadExt, read_byte, read_uint32, read_uint64};
 use crate::source::Source;
 use crate::stop::Stop;
+use picky_wire_base::{Bytes, Mpint, Text};
 use std::alloc::Global;
 
 /// A number, as `read_ssh_mpint` reads it. Refuses, in order: `Fault`, `Short`, `TooLong`.

@@ -1,16 +1,12 @@
 //! The wire of SSH: sources and sinks that may fail, and the fields that are read from one (RFC 4251, section 5).
 #![tactic(auto)]
 
-mod bytes;
 mod calls;
-mod copy;
 mod element;
 mod error;
 mod fields;
 pub mod laws;
-mod list;
 mod list_codec;
-mod mpint;
 mod piece;
 mod principals;
 mod read;
@@ -19,19 +15,15 @@ mod source;
 mod std_io;
 mod stop;
 mod timestamp;
-mod view;
 mod write;
 
-pub use bytes::{Bytes, MAX_LEN, Text};
 pub use calls::FailingCalls;
-pub use copy::{TryClone, both};
 pub use element::{CodecError, SshComplexTypeDecode, SshComplexTypeEncode, SshElement, SshLayout};
-pub use error::{Failed, IoKind, NoMemory, SizeError, WireError};
+pub use error::{Failed, IoKind, WireError};
 pub use fields::{take_byte, take_bytes, take_mpint, take_text, take_uint32, take_uint64};
-pub use list::List;
 pub use list_codec::{decode_items, decode_list, encode_list};
-pub use mpint::Mpint;
-pub use piece::{Piece, pieces_len, push_pieces, write_piece, write_pieces};
+pub use picky_wire_base::{Bytes, List, MAX_LEN, Mpint, NoMemory, Part, Piece, SizeError, Stuck, Text, TryClone, Word, both, byte_at, mpint_at, pieces_len, push_pieces, sized_at, string_at, text_at, uint32_at, uint64_at, word_at};
+pub use piece::{write_piece, write_pieces};
 pub use principals::{decode_principals, encode_principals};
 pub use read::{SshReadExt, fill, read_byte, read_chunks, read_uint32, read_uint64};
 pub use sink::{MemorySink, Sink};
@@ -39,8 +31,4 @@ pub use source::{MemorySource, SliceSource, Source};
 pub use std_io::{StdSink, StdSource};
 pub use stop::Stop;
 pub use timestamp::Timestamp;
-pub use view::{
-    Part, Stuck, Word, byte_at, mpint_at, sized_at, string_at, text_at, uint32_at, uint64_at,
-    word_at,
-};
 pub use write::{SshWriteExt, write_all};

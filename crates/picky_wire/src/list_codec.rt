@@ -2,25 +2,24 @@
 
 ghost use Rattle.std.specs.Prelude.{◌≡◌, ◌≢◌, ◌^◌, ◌<◌, ◌≤◌, None, Err, All, length, IfErr, OnOk, OnSome, MatchOption};
 ghost use Rattle.std.specs.List.{flat_map};
-ghost use Rattle.picky_layout.specs.Many.{read_many};
-ghost use Rattle.picky_layout.specs.Row.{read_all};
-ghost use Rattle.picky_layout.specs.Wire.{string, string_of};
+ghost use Rattle.picky_wire_base.specs.Many.{read_many};
+ghost use Rattle.picky_wire_base.specs.Row.{read_all};
+ghost use Rattle.picky_wire_base.specs.Wire.{string, string_of};
 ghost use Rattle.picky_wire.specs.declared.error.WireError.TheVariants as errors;
 ghost use Rattle.picky_wire.specs.Count.{Rose};
 ghost use Rattle.picky_wire.specs.Flaws.{wire_error};
-ghost use Rattle.picky_wire.specs.Gives.{Gives};
+ghost use Rattle.picky_wire_base.specs.Gives.{Gives};
 ghost use Rattle.picky_wire.specs.Puts.{Puts};
 ghost use Rattle.picky_wire.specs.Unread.{Unread};
 ghost use Rattle.picky_wire.specs.Takes.{Takes, TakesString, HasCause, causes_of};
 
-use crate::bytes::MAX_LEN;
 use crate::element::{SshComplexTypeDecode, SshComplexTypeEncode, SshLayout};
 use crate::error::WireError;
-use crate::list::List;
 use crate::read::SshReadExt;
 use crate::sink::Sink;
 use crate::source::{SliceSource, Source};
 use crate::write::write_all;
+use picky_wire_base::{List, MAX_LEN};
 use std::alloc::Global;
 
 /// The values that a string field is made of, with nothing left over.

@@ -2,8 +2,8 @@
 
 ghost use Rattle.std.specs.Prelude.{◌≡◌, ◌^◌, ◌<◌, ◌≤◌, List, None, refl, Err, length, IfErr};
 ghost use Rattle.std.specs.List.{flat_map};
-ghost use Rattle.picky_layout.specs.Many.{read_many};
-ghost use Rattle.picky_layout.specs.Wire.{string, string_of};
+ghost use Rattle.picky_wire_base.specs.Many.{read_many};
+ghost use Rattle.picky_wire_base.specs.Wire.{string, string_of};
 ghost use Rattle.picky_wire.specs.Count.{Rose};
 ghost use Rattle.picky_wire.specs.Flaws.{wire_causes, wire_error};
 ghost use Rattle.picky_wire.specs.Unread.{Unread};
@@ -12,15 +12,14 @@ ghost use Rattle.picky_wire.specs.Principals.{principal, IsPrincipal};
 ghost use Rattle.picky_wire.specs.carried.Principals.{principal_spells, principal_own, principal_solid};
 ghost use Rattle.picky_wire.specs.Puts.{Puts};
 
-use crate::bytes::Text;
 use crate::element::{SshComplexTypeDecode, SshComplexTypeEncode, SshElement, SshLayout};
 use crate::error::WireError;
-use crate::list::List;
 use crate::list_codec::{decode_list, encode_list};
-use crate::piece::{Piece, write_piece};
+use crate::piece::write_piece;
 use crate::read::SshReadExt;
 use crate::sink::Sink;
 use crate::source::Source;
+use picky_wire_base::{List, Piece, Text};
 use std::alloc::Global;
 
 /// Writes the texts' string fields, joined, as a string field.

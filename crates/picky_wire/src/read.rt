@@ -2,21 +2,20 @@
 
 ghost use Rattle.std.specs.Prelude.{◌≡◌, ◌⊎◌, ◌^◌, ◌<◌, ◌≤◌, ◌+◌, ◌++◌, length, max, replicate, Err, IfSome, IfOk, IfErr, OnOk, OnErr, MatchOption, true, false, vec_len, vec_capacity};
 ghost use Rattle.std.specs.Str.{is_utf8};
-ghost use Rattle.picky_layout.specs.Combine.{tag};
-ghost use Rattle.picky_layout.specs.Outcome.{map_ok};
-ghost use Rattle.picky_layout.specs.Wire.{byte_array, uint32, string, text};
-ghost use Rattle.picky_layout.specs.Numbers.{byte, uint64};
-ghost use Rattle.picky_layout.specs.Mpint.{mpint};
+ghost use Rattle.picky_wire_base.specs.Combine.{tag};
+ghost use Rattle.picky_wire_base.specs.Outcome.{map_ok};
+ghost use Rattle.picky_wire_base.specs.Wire.{byte_array, uint32, string, text};
+ghost use Rattle.picky_wire_base.specs.Numbers.{byte, uint64};
+ghost use Rattle.picky_wire_base.specs.Mpint.{mpint};
 ghost use Rattle.picky_wire.specs.Count.{Rose};
 ghost use Rattle.picky_wire.specs.Takes.{HasCause, StopsShort};
 ghost use Rattle.picky_wire.specs.Flaws.{TakesField, wire_causes, wire_error};
 ghost use Rattle.picky_wire.specs.Unread.{Unread};
 ghost use Rattle.picky_wire.specs.LengthFirst.{LengthFirst};
 
-use crate::bytes::{Bytes, Text};
-use crate::error::{NoMemory, SizeError, WireError};
-use crate::mpint::Mpint;
+use crate::error::WireError;
 use crate::source::Source;
+use picky_wire_base::{Bytes, Mpint, NoMemory, SizeError, Text};
 use std::alloc::Global;
 
 /// How many bytes are asked for at a time.
@@ -29,7 +28,7 @@ pub trait SshReadExt: Source {
     /// `string` of RFC 4251, section 5. The buffer grows with what is read, 4,096 bytes at a time.
     /// Refuses, in order: `ReadFault`, where a call of the source failed; `UnexpectedEnd`, where fewer bytes
     /// are left than the field says.
-    #[tactic(auto, unfolding(picky_layout::specs::Wire::string), using(crate::proofs::CauseLemmas::causes))]
+    #[tactic(auto, unfolding(picky_wire_base::specs::Wire::string), using(crate::proofs::CauseLemmas::causes))]
     final fn read_ssh_bytes(&mut self, alloc: Global) -> Result<Bytes, WireError>
     where
         Self: Sized,
@@ -53,7 +52,7 @@ pub trait SshReadExt: Source {
     ///
     /// `string` of RFC 4251, section 5. The buffer grows as for `read_ssh_bytes`.
     /// Refuses, in order: as `read_ssh_bytes`; `InvalidUtf8`, where the string isn't UTF-8.
-    #[tactic(auto, unfolding(picky_layout::specs::Wire::text), using(crate::proofs::CauseLemmas::causes, crate::proofs::LengthFirstLemmas::length_firsts))]
+    #[tactic(auto, unfolding(picky_wire_base::specs::Wire::text), using(crate::proofs::CauseLemmas::causes, crate::proofs::LengthFirstLemmas::length_firsts))]
     final fn read_ssh_string(&mut self, alloc: Global) -> Result<Text, WireError>
     where
         Self: Sized,
@@ -77,7 +76,7 @@ pub trait SshReadExt: Source {
     /// `mpint` of RFC 4251, section 5. The buffer grows as for `read_ssh_bytes`.
     /// Refuses, in order: as `read_ssh_bytes`; `TooLong`, where 2^32 - 1 bytes or more are left without the
     /// leading zeros.
-    #[tactic(auto, unfolding(picky_layout::specs::Mpint::mpint), using(crate::proofs::CauseLemmas::causes, crate::proofs::LengthFirstLemmas::length_firsts))]
+    #[tactic(auto, unfolding(picky_wire_base::specs::Mpint::mpint), using(crate::proofs::CauseLemmas::causes, crate::proofs::LengthFirstLemmas::length_firsts))]
     final fn read_ssh_mpint(&mut self, alloc: Global) -> Result<Mpint, WireError>
     where
         Self: Sized,
@@ -101,7 +100,7 @@ pub trait SshReadExt: Source {
 impl<S: Source> SshReadExt for S {}
 
 /// The bytes as a text, where they are UTF-8.
-#[tactic(auto, using(crate::proofs::TextLemmas::is_no_text))]
+#[tactic(auto, using(picky_wire_base::proofs::TextLemmas::is_no_text))]
 fn text_of(bytes: Bytes) -> Option<Text>
     ensures { MatchOption result (is_utf8 bytes ≡ false) (λ text. (text ≡ bytes) × (is_utf8 bytes ≡ true)) }
 {
@@ -114,7 +113,7 @@ fn text_of(bytes: Bytes) -> Option<Text>
 /// A number of four bytes, most significant byte first.
 ///
 /// `uint32` of RFC 4251, section 5. Refuses, in order, as `read_ssh_bytes`: `ReadFault`, `UnexpectedEnd`.
-#[tactic(auto, unfolding(picky_layout::specs::Wire::uint32))]
+#[tactic(auto, unfolding(picky_wire_base::specs::Wire::uint32))]
 pub fn read_uint32<S: Source>(source: &mut S) -> Result<u32, WireError>
     ensures takes { TakesField S.tells S.left S.known S.faults uint32 result source.old source.new }
     ensures cause { IfErr result (StopsShort wire_causes (Rose (S.faults source.old) (S.faults source.new))) }
@@ -130,7 +129,7 @@ pub fn read_uint32<S: Source>(source: &mut S) -> Result<u32, WireError>
 /// A number of eight bytes, most significant byte first.
 ///
 /// `uint64` of RFC 4251, section 5. Refuses, in order, as `read_ssh_bytes`: `ReadFault`, `UnexpectedEnd`.
-#[tactic(auto, unfolding(picky_layout::specs::Numbers::uint64))]
+#[tactic(auto, unfolding(picky_wire_base::specs::Numbers::uint64))]
 pub fn read_uint64<S: Source>(source: &mut S) -> Result<u64, WireError>
     ensures takes { TakesField S.tells S.left S.known S.faults uint64 result source.old source.new }
     ensures cause { IfErr result (StopsShort wire_causes (Rose (S.faults source.old) (S.faults source.new))) }
@@ -145,7 +144,7 @@ pub fn read_uint64<S: Source>(source: &mut S) -> Result<u64, WireError>
 /// A number of one byte.
 ///
 /// `byte` of RFC 4251, section 5. Refuses, in order, as `read_ssh_bytes`: `ReadFault`, `UnexpectedEnd`.
-#[tactic(auto, unfolding(picky_layout::specs::Numbers::byte))]
+#[tactic(auto, unfolding(picky_wire_base::specs::Numbers::byte))]
 pub fn read_byte<S: Source>(source: &mut S) -> Result<u8, WireError>
     ensures takes { TakesField S.tells S.left S.known S.faults byte result source.old source.new }
     ensures cause { IfErr result (StopsShort wire_causes (Rose (S.faults source.old) (S.faults source.new))) }

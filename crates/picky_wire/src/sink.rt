@@ -6,7 +6,8 @@ ghost use Rattle.picky_wire.specs.Count.{Keeps, failed};
 ghost use Rattle.picky_wire.specs.Memory.{Taken, is_refused, taken_len, after_taken};
 
 use crate::calls::FailingCalls;
-use crate::error::{Failed, NoMemory};
+use crate::error::Failed;
+use picky_wire_base::NoMemory;
 use std::alloc::Global;
 use std::marker::Model;
 

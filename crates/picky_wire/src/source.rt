@@ -2,12 +2,13 @@
 
 ghost use Rattle.std.specs.Prelude.{◌≡◌, ◌^◌, ◌<◌, ◌≤◌, ◌-◌, ◌++◌, ◌↔◌, [], ℕ, List, Option, Some, None, true, take, drop, length, min, IfOk, OnOk, OnErr, IsOk, IsErr, IsSome, vec_len};
 ghost use Rattle.std.proofs.Common.{arith, lit<};
-ghost use Rattle.picky_layout.specs.Numbers.{IsBytes};
+ghost use Rattle.picky_wire_base.specs.Numbers.{IsBytes};
 ghost use Rattle.picky_wire.specs.Count.{Keeps, next_fails, failed};
 ghost use Rattle.picky_wire.specs.Memory.{MemorySourceState, given, after_given};
 
 use crate::calls::FailingCalls;
-use crate::error::{Failed, NoMemory};
+use crate::error::Failed;
+use picky_wire_base::NoMemory;
 use std::alloc::Global;
 use std::marker::Model;
 

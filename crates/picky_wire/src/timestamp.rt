@@ -7,13 +7,13 @@ ghost use Rattle.picky_wire.specs.Takes.{Takes, HasCause, causes_of};
 ghost use Rattle.picky_wire.specs.Moment.{timestamp};
 ghost use Rattle.picky_wire.specs.carried.Moment.{timestamp_spells, timestamp_own, timestamp_solid};
 
-use crate::copy::TryClone;
 use crate::element::{SshComplexTypeDecode, SshComplexTypeEncode, SshElement, SshLayout};
-use crate::error::{NoMemory, WireError};
-use crate::piece::{Piece, write_piece};
+use crate::error::WireError;
+use crate::piece::write_piece;
 use crate::read::read_uint64;
 use crate::sink::Sink;
 use crate::source::Source;
+use picky_wire_base::{NoMemory, Piece, TryClone};
 use std::alloc::Global;
 
 /// The seconds since 1970-01-01T00:00:00Z.

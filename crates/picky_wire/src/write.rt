@@ -1,15 +1,14 @@
 //! The fields of the wire, written to a sink.
 
 ghost use Rattle.std.specs.Prelude.{◌≡◌, ◌^◌, ◌<◌, ◌≤◌, ◌++◌, ◌↔◌, ℕ, true, false, take, length, slice_index, Err, OnOk, OnErr};
-ghost use Rattle.picky_layout.specs.Wire.{string_of};
-ghost use Rattle.picky_layout.specs.Mpint.{mpint_of};
+ghost use Rattle.picky_wire_base.specs.Wire.{string_of};
+ghost use Rattle.picky_wire_base.specs.Mpint.{mpint_of};
 ghost use Rattle.picky_wire.specs.Puts.{Puts};
 
-use crate::bytes::MAX_LEN;
 use crate::error::WireError;
-use crate::mpint::Mpint;
-use crate::piece::{Piece, write_piece};
+use crate::piece::write_piece;
 use crate::sink::Sink;
+use picky_wire_base::{MAX_LEN, Mpint, Piece};
 
 /// The fields that are written to a sink.
 pub trait SshWriteExt: Sink {

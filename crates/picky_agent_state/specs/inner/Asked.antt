@@ -1,6 +1,6 @@
 -- Words of private contracts: what a request shows whose parts are slices of its message.
 use Rattle.std.specs.Prelude.{⊤, ℕ, List, Result, Ok, Err}
-use Rattle.picky_wire.specs.declared.view.Stuck.{Stuck}
+use Rattle.picky_wire_base.specs.declared.view.Stuck.{Stuck}
 use Rattle.picky_keys.specs.View.{key_seen}
 use Rattle.picky_sshkey_blob.specs.Key.{IsPrivateKey}
 use Rattle.picky_sshkey_blob.specs.View.{key_seen as private_seen}

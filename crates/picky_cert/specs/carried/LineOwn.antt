@@ -4,10 +4,10 @@ use Rattle.std.specs.Prelude.{if◌then◌else◌, bytes_eq, length, nat_lt}
 use Rattle.std.specs.Option.{ok_or}
 use Rattle.std.specs.Str.{is_utf8}
 use Rattle.std.proofs.Common.{refl, sym, subst}
-use Rattle.picky_layout.specs.Flaw.{Why, Flawed, Length, Magic, Name, Number, Short, NotUtf8, Big}
-use Rattle.picky_layout.specs.Front.{read_front}
-use Rattle.picky_layout.specs.Outcome.{and_then, map_err}
-use Rattle.picky_layout.specs.Table.{find_entry}
+use Rattle.picky_wire_base.specs.Flaw.{Why, Flawed, Length, Magic, Name, Number, Short, NotUtf8, Big}
+use Rattle.picky_wire_base.specs.Front.{read_front}
+use Rattle.picky_wire_base.specs.Outcome.{and_then, map_err}
+use Rattle.picky_wire_base.specs.Table.{find_entry}
 use Rattle.picky_text.specs.Base64.{decoded}
 use Rattle.picky_text.specs.Words.{first_word, body_word}
 use Rattle.picky_wire.specs.declared.error.WireError.TheVariants as wire

@@ -1,6 +1,6 @@
 -- That each item of a certificate's lists has at least one byte.
-use Rattle.picky_layout.specs.Row.{Solid}
-use Rattle.picky_layout.proofs.Solid.{text_solid}
+use Rattle.picky_wire_base.specs.Row.{Solid}
+use Rattle.picky_wire_base.proofs.Solid.{text_solid}
 use Rattle.picky_cert_parts.specs.carried.CriticalOption.{option_solid}
 use Rattle.picky_cert_parts.specs.carried.Extension.{extension_solid}
 use Rattle.picky_cert_blob.specs.Items.{principal_item, option_item, extension_item}

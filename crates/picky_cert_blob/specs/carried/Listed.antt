@@ -1,12 +1,12 @@
 -- That a string takes its bytes where nothing inside it is refused, and that a refusal gives no value.
 use Rattle.std.specs.Prelude.{◌≡◌, List, ℕ, ◌+◌, length, Result, Ok, Err}
 use Rattle.std.proofs.Common.{◌∙◌, ap, sym}
-use Rattle.picky_layout.specs.Flaw.{Flaw}
-use Rattle.picky_layout.specs.Inside.{inside}
-use Rattle.picky_layout.specs.Narrowed.{Narrowing, meant}
-use Rattle.picky_layout.specs.Outcome.{map_err}
-use Rattle.picky_layout.specs.carried.Outcome.{and_then_ok, map_err_ok}
-use Rattle.picky_layout.specs.Wire.{string}
+use Rattle.picky_wire_base.specs.Flaw.{Flaw}
+use Rattle.picky_wire_base.specs.Inside.{inside}
+use Rattle.picky_wire_base.specs.Narrowed.{Narrowing, meant}
+use Rattle.picky_wire_base.specs.Outcome.{map_err}
+use Rattle.picky_wire_base.specs.carried.Outcome.{and_then_ok, map_err_ok}
+use Rattle.picky_wire_base.specs.Wire.{string}
 use Rattle.picky_cert_blob.specs.Used.{up_to, up_to_inside, used_inside}
 
 pub inside_takes : {E A : Type 0} (cut : Flaw → E) (M : Narrowing E (List ℕ) A) (used : List ℕ → ℕ)

@@ -1,12 +1,12 @@
 -- What an element of the wire promises of its layout, for the types of certificates.
 use Rattle.std.specs.Prelude.{◌≡◌, ◌≢◌, List, ℕ, Err}
 use Rattle.std.proofs.Common.{refl, arith}
-use Rattle.picky_layout.specs.Row.{Solid}
-use Rattle.picky_layout.proofs.Solid.{refuses_empty}
-use Rattle.picky_layout.specs.Entry.{entry}
-use Rattle.picky_layout.specs.Table.{find_entry}
-use Rattle.picky_layout.specs.Wire.{byte_array, uint32}
-use Rattle.picky_layout.proofs.Numbers.{uint32_spells}
+use Rattle.picky_wire_base.specs.Row.{Solid}
+use Rattle.picky_wire_base.proofs.Solid.{refuses_empty}
+use Rattle.picky_wire_base.specs.Entry.{entry}
+use Rattle.picky_wire_base.specs.Table.{find_entry}
+use Rattle.picky_wire_base.specs.Wire.{byte_array, uint32}
+use Rattle.picky_wire_base.proofs.Numbers.{uint32_spells}
 use Rattle.picky_wire.specs.declared.error.WireError.TheVariants as wire
 use Rattle.picky_cert_parts.specs.declared.error.SshCertTypeError.{SshCertTypeError}
 use Rattle.picky_cert_parts.specs.declared.error.SshCertTypeError.TheVariants as errors

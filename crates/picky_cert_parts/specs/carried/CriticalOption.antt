@@ -1,14 +1,14 @@
 -- What an element of the wire promises of its layout, for critical options.
 use Rattle.std.specs.Prelude.{◌≡◌, ◌≢◌, List, ℕ, true, Err}
 use Rattle.std.proofs.Common.{refl}
-use Rattle.picky_layout.specs.Row.{Solid}
-use Rattle.picky_layout.proofs.Solid.{refuses_empty}
-use Rattle.picky_layout.specs.Entry.{entry}
-use Rattle.picky_layout.specs.Table.{find_entry}
-use Rattle.picky_layout.specs.Named.{is_name}
-use Rattle.picky_layout.proofs.Named.{named_spells}
-use Rattle.picky_layout.specs.Wire.{byte_array, uint32, string, string_of, text}
-use Rattle.picky_layout.proofs.Strings.{string_spells}
+use Rattle.picky_wire_base.specs.Row.{Solid}
+use Rattle.picky_wire_base.proofs.Solid.{refuses_empty}
+use Rattle.picky_wire_base.specs.Entry.{entry}
+use Rattle.picky_wire_base.specs.Table.{find_entry}
+use Rattle.picky_wire_base.specs.Named.{is_name}
+use Rattle.picky_wire_base.proofs.Named.{named_spells}
+use Rattle.picky_wire_base.specs.Wire.{byte_array, uint32, string, string_of, text}
+use Rattle.picky_wire_base.proofs.Strings.{string_spells}
 use Rattle.picky_wire.specs.declared.error.WireError.TheVariants as wire
 use Rattle.picky_cert_parts.specs.declared.error.SshCriticalOptionError.{SshCriticalOptionError}
 use Rattle.picky_cert_parts.specs.declared.error.SshCriticalOptionError.TheVariants as errors
@@ -22,7 +22,7 @@ use Rattle.picky_cert_parts.specs.CertNames.{option_name}
 use Rattle.picky_cert_parts.specs.CertNameTables.{option_types}
 use Rattle.picky_cert_parts.specs.CriticalOption.{option_type, option_payload, option_made}
 use Rattle.picky_cert_parts.specs.CriticalOption.{option_rest, critical_option, option_of, IsOption}
-use Rattle.picky_layout.specs.Combine.{done}
+use Rattle.picky_wire_base.specs.Combine.{done}
 use Rattle.picky_cert_parts.specs.carried.Own.{Owns, field_owns, both_owns, narrow_owns, entry_owns}
 
 option_name_good : (t : SshCriticalOptionType) → is_name (option_types.key t) ≡ true

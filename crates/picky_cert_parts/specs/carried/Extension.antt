@@ -1,13 +1,13 @@
 -- What an element of the wire promises of its layout, for extensions.
 use Rattle.std.specs.Prelude.{◌≡◌, ◌≢◌, List, ℕ, true, Err}
 use Rattle.std.proofs.Common.{refl, sym, subst}
-use Rattle.picky_layout.specs.Row.{Solid}
-use Rattle.picky_layout.proofs.Solid.{refuses_empty}
-use Rattle.picky_layout.specs.Combine.{each, done}
-use Rattle.picky_layout.specs.Named.{is_name}
-use Rattle.picky_layout.proofs.Named.{named_spells}
-use Rattle.picky_layout.specs.Wire.{byte_array, uint32, string, string_of, text}
-use Rattle.picky_layout.proofs.Strings.{string_spells, text_spells}
+use Rattle.picky_wire_base.specs.Row.{Solid}
+use Rattle.picky_wire_base.proofs.Solid.{refuses_empty}
+use Rattle.picky_wire_base.specs.Combine.{each, done}
+use Rattle.picky_wire_base.specs.Named.{is_name}
+use Rattle.picky_wire_base.proofs.Named.{named_spells}
+use Rattle.picky_wire_base.specs.Wire.{byte_array, uint32, string, string_of, text}
+use Rattle.picky_wire_base.proofs.Strings.{string_spells, text_spells}
 use Rattle.picky_wire.specs.declared.error.WireError.TheVariants as wire
 use Rattle.picky_cert_parts.specs.declared.error.SshExtensionError.{SshExtensionError}
 use Rattle.picky_cert_parts.specs.declared.known_extension.KnownExtension.{KnownExtension}

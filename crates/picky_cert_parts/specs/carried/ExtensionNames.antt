@@ -1,7 +1,7 @@
 -- The name of an extension stands for it.
 use Rattle.std.specs.Prelude.{◌≡◌, Some}
 use Rattle.std.proofs.Common.{ap}
-use Rattle.picky_layout.specs.Table.{find_entry}
+use Rattle.picky_wire_base.specs.Table.{find_entry}
 use Rattle.picky_cert_parts.specs.declared.known_extension.KnownExtension.{KnownExtension}
 use Rattle.picky_cert_parts.specs.declared.known_extension.KnownExtension.TheVariants as known
 use Rattle.picky_cert_parts.specs.declared.extension_type.SshExtensionType.{SshExtensionType}

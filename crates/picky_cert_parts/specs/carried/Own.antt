@@ -1,11 +1,11 @@
 -- Layouts whose refusals are the bytes' own: none is for a fault or for want of memory.
 use Rattle.std.specs.Prelude.{◌≡◌, ◌≢◌, List, ℕ, Result, Ok, Err, Option, Some, None, ok_or}
 use Rattle.std.proofs.Common.{ap, ◌∙◌}
-use Rattle.picky_layout.specs.Flaw.{Flaw, Short, NotUtf8, Big}
-use Rattle.picky_layout.specs.Grammar.{Grammar}
-use Rattle.picky_layout.specs.Combine.{narrow, ◌>>=◌}
-use Rattle.picky_layout.specs.Narrowed.{Narrowing, meant}
-use Rattle.picky_layout.specs.Outcome.{and_then, map_err}
+use Rattle.picky_wire_base.specs.Flaw.{Flaw, Short, NotUtf8, Big}
+use Rattle.picky_wire_base.specs.Grammar.{Grammar}
+use Rattle.picky_wire_base.specs.Combine.{narrow, ◌>>=◌}
+use Rattle.picky_wire_base.specs.Narrowed.{Narrowing, meant}
+use Rattle.picky_wire_base.specs.Outcome.{and_then, map_err}
 use Rattle.picky_wire.specs.declared.error.WireError.{WireError}
 use Rattle.picky_wire.specs.declared.error.WireError.TheVariants as errors
 use Rattle.picky_wire.specs.Flaws.{wire_error}

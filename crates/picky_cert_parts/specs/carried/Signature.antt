@@ -4,17 +4,17 @@ use Rattle.std.specs.Prelude.{Option, Some, None, Err}
 use Rattle.std.specs.List.{concat}
 use Rattle.std.proofs.Common.{refl, sym, subst}
 use Rattle.std.proofs.lemmas.Bool.{ltb-true}
-use Rattle.picky_layout.specs.Row.{Solid}
-use Rattle.picky_layout.proofs.Solid.{refuses_empty}
-use Rattle.picky_layout.specs.Combine.{done, ◌>>=◌}
-use Rattle.picky_layout.specs.Entry.{entry}
-use Rattle.picky_layout.specs.Table.{find_entry}
-use Rattle.picky_layout.specs.Named.{is_name}
-use Rattle.picky_layout.proofs.Named.{named_spells}
-use Rattle.picky_layout.specs.Numbers.{byte}
-use Rattle.picky_layout.specs.Wire.{byte_array, uint32, string, string_of, text}
-use Rattle.picky_layout.proofs.Numbers.{byte_spells, uint32_spells}
-use Rattle.picky_layout.proofs.Strings.{string_spells}
+use Rattle.picky_wire_base.specs.Row.{Solid}
+use Rattle.picky_wire_base.proofs.Solid.{refuses_empty}
+use Rattle.picky_wire_base.specs.Combine.{done, ◌>>=◌}
+use Rattle.picky_wire_base.specs.Entry.{entry}
+use Rattle.picky_wire_base.specs.Table.{find_entry}
+use Rattle.picky_wire_base.specs.Named.{is_name}
+use Rattle.picky_wire_base.proofs.Named.{named_spells}
+use Rattle.picky_wire_base.specs.Numbers.{byte}
+use Rattle.picky_wire_base.specs.Wire.{byte_array, uint32, string, string_of, text}
+use Rattle.picky_wire_base.proofs.Numbers.{byte_spells, uint32_spells}
+use Rattle.picky_wire_base.proofs.Strings.{string_spells}
 use Rattle.picky_keys.specs.Key.{IsString}
 use Rattle.picky_wire.specs.declared.error.WireError.TheVariants as wire
 use Rattle.picky_cert_parts.specs.declared.error.SshSignatureError.{SshSignatureError}

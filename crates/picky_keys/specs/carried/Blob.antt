@@ -1,8 +1,8 @@
 -- The one spelling that is written is a piece of the blob.
 use Rattle.std.proofs.Common.{refl, arith}
-use Rattle.picky_layout.specs.Wire.{string_of}
-use Rattle.picky_layout.proofs.Strings.{string_spells, text_spells}
-use Rattle.picky_layout.proofs.Mpint.{mpint_spells}
+use Rattle.picky_wire_base.specs.Wire.{string_of}
+use Rattle.picky_wire_base.proofs.Strings.{string_spells, text_spells}
+use Rattle.picky_wire_base.proofs.MpintLaws.{mpint_spells}
 use Rattle.picky_keys.specs.KeyNames.{kind_name, curve_identifier}
 use Rattle.picky_keys.specs.carried.KeyNamePieces.{kind_name_spells, identifier_spells}
 use Rattle.picky_keys.specs.declared.curve.EcCurve.TheVariants.{NistP256}

@@ -1,9 +1,9 @@
 -- The names of kinds and curves, spelled by their strings.
 use Rattle.std.specs.Prelude.{◌≡◌, ℕ, true}
 use Rattle.std.proofs.Common.{refl, sym, subst}
-use Rattle.picky_layout.specs.Wire.{string_of, text}
-use Rattle.picky_layout.specs.Named.{is_name, named}
-use Rattle.picky_layout.proofs.Named.{named_spells}
+use Rattle.picky_wire_base.specs.Wire.{string_of, text}
+use Rattle.picky_wire_base.specs.Named.{is_name, named}
+use Rattle.picky_wire_base.proofs.Named.{named_spells}
 use Rattle.picky_keys.specs.declared.curve.EcCurve.{EcCurve}
 use Rattle.picky_keys.specs.declared.curve.EcCurve.TheVariants.{NistP256, NistP384, NistP521}
 use Rattle.picky_keys.specs.declared.curve.EdAlgorithm.TheVariants.{Ed25519}

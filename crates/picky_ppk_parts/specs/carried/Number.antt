@@ -3,9 +3,9 @@ use Rattle.std.specs.Prelude.{◌≡◌, List, ℕ, ◌+◌, ◌-◌, ◌++◌, 
 use Rattle.std.proofs.Common.{sym, ap, ◌∙◌, arith}
 use Rattle.std.proofs.lemmas.Bool.{leb-true, le-leb}
 use Rattle.std.proofs.lemmas.List.{length-append, length-replicate}
-use Rattle.picky_layout.specs.carried.Outcome.{passed_ok}
-use Rattle.picky_layout.specs.Zeros.{without_zeros}
-use Rattle.picky_layout.specs.carried.Zeros.{zeros_are_dropped, all_is_kept, zeros_in_front, no_zero_begins}
+use Rattle.picky_wire_base.specs.carried.Outcome.{passed_ok}
+use Rattle.picky_wire_base.specs.Zeros.{without_zeros}
+use Rattle.picky_wire_base.specs.carried.Zeros.{zeros_are_dropped, all_is_kept, zeros_in_front, no_zero_begins}
 use Rattle.picky_ppk_parts.specs.Number.{IsNumberOf, padded, read_number}
 
 -- What is padded is as long as wanted.

@@ -1,7 +1,7 @@
 -- What the views of private bytes show, and what they are stopped by.
 use Rattle.std.specs.Prelude.{List, ℕ}
-use Rattle.picky_layout.specs.Magnitude.{IsMagnitude}
-use Rattle.picky_wire.specs.declared.view.Part.{Part}
+use Rattle.picky_wire_base.specs.Magnitude.{IsMagnitude}
+use Rattle.picky_wire_base.specs.declared.view.Part.{Part}
 use Rattle.picky_ppk_parts.specs.Number.{padded}
 use Rattle.picky_ppk_parts.specs.declared.secret.RsaParts.{RsaParts}
 use Rattle.picky_ppk_parts.specs.Secret.{RsaSecret}

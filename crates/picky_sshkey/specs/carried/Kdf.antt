@@ -5,18 +5,18 @@ use Rattle.std.specs.Int.{w32, to_be_bytes}
 use Rattle.std.proofs.Common.{refl, sym, ap, ◌∙◌, subst, arith}
 use Rattle.std.proofs.lemmas.Bool.{eqb-true, ltb-true}
 use Rattle.std.proofs.lemmas.List.{append-nil, length-append}
-use Rattle.picky_layout.specs.Flaw.{Flaw}
-use Rattle.picky_layout.specs.Narrowed.{Narrowing, meant}
-use Rattle.picky_layout.specs.Outcome.{and_then, map_err}
-use Rattle.picky_layout.specs.Row.{Solid}
-use Rattle.picky_layout.proofs.Solid.{refuses_empty}
-use Rattle.picky_layout.proofs.Empty.{or_empty_spells, or_empty_spells_empty}
-use Rattle.picky_layout.proofs.Numbers.{uint32_spells}
-use Rattle.picky_layout.proofs.Strings.{string_spells}
-use Rattle.picky_layout.specs.Wire.{byte_array, uint32, string, string_of}
+use Rattle.picky_wire_base.specs.Flaw.{Flaw}
+use Rattle.picky_wire_base.specs.Narrowed.{Narrowing, meant}
+use Rattle.picky_wire_base.specs.Outcome.{and_then, map_err}
+use Rattle.picky_wire_base.specs.Row.{Solid}
+use Rattle.picky_wire_base.proofs.Solid.{refuses_empty}
+use Rattle.picky_wire_base.proofs.Empty.{or_empty_spells, or_empty_spells_empty}
+use Rattle.picky_wire_base.proofs.Numbers.{uint32_spells}
+use Rattle.picky_wire_base.proofs.Strings.{string_spells}
+use Rattle.picky_wire_base.specs.Wire.{byte_array, uint32, string, string_of}
 use Rattle.picky_wire.specs.declared.error.WireError.{WireError}
 use Rattle.picky_wire.specs.declared.error.WireError.TheVariants as errors
-use Rattle.picky_wire.proofs.WriteLemmas.{length-string_of}
+use Rattle.picky_wire_base.proofs.PieceLemmas.{length-string_of}
 use Rattle.picky_wire.specs.Flaws.{wire_error}
 use Rattle.picky_wire.specs.carried.Flaws.{wire_own}
 use Rattle.picky_sshkey.specs.declared.kdf.KdfOption.{KdfOption}

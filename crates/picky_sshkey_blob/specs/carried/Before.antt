@@ -6,7 +6,7 @@ use Rattle.std.proofs.lemmas.Bool.{leb-true, le-leb}
 use Rattle.std.proofs.lemmas.Slice.Eq.{bytes_eq-Decides}
 use Rattle.std.proofs.lemmas.List.{take-append-drop, length-append, length-take-le, drop_at}
 use Rattle.std.proofs.Math.Seq.{take-append_seam}
-use Rattle.picky_layout.specs.carried.Outcome.{passed_ok}
+use Rattle.picky_wire_base.specs.carried.Outcome.{passed_ok}
 use Rattle.picky_sshkey_blob.specs.Before.{StandsBefore, read_before}
 
 both_true : (a b : Bool) → (a && b) ≡ true → (a ≡ true) × (b ≡ true)

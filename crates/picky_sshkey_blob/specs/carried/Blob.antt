@@ -2,10 +2,10 @@
 use Rattle.std.specs.Prelude.{[], ◌++◌, ◌<◌, ◌^◌, length}
 use Rattle.std.proofs.Common.{refl, arith}
 use Rattle.std.proofs.lemmas.List.{length-append}
-use Rattle.picky_layout.specs.Wire.{string_of}
-use Rattle.picky_layout.proofs.Strings.{string_spells, text_spells}
-use Rattle.picky_layout.proofs.Numbers.{byte_spells}
-use Rattle.picky_layout.proofs.Mpint.{mpint_spells}
+use Rattle.picky_wire_base.specs.Wire.{string_of}
+use Rattle.picky_wire_base.proofs.Strings.{string_spells, text_spells}
+use Rattle.picky_wire_base.proofs.Numbers.{byte_spells}
+use Rattle.picky_wire_base.proofs.MpintLaws.{mpint_spells}
 use Rattle.picky_keys.specs.KeyNames.{kind_name, curve_identifier}
 use Rattle.picky_keys.specs.carried.KeyNamePieces.{kind_name_spells, identifier_spells}
 use Rattle.picky_keys.specs.declared.curve.EcCurve.TheVariants.{NistP256}

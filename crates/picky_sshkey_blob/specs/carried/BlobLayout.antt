@@ -1,11 +1,11 @@
 -- What an element of the wire promises of its layout, for a private key's blob.
 use Rattle.std.specs.Prelude.{◌≡◌, ◌≢◌, List, ℕ, Bool, true, false, if◌then◌else◌, ◌==◌, Result, Ok, Err}
 use Rattle.std.proofs.Common.{refl, ◌∙◌}
-use Rattle.picky_layout.specs.Flaw.{Reason, Short, NotUtf8, Big, Flawed, Length, Magic, Name, Number}
-use Rattle.picky_layout.specs.Outcome.{map_err}
-use Rattle.picky_layout.specs.Row.{Solid}
-use Rattle.picky_layout.proofs.Solid.{refuses_empty}
-use Rattle.picky_layout.specs.Wire.{byte_array, uint32, string, text}
+use Rattle.picky_wire_base.specs.Flaw.{Reason, Short, NotUtf8, Big, Flawed, Length, Magic, Name, Number}
+use Rattle.picky_wire_base.specs.Outcome.{map_err}
+use Rattle.picky_wire_base.specs.Row.{Solid}
+use Rattle.picky_wire_base.proofs.Solid.{refuses_empty}
+use Rattle.picky_wire_base.specs.Wire.{byte_array, uint32, string, text}
 use Rattle.picky_wire.specs.declared.error.WireError.TheVariants as wire
 use Rattle.picky_keys.specs.Blob.{key_type}
 use Rattle.picky_sshkey_blob.specs.declared.error.SshPrivateKeyError.{SshPrivateKeyError}

@@ -1,5 +1,5 @@
 -- Words of private contracts: where the readers of a private key's blob stop.
-use Rattle.picky_layout.specs.Flaw.{Reason, Flawed, Length, Magic, Name, Number}
+use Rattle.picky_wire_base.specs.Flaw.{Reason, Flawed, Length, Magic, Name, Number}
 use Rattle.std.specs.Prelude.{◌==◌, if◌then◌else◌}
 use Rattle.picky_wire.specs.declared.stop.Stop.{Stop}
 use Rattle.picky_wire.specs.declared.stop.Stop.TheVariants as stops

@@ -6,7 +6,7 @@ use Rattle.std.specs.List.{AllByRecursion}
 use Rattle.sha2.specs.Sha512.{sha512}
 use Rattle.sha2.specs.Sha512.{digest_bytes as words_bytes}
 use Rattle.sha2.proofs.Facts512.{length-sha512}
-use Rattle.picky_layout.specs.Numbers.{IsBytes}
+use Rattle.picky_wire_base.specs.Numbers.{IsBytes}
 
 pub joined_bytes : (x y : List ℕ) → IsBytes x → IsBytes y → IsBytes (x ++ y)
 joined_bytes [] y front back i = back i

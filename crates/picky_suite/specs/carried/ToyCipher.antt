@@ -4,8 +4,8 @@ use Rattle.std.proofs.Common.{refl, sym, ◌∙◌, ap, arith, bit_xor, length-a
 use Rattle.std.specs.Int.Bits.{xor_assoc, xor_self, xor_zero_r}
 use Rattle.std.proofs.lemmas.Nat.{xor_of_8}
 use Rattle.std.proofs.lemmas.List.{take_at, drop_at, length-take-le}
-use Rattle.picky_layout.specs.Numbers.{IsBytes}
-use Rattle.picky_layout.proofs.Numbers.{front_bytes, back_bytes}
+use Rattle.picky_wire_base.specs.Numbers.{IsBytes}
+use Rattle.picky_wire_base.proofs.Numbers.{front_bytes, back_bytes}
 use Rattle.picky_suite.specs.Ranges.{IsWhole}
 use Rattle.picky_suite.specs.Toy.{xored, first_block, more_blocks, ciphered, seal_blocks, open_blocks, toy_seal, toy_open, masks, toy_ctr}
 use Rattle.picky_suite.specs.carried.Bytes.{joined_bytes, no_bytes}

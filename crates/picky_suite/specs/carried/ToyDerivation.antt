@@ -1,8 +1,8 @@
 -- What is derived for tests has its length, and is bytes.
 use Rattle.std.proofs.Common.{◌≡◌, ◌≤◌, ℕ, List, [], ◌∷◌, ◌++◌, length, inl, inr, arith, length-append}
 use Rattle.std.proofs.lemmas.List.{length-take-le}
-use Rattle.picky_layout.specs.Numbers.{IsBytes}
-use Rattle.picky_layout.proofs.Numbers.{front_bytes}
+use Rattle.picky_wire_base.specs.Numbers.{IsBytes}
+use Rattle.picky_wire_base.proofs.Numbers.{front_bytes}
 use Rattle.picky_suite.specs.declared.flavour.Flavour.{Flavour}
 use Rattle.picky_suite.specs.Ranges.{IsBcryptLen}
 use Rattle.picky_suite.specs.Toy.{derived_block, derived, toy_bcrypt, toy_argon2}

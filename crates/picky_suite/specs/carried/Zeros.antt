@@ -1,7 +1,7 @@
 -- Zero bytes are so many, and bytes.
 use Rattle.std.proofs.Common.{◌≡◌, ℕ, zero, suc, length, arith}
 use Rattle.std.proofs.lemmas.List.{length-replicate}
-use Rattle.picky_layout.specs.Numbers.{IsBytes}
+use Rattle.picky_wire_base.specs.Numbers.{IsBytes}
 use Rattle.picky_suite.specs.Zeros.{zeros}
 
 pub length-zeros : (n : ℕ) → length (zeros n) ≡ n

@@ -1,7 +1,7 @@
 -- What is written of a private key as PuTTY's file, step by step as the code judges it.
 use Rattle.std.specs.Prelude.{◌+◌, ◌++◌, ◌&&◌, Bool, true, false, not, List, ℕ, Option, None, Some, Result, Ok, Err}
 use Rattle.std.specs.Prelude.{length, nat_le, replicate, take, drop, if◌then◌else◌}
-use Rattle.picky_layout.specs.Outcome.{and_then, map_err}
+use Rattle.picky_wire_base.specs.Outcome.{and_then, map_err}
 use Rattle.picky_kv_words.specs.declared.choices.PpkVersionKey.{PpkVersionKey}
 use Rattle.picky_suite.specs.Meanings.{Meanings}
 use Rattle.picky_keys.specs.LineRefusal.{is_short}

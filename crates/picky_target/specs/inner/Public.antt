@@ -1,6 +1,6 @@
 -- What is written of a public key, or the first reason why nothing is: the two public targets, by their own conditions.
 use Rattle.std.specs.Prelude.{◌&&◌, List, ℕ, Result, Ok, Err, if◌then◌else◌}
-use Rattle.picky_layout.specs.Outcome.{and_then, map_err}
+use Rattle.picky_wire_base.specs.Outcome.{and_then, map_err}
 use Rattle.picky_keys.specs.declared.key.SshPublicKey.{SshPublicKey}
 use Rattle.picky_keys.specs.Blob.{blob_of}
 use Rattle.picky_keys.specs.Line.{line_of}

@@ -1,7 +1,7 @@
 -- Errors of the wire as an element carries them.
 use Rattle.std.specs.Prelude.{◌≡◌, ◌≢◌, ℕ, List, Result, Ok, Err}
-use Rattle.picky_layout.specs.Outcome.{map_err}
-use Rattle.picky_layout.specs.Flaw.{Flaw, Short, NotUtf8, Big}
+use Rattle.picky_wire_base.specs.Outcome.{map_err}
+use Rattle.picky_wire_base.specs.Flaw.{Flaw, Short, NotUtf8, Big}
 use Rattle.picky_wire.specs.declared.error.WireError.{WireError}
 use Rattle.picky_wire.specs.declared.error.WireError.TheVariants as errors
 use Rattle.picky_wire.specs.Flaws.{wire_error}

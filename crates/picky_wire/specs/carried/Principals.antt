@@ -1,9 +1,9 @@
 -- What an element of the wire promises of its layout, for principals.
 use Rattle.std.specs.Prelude.{◌≡◌, ◌≢◌, Err, ℕ, List}
-use Rattle.picky_layout.specs.Row.{Solid}
-use Rattle.picky_layout.specs.Wire.{text, string_of}
-use Rattle.picky_layout.proofs.Strings.{text_spells}
-use Rattle.picky_layout.proofs.Solid.{text_solid}
+use Rattle.picky_wire_base.specs.Row.{Solid}
+use Rattle.picky_wire_base.specs.Wire.{text, string_of}
+use Rattle.picky_wire_base.proofs.Strings.{text_spells}
+use Rattle.picky_wire_base.proofs.Solid.{text_solid}
 use Rattle.picky_wire.specs.declared.error.WireError.{WireError}
 use Rattle.picky_wire.specs.declared.error.WireError.TheVariants as errors
 use Rattle.picky_wire.specs.carried.Flaws.{wire_own}

@@ -1,5 +1,5 @@
 -- Words of private contracts of readers, here and in the crates above: why a reading stops.
-use Rattle.picky_layout.specs.Flaw.{Why, Reason, Flawed, Length, Magic, Name, Number}
+use Rattle.picky_wire_base.specs.Flaw.{Why, Reason, Flawed, Length, Magic, Name, Number}
 use Rattle.picky_wire.specs.declared.stop.Stop.{Stop}
 use Rattle.picky_wire.specs.declared.stop.Stop.TheVariants as stops
 use Rattle.picky_wire.specs.Flaws.{flaw_stop}

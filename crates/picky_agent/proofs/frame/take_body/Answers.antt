@@ -1,6 +1,6 @@
 -- The bytes, or an end inside them.
 use Rattle.std.proofs.Common.{◌++◌, ◌∙◌, ap, sym, subst, Err}
-use Rattle.picky_layout.specs.Wire.{byte_array}
+use Rattle.picky_wire_base.specs.Wire.{byte_array}
 use Rattle.picky_agent.specs.declared.frame.FrameError.{FrameError}
 use Rattle.picky_agent.specs.inner.Frame.{Bodies}
 use Rattle.picky_agent.proofs.FrameLemmas.{body_missed, ends_here, read_stands}

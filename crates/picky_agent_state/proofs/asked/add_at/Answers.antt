@@ -1,6 +1,6 @@
 -- A key and a comment that lie in the message are short.
-use Rattle.picky_layout.specs.Wire.{text}
-use Rattle.picky_wire.specs.View.{end_of}
+use Rattle.picky_wire_base.specs.Wire.{text}
+use Rattle.picky_wire_base.specs.View.{end_of}
 use Rattle.picky_keys.specs.Blob.{key_type}
 use Rattle.picky_agent_state.proofs.EntryLemmas.{can_add}
 use Rattle.picky_agent_state.proofs.asked.add_at.Goals as goal

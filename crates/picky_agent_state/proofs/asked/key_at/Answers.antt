@@ -1,6 +1,6 @@
 -- A string that is cut, or begins with no key.
 use Rattle.std.proofs.Common.{drop}
-use Rattle.picky_wire.specs.View.{part_bytes, why_of}
+use Rattle.picky_wire_base.specs.View.{part_bytes, why_of}
 use Rattle.picky_agent_state.proofs.AskedLemmas.{key_is_cut, key_is_refused}
 use Rattle.picky_agent_state.proofs.asked.key_at.Goals as goal
 

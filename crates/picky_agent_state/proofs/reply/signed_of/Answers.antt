@@ -1,7 +1,7 @@
 -- The reply, and one that is too long.
 use Rattle.std.proofs.Common.{◌≡◌, ◌≤◌, ◌+◌, ◌∙◌, ℕ, List, length, ap, subst, sym, arith}
 use Rattle.std.specs.Prelude.{IfOk}
-use Rattle.picky_layout.specs.Wire.{string_of}
+use Rattle.picky_wire_base.specs.Wire.{string_of}
 use Rattle.picky_cert_parts.specs.CertNames.{format_name}
 use Rattle.picky_agent_state.specs.Reply.{fitted}
 use Rattle.picky_agent_state.proofs.ReplyLemmas.{long_signature_fails, signed_bytes}

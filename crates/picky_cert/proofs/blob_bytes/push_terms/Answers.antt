@@ -1,7 +1,7 @@
 -- Names that are too long make the terms too long; the others are pushed in two parts.
 use Rattle.std.specs.List.{flat_map}
 use Rattle.std.proofs.Common.{◌∙◌, ap, arith}
-use Rattle.picky_layout.specs.Wire.{string_of}
+use Rattle.picky_wire_base.specs.Wire.{string_of}
 use Rattle.picky_cert.specs.Certificate.{said}
 use Rattle.picky_cert.proofs.WrittenLemmas.{principals_within, terms_pushed}
 use Rattle.picky_cert.proofs.blob_bytes.push_terms.Goals as goal

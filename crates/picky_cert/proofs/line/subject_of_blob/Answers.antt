@@ -1,6 +1,6 @@
 -- The key is the subject's of the certificate that is seen, and a refusal that of the part at which the view is stopped.
 use Rattle.std.proofs.Common.{sym, ◌∙◌, ap, Ok}
-use Rattle.picky_layout.specs.Outcome.{map_ok}
+use Rattle.picky_wire_base.specs.Outcome.{map_ok}
 use Rattle.picky_cert.specs.Certificate.{subject_key}
 use Rattle.picky_cert.proofs.LineLemmas.{blob_certificate_seen, no_subject, refused_as}
 use Rattle.picky_cert.proofs.line.subject_of_blob.Goals as goal

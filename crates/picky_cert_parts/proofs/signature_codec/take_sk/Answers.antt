@@ -1,7 +1,7 @@
 -- Flags or counter are cut after fields before which the count did not move.
 use Rattle.std.proofs.Common.{◌∙◌}
-use Rattle.picky_layout.specs.Numbers.{byte}
-use Rattle.picky_layout.specs.Wire.{uint32}
+use Rattle.picky_wire_base.specs.Numbers.{byte}
+use Rattle.picky_wire_base.specs.Wire.{uint32}
 use Rattle.picky_wire.specs.Takes.{causes_of}
 use Rattle.picky_cert_parts.specs.CertFromWire.{signature_error}
 use Rattle.picky_cert_parts.specs.Field.{field}

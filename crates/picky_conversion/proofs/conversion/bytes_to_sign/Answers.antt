@@ -3,7 +3,7 @@ use Rattle.picky_conversion.proofs.AnswerLemmas.{refused_leaves, refuses_input}
 use Rattle.picky_conversion.proofs.CertifyLemmas.{drafted_gives, drafted_leaves, drafting_refused, input_refused}
 use Rattle.std.proofs.Common.{ap}
 use Rattle.picky_cert.specs.Spelled.{signed_of}
-use Rattle.picky_layout.specs.Outcome.{map_ok}
+use Rattle.picky_wire_base.specs.Outcome.{map_ok}
 use Rattle.picky_conversion.specs.Outside.{outside}
 use Rattle.picky_conversion.specs.Refusal.{input_refusal}
 use Rattle.picky_target.specs.declared.error.ConvertError.TheVariants as errors

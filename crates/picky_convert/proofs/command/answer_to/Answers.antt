@@ -1,7 +1,7 @@
 -- A command's answer, by the command.
 use Rattle.std.proofs.Common.{Global, ap, refl}
 use Rattle.std.specs.Prelude.{string_bytes}
-use Rattle.picky_layout.specs.Outcome.{map_ok}
+use Rattle.picky_wire_base.specs.Outcome.{map_ok}
 use Rattle.picky_wire.specs.Count.{Rose}
 use Rattle.picky_conversion.specs.Certify.{IsReadFault}
 use Rattle.picky_convert.specs.Command.{fingerprints}

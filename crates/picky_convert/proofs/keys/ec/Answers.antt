@@ -1,6 +1,6 @@
 -- The secret is drawn behind the point.
 use Rattle.std.proofs.Common.{◌≡◌, ◌∙◌, ◌∷◌, ap, sym}
-use Rattle.picky_layout.specs.Zeros.{without_zeros}
+use Rattle.picky_wire_base.specs.Zeros.{without_zeros}
 use Rattle.picky_convert.specs.Generator.{after, drawn}
 use Rattle.picky_convert.specs.SampleKeys.{drawn_key, number, numbers_len, point, secret_len}
 use Rattle.picky_convert.proofs.GeneratorLemmas.{after_none}

@@ -2,7 +2,7 @@
 use Rattle.std.proofs.Common.{◌≡◌, ◌∙◌, ◌<◌, ℕ, Bor, Global, List, Ok, Option, Vec, [], arith, false, length, map, refl, subst, sym}
 use Rattle.std.proofs.Common.{◌∷◌, ◌++◌, ap, get_or, true}
 use Rattle.std.specs.Option.{option_copied}
-use Rattle.picky_layout.specs.Outcome.{map_ok}
+use Rattle.picky_wire_base.specs.Outcome.{map_ok}
 use Rattle.picky_suite.specs.Meanings.{Meanings}
 use Rattle.picky_key_text.specs.Order.{reading}
 use Rattle.picky_key_text.specs.Reader.{Reader}

@@ -1,6 +1,6 @@
 -- A string is its text and four bytes more.
 use Rattle.std.proofs.Common.{◌≡◌, [], ◌++◌, sym, arith}
-use Rattle.picky_layout.specs.Wire.{string_of}
+use Rattle.picky_wire_base.specs.Wire.{string_of}
 use Rattle.picky_issuing.proofs.PayloadLemmas.{long_none, short_string}
 use Rattle.picky_issuing.proofs.named_payload.string_payload.Goals as goal
 

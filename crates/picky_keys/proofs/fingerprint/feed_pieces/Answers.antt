@@ -1,7 +1,7 @@
 -- One more piece, in its two parts.
 use Rattle.std.proofs.Common.{◌++◌, ◌∙◌, ap, subst, append_assoc, take}
 use Rattle.std.specs.List.{concat}
-use Rattle.picky_wire.proofs.ListLemmas.{one_more_piece}
+use Rattle.picky_wire_base.proofs.PieceLemmas.{one_more_piece}
 use Rattle.picky_keys.proofs.fingerprint.feed_pieces.Goals as goal
 
 pub pieces-preserved : goal.pieces-preserved

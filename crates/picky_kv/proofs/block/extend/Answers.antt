@@ -2,7 +2,7 @@
 use Rattle.std.proofs.Common.{◌≢◌, ◌<◌, ◌%◌, List, ℕ, length, sym, ◌∙◌, ap, arith, inr}
 use Rattle.std.proofs.lemmas.Bool.{eqb-true}
 use Rattle.std.proofs.lemmas.Bool.Decides.{nat_tests}
-use Rattle.picky_layout.specs.Numbers.{IsBytes}
+use Rattle.picky_wire_base.specs.Numbers.{IsBytes}
 use Rattle.picky_kv.proofs.FrontLemmas.{bad_after_padding}
 use Rattle.picky_kv.proofs.StateLemmas.{cut, extended_is, extended_is_refused, groups_are_refused}
 use Rattle.picky_kv.proofs.StateLemmas.{nothing_is_taken}

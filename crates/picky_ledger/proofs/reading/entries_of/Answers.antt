@@ -5,7 +5,7 @@ use Rattle.std.proofs.lemmas.Bool.{eqb-false}
 use Rattle.std.proofs.lemmas.List.{length-append}
 use Rattle.std.proofs.lemmas.Str.Pattern.{split_parts}
 use Rattle.picky_text.proofs.UnquoteLemmas.{none_from_places}
-use Rattle.picky_layout.specs.Outcome.{map_err}
+use Rattle.picky_wire_base.specs.Outcome.{map_err}
 use Rattle.picky_ledger.specs.declared.entry.Entry.{Entry}
 use Rattle.picky_ledger.specs.declared.ledger.LedgerTextError.TheVariants as errors
 use Rattle.picky_ledger.specs.LedgerText.{entry_said}

@@ -4,7 +4,7 @@ use Rattle.std.proofs.lemmas.List.{length-append}
 use Rattle.std.proofs.lemmas.Str.Pattern.{split_parts}
 use Rattle.std.specs.Str.{IsUtf8}
 use Rattle.picky_text.proofs.UnquoteLemmas.{none_from_places}
-use Rattle.picky_layout.specs.Outcome.{map_err}
+use Rattle.picky_wire_base.specs.Outcome.{map_err}
 use Rattle.picky_issuing.specs.Parts.{lines_with_ends}
 use Rattle.picky_ledger.specs.LedgerText.{entries_from, ledger_in}
 use Rattle.picky_ledger.specs.declared.ledger.LedgerTextError.TheVariants as errors

@@ -1,6 +1,6 @@
 -- What is answered, by what is asked for.
 use Rattle.std.proofs.Common.{◌≡◌, false, subst, sym}
-use Rattle.picky_layout.specs.Outcome.{map_ok}
+use Rattle.picky_wire_base.specs.Outcome.{map_ok}
 use Rattle.picky_wire.specs.Count.{Rose}
 use Rattle.picky_policy.specs.Command.{asked_by}
 use Rattle.picky_policy.specs.Run.{is_asked}

@@ -1,6 +1,6 @@
 -- The offer is that of the second part, over the authorized keys of the first.
 use Rattle.std.proofs.Common.{◌≡◌, ◌⊎◌, ◌∙◌, Err, Ok, ap, subst, sym}
-use Rattle.picky_layout.specs.Outcome.{map_err, map_ok}
+use Rattle.picky_wire_base.specs.Outcome.{map_err, map_ok}
 use Rattle.picky_policy.specs.Command.{asked_by}
 use Rattle.picky_policy.specs.Offer.{offer_in}
 use Rattle.picky_policy.specs.Run.{bad_offer, file_or_none, file_part, offered_in}

@@ -1,6 +1,6 @@
 -- The answer to the source's text, or why there is no text.
 use Rattle.std.proofs.Common.{◌∙◌, Err, Ok, ap, inl, inr, rules, sym}
-use Rattle.picky_layout.specs.Outcome.{map_ok}
+use Rattle.picky_wire_base.specs.Outcome.{map_ok}
 use Rattle.picky_policy.specs.Command.{asked_by}
 use Rattle.picky_policy.specs.inner.Comes.{answer_shown}
 use Rattle.picky_policy.proofs.RunLemmas.{source_comes, spared_by_text, text_comes, text_extent}

@@ -1,7 +1,7 @@
 -- The issuer's line grants, or memory runs out.
 use Rattle.std.proofs.Common.{◌∙◌, ap, sym}
 use Rattle.std.specs.Option.{option_map}
-use Rattle.picky_layout.specs.Outcome.{map_ok}
+use Rattle.picky_wire_base.specs.Outcome.{map_ok}
 use Rattle.picky_policy.specs.inner.Shown.{demands_shown, line_shown}
 use Rattle.picky_policy.proofs.DecideLemmas.{certificate_grants}
 use Rattle.picky_policy.proofs.deciding.decide_certificate.Goals as goal

@@ -1,7 +1,7 @@
 -- The string is whole, or something follows it, or there is none.
 use Rattle.std.proofs.Common.{◌∙◌, ℕ, List, Some, ap, arith, drop, sym}
 use Rattle.std.proofs.lemmas.List.{drop_all, length-drop}
-use Rattle.picky_wire.specs.View.{why_of, word_bytes}
+use Rattle.picky_wire_base.specs.View.{why_of, word_bytes}
 use Rattle.picky_policy.proofs.DemandLaws.{payload_all, payload_more, payload_none}
 use Rattle.picky_policy.proofs.demands.text_of_payload.Goals as goal
 

@@ -1,7 +1,7 @@
 -- The part that is seen is what is signed, and no longer than the bytes; bytes of a certificate aren't refused.
 use Rattle.std.proofs.Common.{◌∙◌, arith}
 use Rattle.std.proofs.lemmas.Result.{IfOk-weaker}
-use Rattle.picky_wire.specs.View.{why_of}
+use Rattle.picky_wire_base.specs.View.{why_of}
 use Rattle.picky_policy.proofs.OfferLemmas.{blob_refused, part_is_signed}
 use Rattle.picky_policy.proofs.offer.signed_bytes.Goals as goal
 

@@ -2,7 +2,7 @@
 use Rattle.std.proofs.Common.{◌≡◌, ap, ◌∙◌}
 use Rattle.picky_text.specs.Base64.{decoded, base64_of}
 use Rattle.picky_text.proofs.Base64Laws.{base64_is_read_back}
-use Rattle.picky_layout.specs.Numbers.{IsBytes}
+use Rattle.picky_wire_base.specs.Numbers.{IsBytes}
 use Rattle.picky_kv.specs.Joined.{joined_text}
 use Rattle.picky_ppk_file.proofs.putty_public.of_body.Goals as goal
 

@@ -1,6 +1,6 @@
 -- The reason of the number's string is that of the private bytes.
 use Rattle.std.proofs.Common.{inr, ap, sym, ◌∙◌, Err}
-use Rattle.picky_wire.specs.View.{why_of}
+use Rattle.picky_wire_base.specs.View.{why_of}
 use Rattle.picky_ppk_parts.proofs.SecretLemmas.{ec_key_refused}
 use Rattle.picky_ppk_parts.proofs.secret.ec_key.Goals as goal
 

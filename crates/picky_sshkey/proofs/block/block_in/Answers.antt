@@ -1,6 +1,6 @@
 -- The comment is refused.
 use Rattle.std.proofs.Common.{inr}
-use Rattle.picky_layout.specs.Wire.{text}
+use Rattle.picky_wire_base.specs.Wire.{text}
 use Rattle.picky_sshkey.proofs.BlockLemmas.{block_refused, comment_refused}
 use Rattle.picky_sshkey.proofs.block.block_in.Goals as goal
 

@@ -1,9 +1,9 @@
 -- One field after another.
 use Rattle.std.proofs.Common.{refl}
 use Rattle.std.proofs.lemmas.Result.{err_from_is_err_and}
-use Rattle.picky_layout.specs.Combine.{at}
-use Rattle.picky_layout.specs.Wire.{string, text}
-use Rattle.picky_layout.specs.Numbers.{byte}
+use Rattle.picky_wire_base.specs.Combine.{at}
+use Rattle.picky_wire_base.specs.Wire.{string, text}
+use Rattle.picky_wire_base.specs.Numbers.{byte}
 use Rattle.picky_keys.specs.Blob.{ed_key}
 use Rattle.picky_sshkey_blob.specs.Blob.{sk_ed_fields}
 use Rattle.picky_sshkey_blob.specs.inner.Stop.{secret_stop}

@@ -2,7 +2,7 @@
 use Rattle.std.proofs.Common.{◌∙◌}
 use Rattle.std.specs.List.{flat_map}
 use Rattle.std.specs.Prelude.{◌≡◌, None}
-use Rattle.picky_layout.proofs.Many.{many_reads_back}
+use Rattle.picky_wire_base.proofs.Many.{many_reads_back}
 use Rattle.picky_wire.proofs.ListLemmas.{spellings_are_row}
 use Rattle.picky_wire.proofs.laws.elements_are_read_back.Goals as goal
 

@@ -1,8 +1,8 @@
 -- An element, a list of them and one inside a string are read as layouts are.
-use Rattle.picky_layout.specs.Inside.{sub}
-use Rattle.picky_layout.specs.Many.{many}
+use Rattle.picky_wire_base.specs.Inside.{sub}
+use Rattle.picky_wire_base.specs.Many.{many}
 use Rattle.picky_wire.specs.Flaws.{wire_error}
-use Rattle.picky_wire.proofs.ReadingLaws.{layout_is_read, read_alike}
+use Rattle.picky_wire_base.proofs.ReadingLaws.{layout_is_read, read_alike}
 use Rattle.picky_wire.proofs.laws.elements_are_read_one_way.Goals as goal
 
 pub returns : goal.returns

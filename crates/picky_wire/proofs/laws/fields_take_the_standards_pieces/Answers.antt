@@ -1,12 +1,12 @@
 use Rattle.std.specs.Prelude.{◌<◌, ◌^◌, length, IsUtf8}
 use Rattle.std.specs.Int.{w8, w32, w64, to_be_bytes}
-use Rattle.picky_layout.specs.Wire.{uint32, string, string_of, text}
-use Rattle.picky_layout.specs.Numbers.{byte, uint64}
-use Rattle.picky_layout.proofs.Numbers.{byte_exact, uint32_exact, uint64_exact}
-use Rattle.picky_layout.proofs.Strings.{string_exact, text_exact}
-use Rattle.picky_layout.specs.Mpint.{IsMpintPiece, mpint}
-use Rattle.picky_layout.proofs.Mpint.{mpint_exact}
-use Rattle.picky_wire.proofs.ReadingLaws.{fits_of_bytes, spelling_of_bytes}
+use Rattle.picky_wire_base.specs.Wire.{uint32, string, string_of, text}
+use Rattle.picky_wire_base.specs.Numbers.{byte, uint64}
+use Rattle.picky_wire_base.proofs.Numbers.{byte_exact, uint32_exact, uint64_exact}
+use Rattle.picky_wire_base.proofs.Strings.{string_exact, text_exact}
+use Rattle.picky_wire_base.specs.Mpint.{IsMpintPiece, mpint}
+use Rattle.picky_wire_base.proofs.MpintLaws.{mpint_exact}
+use Rattle.picky_wire_base.proofs.ReadingLaws.{fits_of_bytes, spelling_of_bytes}
 use Rattle.picky_wire.proofs.laws.fields_take_the_standards_pieces.Goals as goal
 
 pub returns : goal.returns

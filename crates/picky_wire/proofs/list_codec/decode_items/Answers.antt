@@ -1,7 +1,7 @@
 -- The values of a block are read one after another.
 use Rattle.std.proofs.Common.{◌≡◌, ◌<◌, ◌∙◌, sym, ap, length, arith}
-use Rattle.picky_layout.proofs.Steps.{following, taking_more, taking_ends}
-use Rattle.picky_layout.specs.Row.{read_all}
+use Rattle.picky_wire_base.proofs.Steps.{following, taking_more, taking_ends}
+use Rattle.picky_wire_base.specs.Row.{read_all}
 use Rattle.picky_wire.proofs.ListLemmas.{refused_or_want}
 use Rattle.picky_wire.proofs.list_codec.decode_items.Goals as goal
 

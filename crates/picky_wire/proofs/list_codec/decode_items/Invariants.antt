@@ -1,7 +1,7 @@
 -- The values taken so far, and then those of the rest, are all.
 use Rattle.std.proofs.Common.{◌≡◌, length}
-use Rattle.picky_layout.specs.Row.{read_all}
-use Rattle.picky_layout.proofs.Steps.{following}
+use Rattle.picky_wire_base.specs.Row.{read_all}
+use Rattle.picky_wire_base.proofs.Steps.{following}
 use Rattle.picky_wire.proofs.list_codec.decode_items.Given as goal
 
 abbrev pub invariant-items : goal.invariant-items

@@ -1,6 +1,7 @@
 -- A write that stopped in one piece stopped in all of them.
 use Rattle.std.proofs.Common.{◌++◌, ◌∙◌, ap, sym, take}
-use Rattle.picky_wire.proofs.ListLemmas.{list_stopped, pieces_joined, one_more_piece}
+use Rattle.picky_wire_base.proofs.PieceLemmas.{pieces_joined, one_more_piece}
+use Rattle.picky_wire.proofs.ListLemmas.{list_stopped}
 use Rattle.picky_wire.proofs.WriteLemmas.{puts_same}
 use Rattle.picky_wire.specs.declared.error.WireError.TheVariants as errors
 use Rattle.picky_wire.proofs.piece.write_pieces.Goals as goal

@@ -2,7 +2,7 @@
 use Rattle.std.proofs.Common.{◌≡◌, ◌≤◌, ◌<◌, ◌∙◌, ◌++◌, ap, sym, arith, length, take, drop, ◌-◌, Ok}
 use Rattle.std.proofs.lemmas.List.{take_all, length-append, length-take-le}
 use Rattle.picky_wire.proofs.ByteArrayLemmas.{byte_array_read, byte_array_ended, byte_array_stopped}
-use Rattle.picky_wire.proofs.ReadLemmas.{more_filled, put_len, tail_len}
+use Rattle.picky_wire_base.proofs.ReadLemmas.{more_filled, put_len, tail_len}
 use Rattle.picky_wire.proofs.read.fill.Goals as goal
 
 pub returns-clause-takes : goal.returns-clause-takes

@@ -1,7 +1,7 @@
 -- What was taken so far, and the next piece.
 use Rattle.std.proofs.Common.{◌++◌, ◌∙◌, sym, ap, arith, length}
 use Rattle.std.proofs.lemmas.List.{length-append}
-use Rattle.picky_wire.proofs.ReadLemmas.{tail_len, tail_filled}
+use Rattle.picky_wire_base.proofs.ReadLemmas.{tail_len, tail_filled}
 use Rattle.picky_wire.proofs.ByteArrayLemmas.{byte_array_read, byte_array_unmade, more_takes, piece_taken_by}
 use Rattle.picky_wire.proofs.read.read_chunks.Goals as goal
 

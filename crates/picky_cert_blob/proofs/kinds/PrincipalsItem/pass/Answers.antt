@@ -1,6 +1,6 @@
 -- A text that was seen is a principal.
-use Rattle.picky_layout.specs.Wire.{text}
-use Rattle.picky_wire.specs.View.{Lies, end_of}
+use Rattle.picky_wire_base.specs.Wire.{text}
+use Rattle.picky_wire_base.specs.View.{Lies, end_of}
 use Rattle.picky_cert_blob.specs.Items.{principal_item}
 use Rattle.picky_cert_blob.proofs.RowLemmas.{principal_passed}
 use Rattle.picky_cert_blob.proofs.kinds.PrincipalsItem.pass.Goals as goal

@@ -1,5 +1,5 @@
 -- The payload is cut after a name, before which the count did not move.
-use Rattle.picky_layout.specs.Wire.{string}
+use Rattle.picky_wire_base.specs.Wire.{string}
 use Rattle.picky_wire.specs.Takes.{causes_of}
 use Rattle.picky_cert_parts.specs.CertFromWire.{extension_error}
 use Rattle.picky_cert_parts.specs.Field.{field}

@@ -1,6 +1,6 @@
 -- A line that is too long stands in the text.
 use Rattle.std.proofs.Common.{◌≡◌, Err, List, ap, arith}
-use Rattle.picky_wire.specs.declared.error.SizeError.TheVariants as sizes
+use Rattle.picky_wire_base.specs.declared.error.SizeError.TheVariants as sizes
 use Rattle.picky_ledger.specs.declared.entry.Entry.{Entry}
 use Rattle.picky_ledger.specs.State.{State}
 use Rattle.picky_ledger.proofs.WrittenLemmas.{line_too_long}

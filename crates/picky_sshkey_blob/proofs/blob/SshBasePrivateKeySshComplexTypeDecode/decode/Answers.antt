@@ -1,6 +1,6 @@
 -- A blob is read by its name and then by its fields, with this layer's errors.
 use Rattle.std.proofs.Common.{◌<◌, ◌^◌, length, ap, sym, subst, ◌∙◌, Ok, Err}
-use Rattle.picky_layout.specs.Table.{find_entry}
+use Rattle.picky_wire_base.specs.Table.{find_entry}
 use Rattle.picky_keys.specs.KeyNameTables.{key_types}
 use Rattle.picky_wire.specs.Count.{Rose}
 use Rattle.picky_wire.specs.Takes.{causes_of}

@@ -1,6 +1,6 @@
 -- A string is its bytes and four more.
 use Rattle.std.proofs.Common.{ap, arith, length}
-use Rattle.picky_wire.proofs.WriteLemmas.{length-string_of}
+use Rattle.picky_wire_base.proofs.PieceLemmas.{length-string_of}
 use Rattle.picky_wire.proofs.principals.TextSshComplexTypeEncode.spelling_len.Goals as goal
 
 pub returns-clause-len : goal.returns-clause-len

@@ -1,7 +1,7 @@
 -- The bytes that were copied are the first ones that were left.
 use Rattle.std.proofs.Common.{rules, ◌∙◌, sym, ap, arith}
 use Rattle.std.proofs.lemmas.List.{length-take-le}
-use Rattle.picky_layout.proofs.Numbers.{back_bytes}
+use Rattle.picky_wire_base.proofs.Numbers.{back_bytes}
 use Rattle.picky_wire.proofs.MemoryLemmas.{front_and_rest}
 use Rattle.picky_wire.proofs.source.MemorySourceSource.read.Goals as goal
 

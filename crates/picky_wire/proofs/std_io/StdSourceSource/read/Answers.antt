@@ -1,8 +1,8 @@
 -- What is left of bytes is bytes.
 use Rattle.std.proofs.Common.{List, ℕ, Option, Some, None, refl, subst}
 use Rattle.std.specs.Io.KnownBytes.{Consumes}
-use Rattle.picky_layout.specs.Numbers.{IsBytes}
-use Rattle.picky_layout.proofs.Numbers.{bytes_behind}
+use Rattle.picky_wire_base.specs.Numbers.{IsBytes}
+use Rattle.picky_wire_base.proofs.Numbers.{bytes_behind}
 use Rattle.picky_wire.specs.Known.{TellsBytes}
 use Rattle.picky_wire.proofs.std_io.StdSourceSource.read.Goals as goal
 

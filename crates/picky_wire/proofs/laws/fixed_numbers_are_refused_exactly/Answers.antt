@@ -1,9 +1,0 @@
-use Rattle.picky_layout.proofs.FixedWhen.{fixed_uint32_is_short, fixed_uint32_is_other, fixed_uint32_only}
-use Rattle.picky_wire.proofs.laws.fixed_numbers_are_refused_exactly.Goals as goal
-
-pub returns : goal.returns
-returns c = record {
-  short = fixed_uint32_is_short;
-  number = fixed_uint32_is_other;
-  only = fixed_uint32_only;
-}

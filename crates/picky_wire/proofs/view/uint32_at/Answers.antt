@@ -1,8 +1,0 @@
--- Four bytes at the place.
-use Rattle.std.proofs.Common.{rules}
-use Rattle.picky_wire.proofs.ViewLemmas.{uint32_seen}
-use Rattle.picky_wire.proofs.view.uint32_at.Goals as goal
-
-pub returns-in-Some : goal.returns-in-Some
-returns-in-Some c =
-    uint32_seen c.args.from c.from_be_bytes.result c.args.blob.now c.in-Some.bytes.now (search rules) (search rules) (search rules)

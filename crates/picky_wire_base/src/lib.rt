@@ -1,0 +1,20 @@
+//! SSH's wire without streams: its layouts, as grammars that carry their laws, values, pieces of fields, and fields seen in a
+//! buffer (RFC 4251, section 5).
+#![tactic(auto)]
+
+mod bytes;
+mod copy;
+mod error;
+pub mod laws;
+mod list;
+mod mpint;
+mod piece;
+mod view;
+
+pub use bytes::{Bytes, MAX_LEN, Text};
+pub use copy::{TryClone, both};
+pub use error::{NoMemory, SizeError};
+pub use list::List;
+pub use mpint::Mpint;
+pub use piece::{Piece, pieces_len, push_pieces};
+pub use view::{Part, Stuck, Word, byte_at, mpint_at, sized_at, string_at, text_at, uint32_at, uint64_at, word_at};
