@@ -8,11 +8,12 @@ pub use picky_key_text::{Form, Key, Meaning, ReadError, form_of, public_key, rea
 pub use picky_target::{ConvertError, KeyTarget, carries_comment, write_text};
 
 // The conversion, and certificates.
-pub use picky_conversion::{CertRequest, write_certificate, write_signed_bytes};
-pub use picky_conversion::{ConversionGiven, Target, convert, convert_key, issue, print_signed};
+pub use picky_conversion::{
+    CertRequest, ConversionGiven, Target, convert, convert_key, issue, print_signed,
+    write_certificate, write_signed_bytes,
+};
 pub use picky_issuing::{CertOptions, Parts, cert_type_of, number_of, options_of, parts_of};
 
 // The program, and a source that is read to its end.
-pub use picky_convert::{Status, StatusWord, run, word};
+pub use picky_convert::{Status, StatusWord, run, sample, word};
 pub use picky_input::{InputError, SourceError, as_text, read_input, take_text};
-pub use picky_convert::sample;

@@ -8,8 +8,8 @@ ghost use Rattle.picky_agent_state.specs.Request.{add_fields, key_string, lock_f
 ghost use Rattle.picky_agent_state.specs.inner.Asked.{asked_found, asked_seen, KeepsAsked};
 
 use crate::message_type;
-use picky_sshkey_blob::{PrivateView, private_at};
 use picky_keys::PublicView;
+use picky_sshkey_blob::{PrivateView, private_at};
 use picky_wire::{Stuck, string_at, uint32_at, word_at};
 
 /// A request whose parts are slices of its message.

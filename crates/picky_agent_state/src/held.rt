@@ -7,8 +7,8 @@ ghost use Rattle.picky_sshkey_blob.specs.View.{key_seen as private_seen};
 ghost use Rattle.picky_agent_state.specs.Held.{HasKey, HasNone, IsAt};
 
 use crate::identity::Identity;
-use picky_sshkey_blob::{PrivateView, SshBasePrivateKey};
 use picky_keys::PublicView;
+use picky_sshkey_blob::{PrivateView, SshBasePrivateKey};
 
 /// The place of the first identity that has the key, where one has.
 pub(crate) fn place_of(identities: &[Identity], key: &PublicView<'_>) -> Option<usize>

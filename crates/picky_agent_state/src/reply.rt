@@ -13,8 +13,8 @@ ghost use Rattle.picky_agent_state.specs.inner.Entry.{HasEntry};
 use crate::identity::Identity;
 use crate::message_type;
 use picky_cert_parts::SshSignatureFormat;
-use picky_sshkey_blob::SshBasePrivateKey;
 use picky_keys::bytes_of;
+use picky_sshkey_blob::SshBasePrivateKey;
 use picky_wire::{Bytes, NoMemory, Piece, Text, push_pieces};
 use std::alloc::Global;
 

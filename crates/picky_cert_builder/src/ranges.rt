@@ -10,8 +10,8 @@ ghost use Rattle.picky_cert_builder.specs.Keeps.{IsRequest};
 use crate::builder::SshCertificateBuilder;
 use crate::issuer::IssuerKey;
 use picky_cert_parts::{SshSignature, signature_pieces};
-use picky_sshkey_blob::secret_pieces;
 use picky_keys::{SshBasePublicKey, SshPublicKey, pieces_behind};
+use picky_sshkey_blob::secret_pieces;
 use picky_wire::{List, Piece, SshComplexTypeEncode, Text, Timestamp};
 
 /// Does nothing: the parts of a request have the ranges of their types.

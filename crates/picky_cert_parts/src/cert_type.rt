@@ -13,8 +13,8 @@ ghost use Rattle.picky_cert_parts.specs.NumberTable.{cert_types};
 ghost use Rattle.picky_cert_parts.specs.declared.error.SshCertTypeError.TheVariants as errors;
 ghost use Rattle.picky_cert_parts.specs.CertFromWire.{cert_type_error};
 
-use crate::fields::uint32_field;
 use crate::error::SshCertTypeError;
+use crate::fields::uint32_field;
 use picky_wire::{
     NoMemory, Piece, Sink, Source, SshComplexTypeDecode, SshComplexTypeEncode, SshElement,
     SshLayout, TryClone, WireError, write_piece,

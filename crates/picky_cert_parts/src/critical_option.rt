@@ -8,8 +8,8 @@ ghost use Rattle.picky_cert_parts.specs.CertFromWire.{option_error};
 ghost use Rattle.picky_cert_parts.specs.CriticalOption.{option_type, critical_option, option_of, IsOption};
 ghost use Rattle.picky_cert_parts.specs.carried.CriticalOption.{option_spells, option_solid, option_own};
 
-use crate::fields::{bytes_field, text_field};
 use crate::error::SshCriticalOptionError;
+use crate::fields::{bytes_field, text_field};
 use crate::option_type::SshCriticalOptionType;
 use picky_wire::{
     Bytes, NoMemory, Piece, Sink, Source, SshComplexTypeDecode, SshComplexTypeEncode, SshElement,

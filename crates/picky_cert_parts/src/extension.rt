@@ -8,9 +8,9 @@ ghost use Rattle.picky_cert_parts.specs.CertFromWire.{extension_error};
 ghost use Rattle.picky_cert_parts.specs.Extension.{extension_type, extension, extension_of, IsExtension};
 ghost use Rattle.picky_cert_parts.specs.carried.Extension.{extension_spells, extension_solid, extension_own};
 
-use crate::fields::{bytes_field, text_field};
 use crate::error::SshExtensionError;
 use crate::extension_type::SshExtensionType;
+use crate::fields::{bytes_field, text_field};
 use picky_wire::{
     Bytes, NoMemory, Piece, Sink, Source, SshComplexTypeDecode, SshComplexTypeEncode, SshElement,
     SshLayout, Text, TryClone, WireError, pieces_len, write_pieces,

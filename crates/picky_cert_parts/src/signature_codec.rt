@@ -9,9 +9,9 @@ ghost use Rattle.picky_cert_parts.specs.Signature.{signature_format, standard_fi
 ghost use Rattle.picky_cert_parts.specs.Signature.{total_of, behind_total, signature_of, signature_reason, IsSignature};
 ghost use Rattle.picky_cert_parts.specs.carried.Signature.{signature_spells, signature_solid, signature_own, reason_is_no_want};
 
+use crate::error::SshSignatureError;
 use crate::fields::{byte_field, bytes_field, text_field, uint32_field};
 use crate::signature::{SshSignature, SshSignatureBlob};
-use crate::error::SshSignatureError;
 use crate::signature_format::SshSignatureFormat;
 use picky_wire::{
     MAX_LEN, Piece, Sink, Source, SshComplexTypeDecode, SshComplexTypeEncode, SshElement,

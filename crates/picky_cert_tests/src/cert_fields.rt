@@ -1,8 +1,7 @@
 //! Certificates of `ssh-keygen`: what each says, seen in its bytes and copied from them, and written again.
 
 use crate::answers::{gives, gives_text};
-use picky_cert::{CertView, SshCertificate};
-use picky_cert_parts::{SshCriticalOption, SshExtension};
+use picky_cert::{CertView, SshCertificate, SshCriticalOption, SshExtension};
 use picky_cert_rows::{CertRow, Grant, ROW_COUNT, cert_row};
 use picky_text::decode;
 use picky_wire::{Bytes, Text};

@@ -3,8 +3,7 @@
 use crate::answers::gives;
 use crate::cert_fields::{blob_of, cert_of, prints};
 use crate::cert_parts::extension_of;
-use picky_cert::{CertView, SshCertificate};
-use picky_cert_parts::{SshCertType, SshExtension};
+use picky_cert::{CertView, SshCertType, SshCertificate, SshExtension};
 use picky_cert_rows::ZERO_LINE;
 use picky_wire::{List, Text};
 use std::alloc::Global;

@@ -1,7 +1,7 @@
 //! Parts of certificates by themselves: told by their names, and read, written and copied.
 
 use crate::answers::{ends_in, gives};
-use picky_cert_parts::{
+use picky_cert::{
     SshCertKeyType, SshCertType, SshCertificateError, SshCriticalOption, SshCriticalOptionError,
     SshCriticalOptionType, SshExtension, SshExtensionType, SshSignature, SshSignatureBlob,
     SshSignatureError, SshSignatureFormat,

@@ -2,8 +2,7 @@
 
 use crate::cert_conversions::converted;
 use crate::cert_fields::blob_of;
-use picky_cert::{CertPart, CertView, SshCertificate};
-use picky_cert_parts::SshCertificateError;
+use picky_cert::{CertPart, CertView, SshCertificate, SshCertificateError};
 use picky_cert_rows::{CertFault, FAULTS, ZERO_LINE};
 use picky_key_text::ReadError;
 use picky_target::{ConvertError, KeyTarget};

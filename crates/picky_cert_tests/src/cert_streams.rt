@@ -2,8 +2,7 @@
 
 use crate::answers::{ends_in, gives};
 use crate::cert_fields::cert_of;
-use picky_cert::SshCertificate;
-use picky_cert_parts::SshCertificateError;
+use picky_cert::{SshCertificate, SshCertificateError};
 use picky_cert_rows::{ROW_COUNT, ZERO_LINE, cert_row};
 use picky_wire::{
     IoKind, MemorySink, MemorySource, NoMemory, SliceSource, SshComplexTypeDecode, TryClone,

@@ -2,9 +2,10 @@
 
 use crate::answers::{ends_in, gives};
 use crate::cert_fields::{blob_of, cert_of};
-use picky_cert::{SshCertificate, SshSignature, SshSignatureBlob};
+use picky_cert::{
+    SshCertKeyType, SshCertType, SshCertificate, SshSignature, SshSignatureBlob, SshSignatureFormat,
+};
 use picky_cert_builder::{BuildCertificate, SshCertificateBuilder, SshCertificateGenerationError};
-use picky_cert_parts::{SshCertKeyType, SshCertType, SshSignatureFormat};
 use picky_cert_rows::{CA_SK_ED, CA_SK_P256, CertRow, P521, ROW_COUNT, ZERO_LINE, cert_row};
 use picky_keys::{HashAlgorithm, SignatureAlgorithm};
 use picky_suite::{HandedSigner, MemorySigner};

@@ -1,8 +1,7 @@
 //! A certificate whose keys, nonce and signature are zero bytes: where its parts stand, and at which a cut is stuck.
 
 use crate::cert_fields::{blob_of, cert_of, prints};
-use picky_cert::{CertPart, CertView, SshCertificate};
-use picky_cert_parts::SshCertType;
+use picky_cert::{CertPart, CertView, SshCertType, SshCertificate};
 use picky_cert_rows::ZERO_LINE;
 use picky_keys::PublicView;
 use picky_wire::{Bytes, Part};

@@ -12,7 +12,9 @@ ghost use Rattle.picky_conversion.specs.inner.Signed.{IsReadBack};
 use crate::drafting::draft_line;
 use crate::request::CertRequest;
 use picky_cert::{SshCertificate, SshCertificateError};
-use picky_cert_builder::{CertificateDraft, SshCertificateGenerationError, signature_keeps_its_ranges};
+use picky_cert_builder::{
+    CertificateDraft, SshCertificateGenerationError, signature_keeps_its_ranges,
+};
 use picky_key_text::Meaning;
 use picky_suite::Signer;
 use picky_target::ConvertError;
@@ -43,7 +45,11 @@ pub fn write_certificate<G: Signer>(
 }
 
 /// The line of a certificate, with the device's signature. Refuses, in order: `Request(SignatureError)`; `TooLong`.
-fn sign_line<G: Signer>(alloc: Global, signer: &mut G, draft: CertificateDraft) -> Result<Text, ConvertError>
+fn sign_line<G: Signer>(
+    alloc: Global,
+    signer: &mut G,
+    draft: CertificateDraft,
+) -> Result<Text, ConvertError>
     requires whole { IsWhole draft }
     requires back { IsReadBack draft.certificate }
     ensures answers { Certifies (G.signs signer.old) (Ok (draft_shown draft)) (Rose (G.faults signer.old) (G.faults signer.new)) result }

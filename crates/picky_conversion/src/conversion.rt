@@ -20,11 +20,11 @@ ghost use Rattle.picky_conversion.specs.Made.{Answers, AnswersPlain, IsLeft, Lea
 ghost use Rattle.picky_conversion.specs.To.{CanConvert, IsConverted, IsFaultTo, IsWay, asks_to, converted, way_to};
 ghost use Rattle.picky_conversion.specs.Refusal.{input_refusal as input_refusal_of, issuer_refusal as issuer_refusal_of};
 
-use crate::given::ConversionGiven;
-use crate::target::Target;
 use crate::certificate::write_certificate;
 use crate::drafting::write_signed_bytes;
+use crate::given::ConversionGiven;
 use crate::request::CertRequest;
+use crate::target::Target;
 use picky_key_text::{ReadError, read_text};
 use picky_ppk::PpkEncryptionConfig;
 use picky_suite::{Signer, Suite};

@@ -12,7 +12,8 @@ ghost use Rattle.picky_conversion.specs.inner.Signed.{IsReadBack};
 
 use crate::request::{CertRequest, builder_of};
 use picky_cert_builder::{
-    CertificateDraft, SshCertificateBuilder, SshCertificateGenerationError, request_keeps_its_ranges,
+    CertificateDraft, SshCertificateBuilder, SshCertificateGenerationError,
+    request_keeps_its_ranges,
 };
 use picky_key_text::Meaning;
 use picky_target::{ConvertError, KeyTarget, carries_comment};

@@ -1,8 +1,8 @@
 -- The texts of a sample key are conversions, one from another.
 use Rattle.std.proofs.Common.{◌≡◌, ◌<◌, ◌^◌, ℕ, Bool, true, false, List, Ok, refl, ap}
 use Rattle.std.specs.Prelude.{if◌then◌else◌, map}
-use Rattle.picky_kv_words.specs.declared.choices.PpkVersionKey.{PpkVersionKey}
-use Rattle.picky_kv_words.specs.declared.choices.PpkVersionKey.TheVariants.{V2, V3}
+use Rattle.picky_kv.specs.declared.PpkVersionKey.{PpkVersionKey}
+use Rattle.picky_kv.specs.declared.PpkVersionKey.TheVariants.{V2, V3}
 use Rattle.picky_ppk_parts.specs.Config.{default_config}
 use Rattle.picky_suite.specs.Meanings.{Meanings}
 use Rattle.picky_keys.proofs.ByteLaws.{no_bytes}

@@ -10,13 +10,13 @@ use Rattle.picky_text.specs.Base64.{base64_of}
 use Rattle.picky_text.specs.Quote.{quote}
 use Rattle.picky_text.specs.Rows.{rows_of}
 use Rattle.picky_text.specs.declared.lines.LineEnd.TheVariants.{CrLf}
-use Rattle.picky_kv_words.specs.ChoiceFields.{encryption_field, version_field}
-use Rattle.picky_kv_words.specs.Keys.{comment_key, encryption_key, private_lines_key, private_mac_key, public_lines_key}
-use Rattle.picky_kv_words.specs.declared.choices.PpkEncryptionValue.{PpkEncryptionValue}
-use Rattle.picky_kv_words.specs.declared.choices.PpkEncryptionValue.TheVariants as encryptions
-use Rattle.picky_kv_words.specs.declared.choices.PpkVersionKey.{PpkVersionKey}
-use Rattle.picky_kv_words.specs.declared.choices.PpkVersionKey.TheVariants.{V2, V3}
-use Rattle.picky_kv_words.specs.ValueFields.{base64_field, comment_field, hex_field}
+use Rattle.picky_kv.specs.ChoiceFields.{encryption_field, version_field}
+use Rattle.picky_kv.specs.Keys.{comment_key, encryption_key, private_lines_key, private_mac_key, public_lines_key}
+use Rattle.picky_kv.specs.declared.PpkEncryptionValue.{PpkEncryptionValue}
+use Rattle.picky_kv.specs.declared.PpkEncryptionValue.TheVariants as encryptions
+use Rattle.picky_kv.specs.declared.PpkVersionKey.{PpkVersionKey}
+use Rattle.picky_kv.specs.declared.PpkVersionKey.TheVariants.{V2, V3}
+use Rattle.picky_kv.specs.ValueFields.{base64_field, comment_field, hex_field}
 use Rattle.picky_kv.specs.AlgorithmField.{algorithm_field}
 use Rattle.picky_kv.specs.Output.{block_lines, pair_line}
 use Rattle.picky_kv.specs.declared.algorithm.PpkKeyAlgorithmValue.{PpkKeyAlgorithmValue}

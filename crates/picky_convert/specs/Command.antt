@@ -4,7 +4,7 @@ use Rattle.std.specs.Prelude.{Result, Ok, if◌then◌else◌}
 use Rattle.std.specs.Option.{option_map}
 use Rattle.std.specs.Str.{bytes_eq}
 use Rattle.picky_wire_base.specs.Outcome.{and_then, map_err, map_ok}
-use Rattle.picky_kv_words.specs.declared.choices.PpkVersionKey.TheVariants.{V2, V3}
+use Rattle.picky_kv.specs.declared.PpkVersionKey.TheVariants.{V2, V3}
 use Rattle.picky_ppk_parts.specs.Config.{default_config}
 use Rattle.picky_issuing.specs.declared.options.CertOptions.{CertOptions}
 use Rattle.picky_issuing.specs.Options.{options_named}

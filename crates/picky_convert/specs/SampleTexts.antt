@@ -1,6 +1,6 @@
 -- The texts of a sample key: the one text that each target has for it, where nothing is sealed.
 use Rattle.std.specs.Prelude.{List, [], ◌∷◌, ℕ, Bool, true, false, map, None, if◌then◌else◌}
-use Rattle.picky_kv_words.specs.declared.choices.PpkVersionKey.TheVariants.{V2, V3}
+use Rattle.picky_kv.specs.declared.PpkVersionKey.TheVariants.{V2, V3}
 use Rattle.picky_keys.specs.declared.kind.KeyKind.{KeyKind}
 use Rattle.picky_keys.specs.declared.kind.KeyKind.TheVariants as kinds
 use Rattle.picky_ppk_parts.specs.Config.{default_config}

@@ -15,13 +15,13 @@ ghost use Rattle.picky_convert.specs.inner.Causes.{refusal_status, Comes};
 
 use crate::error::Status;
 use crate::fingerprint::fingerprint_text;
+use crate::summary::sample;
 use picky_cert_builder::SshCertificateGenerationError;
 use picky_conversion::{ConversionGiven, convert_key, input_refusal, issue, print_signed};
 use picky_input::as_text;
 use picky_issuing::{CertOptions, number_of, options_of};
 use picky_key_text::{ReadError, public_key, read_text};
 use picky_ppk::{PpkEncryptionConfig, PpkVersion, PuttyError};
-use crate::summary::sample;
 use picky_sshkey::SshPrivateKeyError;
 use picky_suite::{Signer, Suite};
 use picky_target::{ConvertError, KeyTarget};

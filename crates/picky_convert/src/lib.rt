@@ -14,8 +14,7 @@ mod summary;
 mod texts;
 
 pub use error::Status;
-pub use picky_conversion::CertRequest;
-pub use picky_conversion::{Target, convert};
+pub use picky_conversion::{CertRequest, Target, convert};
 pub use picky_key_text::{Key, Meaning, ReadError, read_text};
 pub use picky_target::ConvertError;
 pub use program::run;

@@ -4,11 +4,11 @@ ghost use Rattle.std.specs.Prelude.{◌≡◌, ◌++◌, []};
 ghost use Rattle.picky_convert.specs.Report.{certificate_name as certificate_name_of, input_name as input_name_of, input_path as input_path_of, issuer_path as issuer_path_of, name as name_of, path as path_of, private_name as private_name_of, public_name as public_name_of, putty_name as putty_name_of, status_path, word as word_of};
 
 use crate::error::Status;
-use picky_cert::SshCertificateError;
+use picky_cert_parts::SshCertificateError;
 use picky_key_text::ReadError;
+use picky_keys::SshPublicKeyError;
 use picky_ppk::PuttyError;
 use picky_sshkey::SshPrivateKeyError;
-use picky_keys::SshPublicKeyError;
 use picky_target::ConvertError;
 
 /// What a status says of itself: a path, which only a refusal has, and a name. The line of a status but Done is `keyconv: `,

@@ -3,7 +3,7 @@
 use crate::runs::{answer_for, converts, refuses, writes};
 use picky_convert::{ConvertError, Target};
 use picky_key_rows::{KEY_ROWS, KeyRow};
-use picky_ppk_file::PuttyError;
+use picky_ppk::PuttyError;
 use picky_wire::Text;
 use std::alloc::Global;
 use std::mem::ManuallyDrop;

@@ -3,8 +3,8 @@
 use crate::row_texts::{LINE, PUBLIC_K, row_text};
 use crate::runs::texts_of;
 use picky_inventory::{
-    Command, bad_line, command_of, ended_lines, is_blank, joined_lines, line_of, list_lines, list_text,
-    merge_texts, parts, sorted_lines,
+    Command, bad_line, command_of, ended_lines, is_blank, joined_lines, line_of, list_lines,
+    list_text, merge_texts, parts, sorted_lines,
 };
 use picky_key_rows::ZERO_KEY;
 use picky_key_text::{ReadError, read_text};

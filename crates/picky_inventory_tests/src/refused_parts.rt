@@ -3,8 +3,8 @@
 use crate::runs::{LIST, refuses_row};
 use picky_inventory::InventoryStatus;
 use picky_key_text::ReadError;
-use picky_ppk_parts::PuttyError;
 use picky_keys::SshPublicKeyError;
+use picky_ppk_parts::PuttyError;
 use picky_wire::IoKind;
 use std::mem::ManuallyDrop;
 use std::test::Fail;

@@ -13,9 +13,9 @@ use Rattle.picky_text.specs.Words.{after_body}
 use Rattle.picky_text.proofs.ListLaws.{all_append, all_replicate}
 use Rattle.picky_text.proofs.WordLaws.{rest_of_line_is_text}
 use Rattle.picky_kv.proofs.LineBytes.{EachByte, each_by_place}
-use Rattle.picky_kv_words.specs.Field.{Field, field_value}
-use Rattle.picky_kv_words.specs.ValueFields.{comment_field}
-use Rattle.picky_kv_words.specs.Values.{is_long, comment_row}
+use Rattle.picky_kv.specs.Field.{Field, field_value}
+use Rattle.picky_kv.specs.ValueFields.{comment_field}
+use Rattle.picky_kv.specs.Values.{is_long, comment_row}
 use Rattle.picky_kv.specs.Parts.{IsPair}
 use Rattle.picky_keys.specs.declared.public_key.PublicKey.{PublicKey}
 use Rattle.picky_keys.specs.declared.public_key.PublicKey.TheVariants as plain

@@ -1,9 +1,9 @@
 //! Why a key text means nothing.
 
 use picky_cert::SshCertificateError;
+use picky_keys::SshPublicKeyError;
 use picky_ppk::PuttyError;
 use picky_sshkey::SshPrivateKeyError;
-use picky_keys::SshPublicKeyError;
 use thiserror::Error;
 
 /// Why a key text means nothing.

@@ -3,8 +3,8 @@
 ghost use Rattle.std.specs.Prelude.{◌≡◌, IfOk};
 ghost use Rattle.picky_key_text.specs.Key.{public_key as public_key_of};
 
-use picky_sshkey::SshBasePrivateKey;
 use picky_keys::{SshBasePublicKey, SshPublicKey};
+use picky_sshkey::SshBasePrivateKey;
 use picky_wire::{NoMemory, Text, TryClone, both};
 use std::alloc::Global;
 

@@ -20,9 +20,9 @@ use crate::form::{Form, form_of};
 use crate::meaning::{Key, Meaning};
 use crate::ppk::ppk_key;
 use picky_cert::{SshCertificate, SshCertificateError};
+use picky_keys::{SshPublicKey, SshPublicKeyError};
 use picky_ppk::{PuttyError, PuttyPublicKey};
 use picky_sshkey::{SshPrivateKey, SshPrivateKeyError};
-use picky_keys::{SshPublicKey, SshPublicKeyError};
 use picky_suite::Suite;
 use std::alloc::Global;
 

@@ -5,9 +5,9 @@ use picky_key_rows::{
     TOY_V2, TOY_V3, V2, VERSIONS, ZERO_KEY, ZERO_TEXT, text_of,
 };
 use picky_key_text::{Form, Key, Meaning, ReadError, form_of, public_key, read_text};
+use picky_keys::{SshPublicKey, SshPublicKeyError};
 use picky_ppk::{PpkVersion, PuttyError};
 use picky_sshkey::{SshBasePrivateKey, SshPrivateKeyError};
-use picky_keys::{SshPublicKey, SshPublicKeyError};
 use picky_suite::{MemorySuite, PlainSuite};
 use picky_wire::Text;
 use std::alloc::Global;

@@ -3,10 +3,10 @@
 use crate::ppk_fields::parsing_error;
 use picky_cert_builder::SshCertificateGenerationError;
 use picky_key_text::ReadError;
-use picky_kv::{BlockError, KvError, PpkValueError};
-use picky_ppk_file::PuttyError;
-use picky_sshkey::{PemError, SshPrivateKeyError};
 use picky_keys::SshPublicKeyError;
+use picky_kv::{BlockError, KvError, PpkValueError};
+use picky_ppk::PuttyError;
+use picky_sshkey::{PemError, SshPrivateKeyError};
 use picky_suite::SignError;
 use picky_target::ConvertError;
 use picky_wire::{Failed, IoKind, NoMemory, SizeError, Text, WireError};

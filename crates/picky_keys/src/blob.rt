@@ -8,11 +8,11 @@ ghost use Rattle.picky_keys.specs.Blob.{rsa_fields, ec_fields, ed_fields, sk_ecd
 ghost use Rattle.picky_keys.specs.Key.{IsKey};
 ghost use Rattle.picky_keys.specs.BlobRefusal.{read_blob};
 
+use crate::curve::{EcCurve, EcCurveSshExt};
 use crate::error::SshPublicKeyError;
 use crate::key::SshBasePublicKey;
-use crate::read::{take_ed_key, take_kind};
-use crate::curve::{EcCurve, EcCurveSshExt};
 use crate::kind::KeyKind;
+use crate::read::{take_ed_key, take_kind};
 use picky_wire::{
     Piece, Sink, Source, SshComplexTypeDecode, SshComplexTypeEncode, SshElement, SshLayout, Stop,
     WireError, pieces_len, take_bytes, take_mpint, take_text, write_pieces,

@@ -13,8 +13,8 @@ ghost use Rattle.picky_keys.specs.LineRefusal.{line_meaning, line_text, words_me
 use crate::blob_bytes::bytes_of;
 use crate::error::SshPublicKeyError;
 use crate::key::{SshBasePublicKey, SshPublicKey};
-use base64::engine::general_purpose::STANDARD;
 use crate::kind::KeyKind;
+use base64::engine::general_purpose::STANDARD;
 use picky_text::{Base64Error, decode, rest_of_line, rest_of_text, split_word};
 use picky_wire::{MAX_LEN, NoMemory, Sink, Text, write_all};
 use std::alloc::{AllocError, Global};

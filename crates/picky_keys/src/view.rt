@@ -6,8 +6,8 @@ ghost use Rattle.picky_keys.specs.Blob.{key_type, ed_key, rsa_fields, ec_fields,
 ghost use Rattle.picky_keys.specs.Key.{IsEdKey, IsKey};
 ghost use Rattle.picky_keys.specs.View.{key_seen, PartsLie};
 
-use crate::key::SshBasePublicKey;
 use crate::curve::EcCurve;
+use crate::key::SshBasePublicKey;
 use crate::kind::KeyKind;
 use picky_wire::{NoMemory, Part, Stuck, both, mpint_at, sized_at, string_at, text_at, word_at};
 use std::alloc::Global;

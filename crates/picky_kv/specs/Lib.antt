@@ -1,3 +1,12 @@
+pub use Rattle.picky_kv_words.specs.Field
+pub use Rattle.picky_kv_words.specs.Literal
+pub use Rattle.picky_kv_words.specs.Keys
+pub use Rattle.picky_kv_words.specs.Argon2Keys
+pub use Rattle.picky_kv_words.specs.Choices
+pub use Rattle.picky_kv_words.specs.ChoiceFields
+pub use Rattle.picky_kv_words.specs.Values
+pub use Rattle.picky_kv_words.specs.ValueFields
+pub use Rattle.picky_kv_words.specs.Blocks
 pub mod Block
 pub mod BlockRefusal
 pub mod Joined

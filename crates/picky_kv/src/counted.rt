@@ -8,8 +8,8 @@ ghost use Rattle.picky_kv.specs.Context.{in_context};
 ghost use Rattle.picky_kv.specs.Lines.{first_joined};
 
 use crate::error::KvError;
-use crate::reader::read_in;
 use crate::joined::JoinedLines;
+use crate::reader::read_in;
 use picky_kv_words::{PpkBlock, PpkLiteral};
 use picky_text::LineReader;
 use picky_wire_base::NoMemory;

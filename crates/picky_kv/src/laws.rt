@@ -32,7 +32,13 @@ use crate::pairs::{
     PpkEncryption, PpkHeader, PpkKeyDerivation, PpkKeyValue, PpkMultilineKeyValue, PpkPrivateLines,
     PpkPrivateMac, PpkPublicLines,
 };
-use picky_kv_words::{Argon2FlavourValue, Base64PpkValue, HexPpkValue, PpkArgon2MemoryKey, PpkArgon2ParallelismKey, PpkArgon2PassesKey, PpkArgon2SaltKey, PpkBlock, PpkCommentKey, PpkCommentValue, PpkEncryptionKey, PpkEncryptionValue, PpkField, PpkKeyDerivationKey, PpkLiteral, PpkPrivateLinesKey, PpkPrivateMacKey, PpkPublicLinesKey, PpkValueError, PpkValueParsingError, PpkVersionKey};
+use picky_kv_words::{
+    Argon2FlavourValue, Base64PpkValue, HexPpkValue, PpkArgon2MemoryKey, PpkArgon2ParallelismKey,
+    PpkArgon2PassesKey, PpkArgon2SaltKey, PpkBlock, PpkCommentKey, PpkCommentValue,
+    PpkEncryptionKey, PpkEncryptionValue, PpkField, PpkKeyDerivationKey, PpkLiteral,
+    PpkPrivateLinesKey, PpkPrivateMacKey, PpkPublicLinesKey, PpkValueError, PpkValueParsingError,
+    PpkVersionKey,
+};
 
 /// The type of a line's key.
 type KeyOf<T> = <T as PpkKeyValue>::Key;

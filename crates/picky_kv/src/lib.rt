@@ -29,11 +29,11 @@ pub use pairs::{
     PpkPrivateMac, PpkPublicLines,
 };
 pub use picky_kv_words::{
-    Argon2FlavourValue, PpkArgon2MemoryKey, PpkArgon2ParallelismKey, PpkArgon2PassesKey,
-    PpkArgon2SaltKey, PpkCommentKey, PpkEncryptionKey, PpkEncryptionValue, PpkField,
-    PpkKeyDerivationKey, PpkLiteral, PpkPrivateLinesKey, PpkPrivateMacKey, PpkPublicLinesKey,
-    PpkSingle, PpkValueError, PpkValueParsingError, PpkVersionKey,
+    Argon2FlavourValue, Base64PpkValue, HexPpkValue, PpkArgon2MemoryKey, PpkArgon2ParallelismKey,
+    PpkArgon2PassesKey, PpkArgon2SaltKey, PpkBlock, PpkCommentKey, PpkCommentValue,
+    PpkEncryptionKey, PpkEncryptionValue, PpkField, PpkKeyDerivationKey, PpkLiteral,
+    PpkPrivateLinesKey, PpkPrivateMacKey, PpkPublicLinesKey, PpkSingle, PpkValueError,
+    PpkValueParsingError, PpkVersionKey,
 };
-pub use picky_kv_words::{Base64PpkValue, HexPpkValue, PpkBlock, PpkCommentValue};
 pub use reader::PuttyKvReader;
 pub use writer::PuttyKvWriter;

@@ -15,7 +15,12 @@ ghost use Rattle.picky_kv.specs.carried.Pairs.{base64_field_is_ascii};
 
 use crate::algorithm::PpkKeyAlgorithmValue;
 use crate::numbers::{PpkArgon2MemoryValue, PpkArgon2ParallelismValue, PpkArgon2PassesValue};
-use picky_kv_words::{Argon2FlavourValue, Base64PpkValue, HexPpkValue, PpkArgon2MemoryKey, PpkArgon2ParallelismKey, PpkArgon2PassesKey, PpkArgon2SaltKey, PpkBlock, PpkCommentKey, PpkCommentValue, PpkEncryptionKey, PpkEncryptionValue, PpkField, PpkKeyDerivationKey, PpkLiteral, PpkPrivateLinesKey, PpkPrivateMacKey, PpkPublicLinesKey, PpkVersionKey};
+use picky_kv_words::{
+    Argon2FlavourValue, Base64PpkValue, HexPpkValue, PpkArgon2MemoryKey, PpkArgon2ParallelismKey,
+    PpkArgon2PassesKey, PpkArgon2SaltKey, PpkBlock, PpkCommentKey, PpkCommentValue,
+    PpkEncryptionKey, PpkEncryptionValue, PpkField, PpkKeyDerivationKey, PpkLiteral,
+    PpkPrivateLinesKey, PpkPrivateMacKey, PpkPublicLinesKey, PpkVersionKey,
+};
 
 /// A line of a key and a value.
 pub trait PpkKeyValue {

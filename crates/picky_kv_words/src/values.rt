@@ -9,11 +9,11 @@ ghost use Rattle.picky_kv_words.specs.ValueFields.{comment_field, base64_field, 
 ghost use Rattle.picky_kv_words.specs.carried.Blocks.{base64_field_is_of_blocks};
 
 use crate::block::PpkBlock;
+use crate::error::PpkValueError;
+use crate::field::{PpkField, refused};
 use crate::literals::{VALID_BASE64, VALID_HEX};
 use crate::spelling::text_within;
 use hex::FromHexError;
-use crate::error::PpkValueError;
-use crate::field::{PpkField, refused};
 use picky_text::Base64Error;
 use picky_wire_base::{Bytes, MAX_LEN, NoMemory, SizeError, Text, TryClone};
 use std::alloc::Global;

@@ -23,8 +23,8 @@ use picky_cert_builder::{
     SshCertificateBuilder, SshCertificateGenerationError, request_keeps_its_ranges,
     signature_keeps_its_ranges,
 };
-use picky_request::CertRequestLine;
 use picky_keys::SshPublicKey;
+use picky_request::CertRequestLine;
 use picky_suite::Signer;
 use picky_wire::{NoMemory, Text, TryClone};
 use std::alloc::Global;

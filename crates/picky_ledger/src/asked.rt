@@ -36,7 +36,11 @@ pub struct LedgerInput<'a> {
 }
 
 /// What a text asks for. Refuses, in order: `BadInput`, `BadLedger`, `BadIssuer`, `FreshTooShort`.
-pub fn given_in<'a>(alloc: Global, fresh: &[u8], text: &'a str) -> Result<LedgerInput<'a>, LedgerStatus>
+pub fn given_in<'a>(
+    alloc: Global,
+    fresh: &[u8],
+    text: &'a str,
+) -> Result<LedgerInput<'a>, LedgerStatus>
     ensures { Gives LedgerStatus.NoMemory given_shown result (of_text fresh.now text.now) }
 {
     match ledger_parts(text) {

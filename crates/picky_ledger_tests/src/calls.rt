@@ -1,8 +1,8 @@
 //! What is left of the library's calls, each once with memory enough.
 
 use picky_cert_builder::SshCertificateGenerationError;
-use picky_ledger::{Ledger, LedgerError, LedgerStatus, LedgerTextError, Reply};
 use picky_keys::SshPublicKeyError;
+use picky_ledger::{Ledger, LedgerError, LedgerStatus, LedgerTextError, Reply};
 use std::alloc::Global;
 use std::mem::ManuallyDrop;
 use std::test::Fail;

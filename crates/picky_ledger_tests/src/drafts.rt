@@ -3,7 +3,10 @@
 use picky_cert_builder::{IssuerKey, SshCertificateBuilder};
 use picky_cert_parts::{SshCertKeyType, SshCertType};
 use picky_key_rows::KEY_ROWS;
-use picky_keys::{EcCurve, EdAlgorithm, HashAlgorithm, KeyKind, SignatureAlgorithm, SshBasePublicKey, SshPublicKey};
+use picky_keys::{
+    EcCurve, EdAlgorithm, HashAlgorithm, KeyKind, SignatureAlgorithm, SshBasePublicKey,
+    SshPublicKey,
+};
 use picky_request::{CertRequestLine, algorithm_by, type_for};
 use picky_wire::{List, NoMemory, Text};
 use std::alloc::Global;

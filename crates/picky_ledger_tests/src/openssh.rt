@@ -2,8 +2,8 @@
 
 use crate::ledger_texts::ledger_of;
 use picky_cert::{SshCertificate, SshSignatureBlob};
-use picky_ledger::{Entry, Ledger, LedgerError, Reply};
 use picky_keys::SshPublicKey;
+use picky_ledger::{Entry, Ledger, LedgerError, Reply};
 use picky_suite::HandedSigner;
 use picky_wire::{Bytes, TryClone};
 use std::alloc::Global;

@@ -3,8 +3,8 @@
 use crate::ledger_texts::{is_written, ledger_of};
 use crate::row_texts::row_text;
 use crate::runs::zero_signer;
-use picky_ledger::{Ledger, LedgerError, Reply};
 use picky_keys::SshPublicKey;
+use picky_ledger::{Ledger, LedgerError, Reply};
 use picky_suite::{MemorySigner, Signer};
 use std::alloc::Global;
 use std::mem::ManuallyDrop;

@@ -3,8 +3,8 @@
 use crate::row_texts::row_text;
 use picky_cert_parts::SshCertType;
 use picky_key_rows::KEY_ROWS;
-use picky_request::CertRequestLine;
 use picky_keys::SshPublicKey;
+use picky_request::CertRequestLine;
 use picky_wire::Text;
 use std::alloc::Global;
 use std::mem::ManuallyDrop;

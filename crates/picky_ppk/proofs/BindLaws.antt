@@ -1,11 +1,11 @@
 -- A MAC binds the fields that it covers.
 use Rattle.std.proofs.Common.{◌≡◌, ◌<◌, ◌^◌, ◌++◌, ◌∙◌, ℕ, List, Bool, true, false, ap, sym, refl, length, lit<}
 use Rattle.std.specs.Prelude.{Some}
-use Rattle.picky_kv_words.specs.Literal.{AreNamed, value_named}
-use Rattle.picky_kv_words.specs.Choices.{encryption_literal, encryptions}
+use Rattle.picky_kv.specs.Literal.{AreNamed, value_named}
+use Rattle.picky_kv.specs.Choices.{encryption_literal, encryptions}
 use Rattle.picky_kv_words.specs.carried.Choices.{encryptions_are_named}
-use Rattle.picky_kv_words.specs.declared.choices.PpkEncryptionValue.{PpkEncryptionValue}
-use Rattle.picky_kv_words.specs.declared.choices.PpkEncryptionValue.TheVariants.{None, Aes256Cbc}
+use Rattle.picky_kv.specs.declared.PpkEncryptionValue.{PpkEncryptionValue}
+use Rattle.picky_kv.specs.declared.PpkEncryptionValue.TheVariants.{None, Aes256Cbc}
 use Rattle.picky_kv.specs.declared.algorithm.PpkKeyAlgorithmValue.{PpkKeyAlgorithmValue}
 use Rattle.picky_kv.specs.declared.algorithm.PpkKeyAlgorithmValue.TheVariants.{Rsa, Dss, EcdsaSha2Nistp256}
 use Rattle.picky_kv.specs.declared.algorithm.PpkKeyAlgorithmValue.TheVariants.{EcdsaSha2Nistp384}

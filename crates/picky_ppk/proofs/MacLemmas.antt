@@ -2,7 +2,7 @@
 use Rattle.std.specs.Prelude.{◌≡◌, ◌&&◌, List, ℕ, Ok}
 use Rattle.std.proofs.Common.{refl, sym, ◌∙◌}
 use Rattle.picky_wire_base.specs.carried.Outcome.{passed_ok}
-use Rattle.picky_kv_words.specs.ChoiceFields.{encryption_field}
+use Rattle.picky_kv.specs.ChoiceFields.{encryption_field}
 use Rattle.picky_kv.specs.AlgorithmField.{algorithm_field}
 use Rattle.picky_keys.specs.LineRefusal.{is_short}
 use Rattle.picky_ppk_parts.specs.declared.error.PuttyError.TheVariants as errors

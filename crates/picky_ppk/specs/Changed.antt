@@ -1,8 +1,8 @@
 -- A file with another comment, and in another version; and the file that a key makes.
 use Rattle.std.specs.Prelude.{List, [], ℕ, Result, Ok, Err, if◌then◌else◌}
 use Rattle.picky_wire_base.specs.Outcome.{and_then}
-use Rattle.picky_kv_words.specs.declared.choices.PpkVersionKey.{PpkVersionKey}
-use Rattle.picky_kv_words.specs.declared.choices.PpkVersionKey.TheVariants.{V3}
+use Rattle.picky_kv.specs.declared.PpkVersionKey.{PpkVersionKey}
+use Rattle.picky_kv.specs.declared.PpkVersionKey.TheVariants.{V3}
 use Rattle.picky_suite.specs.Meanings.{Meanings}
 use Rattle.picky_keys.specs.LineRefusal.{is_short}
 use Rattle.picky_sshkey_blob.specs.declared.key.SshBasePrivateKey.{SshBasePrivateKey}

@@ -1,6 +1,6 @@
 -- The MAC that a PuTTY private key file carries (PuTTY's manual, Appendix C).
 use Rattle.std.specs.Prelude.{◌≡◌, false, List, ℕ}
-use Rattle.picky_kv_words.specs.Choices.{encryption_literal}
+use Rattle.picky_kv.specs.Choices.{encryption_literal}
 use Rattle.picky_kv.specs.Algorithm.{algorithm_literal}
 use Rattle.picky_suite.specs.Meanings.{Meanings}
 use Rattle.picky_ppk_parts.specs.Mac.{mac_input, mac_of, plain_mac_key}

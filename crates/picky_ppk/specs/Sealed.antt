@@ -1,7 +1,7 @@
 -- A file sealed under a passphrase (PuTTY's manual, Appendix C), and the order in which it is refused.
 use Rattle.std.specs.Prelude.{List, ℕ, ◌++◌, ◌-◌, ◌%◌, ◌&&◌, Bool, not, length, Result, Ok, Err, if◌then◌else◌}
-use Rattle.picky_kv_words.specs.declared.choices.PpkVersionKey.{PpkVersionKey}
-use Rattle.picky_kv_words.specs.declared.choices.PpkVersionKey.TheVariants.{V2, V3}
+use Rattle.picky_kv.specs.declared.PpkVersionKey.{PpkVersionKey}
+use Rattle.picky_kv.specs.declared.PpkVersionKey.TheVariants.{V2, V3}
 use Rattle.picky_suite.specs.Meanings.{Meanings}
 use Rattle.picky_keys.specs.LineRefusal.{is_short}
 use Rattle.picky_ppk_parts.specs.declared.config.PpkEncryptionConfig.{PpkEncryptionConfig}

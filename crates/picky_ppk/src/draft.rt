@@ -1,7 +1,7 @@
 //! A file as it is sealed, while its private bytes are still open.
 
 ghost use Rattle.std.specs.Prelude.{◌≡◌, ◌<◌, ◌^◌, ◌+◌, ◌++◌, true, [], length, IfOk};
-ghost use Rattle.picky_kv_words.specs.declared.choices.PpkVersionKey.TheVariants.{V3};
+ghost use Rattle.picky_kv.specs.declared.PpkVersionKey.TheVariants.{V3};
 ghost use Rattle.picky_keys.specs.LineRefusal.{is_short};
 ghost use Rattle.picky_ppk_file.specs.File.{version_of};
 ghost use Rattle.picky_ppk.specs.Sealed.{file_to_seal, sealing_under as sealing_under_of};

@@ -2,7 +2,7 @@
 
 ghost use Rattle.std.specs.Prelude.{◌≡◌, ◌⊎◌, ◌++◌, ◌<◌, ◌^◌, List, ℕ, true, false, Ok, length};
 ghost use Rattle.picky_text.specs.Lines.{IsLine};
-ghost use Rattle.picky_kv_words.specs.declared.choices.PpkVersionKey.{PpkVersionKey as Version};
+ghost use Rattle.picky_kv.specs.declared.PpkVersionKey.{PpkVersionKey as Version};
 ghost use Rattle.picky_suite.specs.Meanings.{Meanings};
 ghost use Rattle.picky_sshkey.specs.declared.private_key.SshPrivateKey.{SshPrivateKey as OpenSshKey};
 ghost use Rattle.picky_sshkey_blob.specs.declared.key.SshBasePrivateKey.{SshBasePrivateKey as Key};

@@ -15,12 +15,11 @@ mod sealing;
 mod wrappers;
 
 pub use draft::file_draft;
-pub use picky_ppk_file::{PpkFile, PpkSealing};
+pub use picky_ppk_file::{PpkFile, PpkSealing, PuttyPublicKey};
 pub use picky_ppk_parts::{
     Argon2Flavour, Argon2Params, KeyMaterialV2, KeyMaterialV3, MAC_SIZE_V3, PpkEncryptionConfig,
     PpkEncryptionConfigBuilder, PpkKeyAlgorithm, PpkVersion, PuttyError, flavour_of,
 };
-pub use picky_ppk_file::PuttyPublicKey;
 pub use ppk::Ppk;
 pub use sealing::can_derive_by;
 pub use wrappers::{PuttyBasePrivateKey, PuttyBasePublicKey, PuttyPrivateKey};

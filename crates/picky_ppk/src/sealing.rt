@@ -3,7 +3,7 @@
 ghost use Rattle.std.specs.Prelude.{◌≡◌, ◌≢◌, ◌<◌, ◌^◌, true, false, length, Ok, Err, IfOk, IfErr, OnOk};
 ghost use Rattle.picky_wire.specs.Count.{Rose};
 ghost use Rattle.picky_suite.specs.Asked.{GivesAsked, LeavesSuite};
-ghost use Rattle.picky_kv_words.specs.declared.choices.PpkVersionKey.TheVariants.{V3};
+ghost use Rattle.picky_kv.specs.declared.PpkVersionKey.TheVariants.{V3};
 ghost use Rattle.picky_ppk_parts.specs.Aes.{is_aligned};
 ghost use Rattle.picky_ppk_file.specs.File.{version_of};
 ghost use Rattle.picky_ppk.specs.Keyed.{can_derive, keys_under};

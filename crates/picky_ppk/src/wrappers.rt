@@ -9,11 +9,11 @@ ghost use Rattle.picky_ppk.specs.Wrappers.{private_of_openssh, private_to_openss
 
 use crate::openssh::{made_private, plain_in_blob, plain_private};
 use picky_keys::{PrivateKey, PublicKey, SshBasePublicKey};
+use picky_ppk_file::is_hardware;
 use picky_ppk_parts::{
     KeyParts, PpkKeyAlgorithm, PuttyError, blob_of_public, key_in_blob, no_hardware_keys,
     private_key_of,
 };
-use picky_ppk_file::is_hardware;
 use picky_sshkey::{SshBasePrivateKey, SshPrivateKey};
 use picky_wire::{Bytes, NoMemory, Text, TryClone, both};
 use std::alloc::Global;

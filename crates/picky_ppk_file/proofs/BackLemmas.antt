@@ -2,10 +2,10 @@
 use Rattle.std.proofs.Common.{◌≡◌, ℕ, List, [], ◌∷◌, ◌++◌, true, Ok, ap, ◌∙◌}
 use Rattle.picky_text.specs.Lines.{IsLine, lines, text_of}
 use Rattle.picky_text.specs.declared.lines.LineEnd.{LineEnd}
-use Rattle.picky_kv_words.specs.Field.{Field}
-use Rattle.picky_kv_words.specs.Literal.{IsPlain}
-use Rattle.picky_kv_words.specs.Values.{AreFewBytes}
-use Rattle.picky_kv_words.specs.ValueFields.{base64_field}
+use Rattle.picky_kv.specs.Field.{Field}
+use Rattle.picky_kv.specs.Literal.{IsPlain}
+use Rattle.picky_kv.specs.Values.{AreFewBytes}
+use Rattle.picky_kv.specs.ValueFields.{base64_field}
 use Rattle.picky_kv.specs.Lines.{next_pair, next_block, value_alone}
 use Rattle.picky_kv.specs.Parts.{HasNoLineEnd}
 use Rattle.picky_kv.proofs.OneLineLemmas.{base64_is_one_line}

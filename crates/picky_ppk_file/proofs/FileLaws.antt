@@ -3,9 +3,9 @@ use Rattle.std.proofs.Common.{◌≡◌, ℕ, List, Ok, refl, sym, ap, subst, �
 use Rattle.picky_wire_base.specs.Outcome.{and_then, map_err}
 use Rattle.picky_wire_base.specs.carried.Outcome.{and_then_ok, map_err_ok, same_pair}
 use Rattle.picky_text.specs.Lines.{lines}
-use Rattle.picky_kv_words.specs.Keys.{private_lines_key, private_mac_key}
-use Rattle.picky_kv_words.specs.Keys.{private_lines_key_row, private_mac_key_row}
-use Rattle.picky_kv_words.specs.ValueFields.{base64_field, hex_field}
+use Rattle.picky_kv.specs.Keys.{private_lines_key, private_mac_key}
+use Rattle.picky_kv.specs.Keys.{private_lines_key_row, private_mac_key_row}
+use Rattle.picky_kv.specs.ValueFields.{base64_field, hex_field}
 use Rattle.picky_kv.specs.Lines.{next_pair, next_block, value_alone}
 use Rattle.picky_ppk_file.specs.declared.file.PpkFile.{PpkFile}
 use Rattle.picky_ppk_file.specs.declared.reading.Front.{Front}

@@ -3,7 +3,7 @@ use Rattle.std.proofs.Common.{◌≡◌, ℕ, List, Bool, true, false, Option, S
 use Rattle.std.proofs.Common.{◌∙◌}
 use Rattle.picky_wire_base.specs.Outcome.{and_then}
 use Rattle.picky_wire_base.specs.carried.Outcome.{same_pair}
-use Rattle.picky_kv_words.specs.Field.{Field, judged_value}
+use Rattle.picky_kv.specs.Field.{Field, judged_value}
 use Rattle.picky_kv.specs.Lines.{next_pair, next_block, value_alone}
 use Rattle.picky_kv.specs.Parts.{IsPair, IsBlock}
 use Rattle.picky_kv.specs.declared.error.KvError.{KvError}

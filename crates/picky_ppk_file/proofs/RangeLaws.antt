@@ -9,13 +9,13 @@ use Rattle.picky_wire_base.specs.Numbers.{IsBytes}
 use Rattle.picky_text.specs.Base64.{decoded}
 use Rattle.picky_text.proofs.Base64Laws.{decoded_is_bytes}
 use Rattle.picky_text.proofs.ListLaws.{all_front, all_back}
-use Rattle.picky_kv_words.specs.Field.{Field, field_value}
-use Rattle.picky_kv_words.specs.declared.choices.PpkVersionKey.{PpkVersionKey}
-use Rattle.picky_kv_words.specs.declared.choices.PpkVersionKey.TheVariants.{V2, V3}
-use Rattle.picky_kv_words.specs.declared.choices.PpkEncryptionValue.{PpkEncryptionValue}
-use Rattle.picky_kv_words.specs.declared.choices.PpkEncryptionValue.TheVariants.{None, Aes256Cbc}
-use Rattle.picky_kv_words.specs.Values.{AreFewBytes, is_long, comment_row, base64_row, hex_row, hex_decoded}
-use Rattle.picky_kv_words.specs.ValueFields.{comment_field, base64_field, hex_field}
+use Rattle.picky_kv.specs.Field.{Field, field_value}
+use Rattle.picky_kv.specs.declared.PpkVersionKey.{PpkVersionKey}
+use Rattle.picky_kv.specs.declared.PpkVersionKey.TheVariants.{V2, V3}
+use Rattle.picky_kv.specs.declared.PpkEncryptionValue.{PpkEncryptionValue}
+use Rattle.picky_kv.specs.declared.PpkEncryptionValue.TheVariants.{None, Aes256Cbc}
+use Rattle.picky_kv.specs.Values.{AreFewBytes, is_long, comment_row, base64_row, hex_row, hex_decoded}
+use Rattle.picky_kv.specs.ValueFields.{comment_field, base64_field, hex_field}
 use Rattle.picky_kv.specs.NumberFields.{u32_field}
 use Rattle.picky_kv.specs.Numbers.{u32_row, number_below}
 use Rattle.picky_kv.specs.Parts.{IsPair, IsBlock}

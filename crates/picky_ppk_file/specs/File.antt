@@ -1,11 +1,11 @@
 -- What a PuTTY private key file says of itself, and the ranges of its fields.
 use Rattle.std.specs.Prelude.{◌^◌, ◌<◌, List, ℕ, Bool, true, false, Option, Some, length}
 use Rattle.std.specs.Prelude as std
-use Rattle.picky_kv_words.specs.declared.choices.PpkVersionKey.{PpkVersionKey}
-use Rattle.picky_kv_words.specs.declared.choices.PpkVersionKey.TheVariants.{V2, V3}
-use Rattle.picky_kv_words.specs.declared.choices.PpkEncryptionValue.{PpkEncryptionValue}
-use Rattle.picky_kv_words.specs.declared.choices.PpkEncryptionValue.TheVariants as encryptions
-use Rattle.picky_kv_words.specs.Values.{AreFewBytes}
+use Rattle.picky_kv.specs.declared.PpkVersionKey.{PpkVersionKey}
+use Rattle.picky_kv.specs.declared.PpkVersionKey.TheVariants.{V2, V3}
+use Rattle.picky_kv.specs.declared.PpkEncryptionValue.{PpkEncryptionValue}
+use Rattle.picky_kv.specs.declared.PpkEncryptionValue.TheVariants as encryptions
+use Rattle.picky_kv.specs.Values.{AreFewBytes}
 use Rattle.picky_ppk_parts.specs.declared.material.Argon2Params.{Argon2Params}
 use Rattle.picky_ppk_file.specs.declared.file.PpkSealing.{PpkSealing}
 use Rattle.picky_ppk_file.specs.declared.file.PpkSealing.TheVariants.{Unsealed, SealedV2, SealedV3}

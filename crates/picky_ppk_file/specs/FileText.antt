@@ -1,15 +1,15 @@
 -- A PuTTY private key file, line by line, as it is read (PuTTY's manual, Appendix C, "PPK file format").
 use Rattle.std.specs.Prelude.{◌≡◌, List, ℕ}
 use Rattle.picky_text.specs.Lines.{lines}
-use Rattle.picky_kv_words.specs.Keys.{encryption_key, comment_key, public_lines_key, private_lines_key, private_mac_key}
-use Rattle.picky_kv_words.specs.Argon2Keys.{key_derivation_key, argon2_memory_key, argon2_passes_key}
-use Rattle.picky_kv_words.specs.Argon2Keys.{argon2_parallelism_key, argon2_salt_key}
-use Rattle.picky_kv_words.specs.ChoiceFields.{version_field, encryption_field, flavour_field}
-use Rattle.picky_kv_words.specs.declared.choices.PpkVersionKey.{PpkVersionKey}
-use Rattle.picky_kv_words.specs.declared.choices.PpkVersionKey.TheVariants.{V2, V3}
-use Rattle.picky_kv_words.specs.declared.choices.PpkEncryptionValue.{PpkEncryptionValue}
-use Rattle.picky_kv_words.specs.declared.choices.PpkEncryptionValue.TheVariants.{None, Aes256Cbc}
-use Rattle.picky_kv_words.specs.ValueFields.{comment_field, base64_field, hex_field}
+use Rattle.picky_kv.specs.Keys.{encryption_key, comment_key, public_lines_key, private_lines_key, private_mac_key}
+use Rattle.picky_kv.specs.Argon2Keys.{key_derivation_key, argon2_memory_key, argon2_passes_key}
+use Rattle.picky_kv.specs.Argon2Keys.{argon2_parallelism_key, argon2_salt_key}
+use Rattle.picky_kv.specs.ChoiceFields.{version_field, encryption_field, flavour_field}
+use Rattle.picky_kv.specs.declared.PpkVersionKey.{PpkVersionKey}
+use Rattle.picky_kv.specs.declared.PpkVersionKey.TheVariants.{V2, V3}
+use Rattle.picky_kv.specs.declared.PpkEncryptionValue.{PpkEncryptionValue}
+use Rattle.picky_kv.specs.declared.PpkEncryptionValue.TheVariants.{None, Aes256Cbc}
+use Rattle.picky_kv.specs.ValueFields.{comment_field, base64_field, hex_field}
 use Rattle.picky_kv.specs.AlgorithmField.{algorithm_field}
 use Rattle.picky_kv.specs.NumberFields.{u32_field}
 use Rattle.picky_kv.specs.Parts.{IsPair, IsBlock}

@@ -8,8 +8,8 @@ ghost use Rattle.picky_kv.specs.Joined.{joined_text};
 ghost use Rattle.picky_ppk_file.specs.PuttyPublic.{putty_public as text_of};
 ghost use Rattle.picky_ppk_file.specs.PuttyRefusal.{quoted as quoted_in, after_header as after_header_of, after_comment as after_comment_of, body_from, of_blob as of_blob_of, of_parts as of_parts_of, putty_meaning, putty_text, is_hardware as is_hardware_of, of_openssh, to_openssh as to_openssh_of, plain_key_of, plain_key as plain_of, commented};
 
-use picky_kv::JoinedLines;
 use picky_keys::{PublicKey, SshBasePublicKey, SshPublicKey};
+use picky_kv::JoinedLines;
 use picky_ppk_parts::{PuttyError, blob_of_public, key_in_blob, no_hardware_keys};
 use picky_text::{
     Base64Error, LineEnd, LineReader, decode, encode, push_quoted, push_rows, unquoted,

@@ -1,5 +1,5 @@
 -- How a file of version 3 is sealed unless something else is said.
-use Rattle.picky_kv_words.specs.declared.choices.Argon2FlavourValue.TheVariants.{Argon2id}
+use Rattle.picky_kv.specs.declared.Argon2FlavourValue.TheVariants.{Argon2id}
 use Rattle.picky_ppk_parts.specs.declared.config.PpkEncryptionConfig.{PpkEncryptionConfig}
 
 -- Argon2id in one lane, with 8 MiB and 34 passes, and a salt of 16 bytes

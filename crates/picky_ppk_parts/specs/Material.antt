@@ -2,8 +2,8 @@
 use Rattle.std.specs.Prelude.{List, ℕ, ◌++◌, Bool, length, take, drop, replicate, Result, Ok, Err, if◌then◌else◌}
 use Rattle.std.specs.Int.{w32, to_be_bytes}
 use Rattle.sha1.specs.Sha1.{sha1}
-use Rattle.picky_kv_words.specs.declared.choices.Argon2FlavourValue.{Argon2FlavourValue}
-use Rattle.picky_kv_words.specs.declared.choices.Argon2FlavourValue.TheVariants as values
+use Rattle.picky_kv.specs.declared.Argon2FlavourValue.{Argon2FlavourValue}
+use Rattle.picky_kv.specs.declared.Argon2FlavourValue.TheVariants as values
 use Rattle.picky_suite.specs.declared.flavour.Flavour.{Flavour}
 use Rattle.picky_suite.specs.declared.flavour.Flavour.TheVariants as flavours
 use Rattle.picky_suite.specs.Meanings.{Meanings}

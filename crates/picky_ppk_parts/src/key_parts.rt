@@ -12,8 +12,8 @@ use crate::error::PuttyError;
 use crate::joined::joined_pieces;
 use crate::names::PpkKeyAlgorithm;
 use crate::unsupported::no_hardware_keys;
-use picky_sshkey_blob::SshBasePrivateKey;
 use picky_keys::{SshBasePublicKey, SshPublicKeyError};
+use picky_sshkey_blob::SshBasePrivateKey;
 use picky_wire::{Bytes, MAX_LEN, Mpint, NoMemory, Piece, TryClone};
 use std::alloc::Global;
 

@@ -6,11 +6,11 @@ use crate::ppk_sealed::is_hex;
 use picky_key_rows::{
     PPK_ROWS, PRIVATE_ROWS, PpkRow, PrivateRow, SEALED_V3, VERSIONS, text_of, unsealed,
 };
+use picky_keys::SshPublicKey;
 use picky_kv::PpkLiteral;
 use picky_ppk::{PpkFile, PpkKeyAlgorithm, PpkSealing, PpkVersion};
 use picky_ppk_parts::{KeyParts, counted_len, key_in_blob, mac_input, private_key_of};
 use picky_sshkey::SshBasePrivateKey;
-use picky_keys::SshPublicKey;
 use picky_suite::hmac_sha256;
 use picky_text::encode;
 use std::alloc::Global;

@@ -2,7 +2,7 @@
 
 use crate::answers::{is_text, kept, refuses};
 use crate::putty_public::{ED25519, commented, text_with};
-use picky_ppk_file::{PuttyError, PuttyPublicKey};
+use picky_ppk::{PuttyError, PuttyPublicKey};
 use std::alloc::Global;
 use std::mem::ManuallyDrop;
 use std::test::Fail;

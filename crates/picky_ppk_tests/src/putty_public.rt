@@ -4,7 +4,7 @@ use crate::answers::{gives, is_text, kept};
 use crate::ppk_refusals::is_named;
 use picky_key_rows::KEY_ROWS;
 use picky_keys::{PublicKey, PublicKeyRef, SshPublicKey};
-use picky_ppk_file::PuttyPublicKey;
+use picky_ppk::PuttyPublicKey;
 use picky_wire::TryClone;
 use std::alloc::{AllocError, Global};
 use std::mem::ManuallyDrop;

@@ -2,8 +2,8 @@
 
 use crate::answers::{kept, refuses};
 use crate::putty_public::{key_with, spelled};
-use picky_ppk_file::{PuttyError, PuttyPublicKey};
 use picky_keys::SshPublicKeyError;
+use picky_ppk::{PuttyError, PuttyPublicKey};
 use picky_wire::IoKind;
 use std::alloc::{AllocGlobal, Global};
 use std::mem::ManuallyDrop;

@@ -6,7 +6,9 @@ ghost use Rattle.picky_request.specs.Builder.{algorithm_by as algorithm_of_kind,
 use crate::request::CertRequestLine;
 use picky_cert_builder::{IssuerKey, SshCertificateBuilder};
 use picky_cert_parts::SshCertKeyType;
-use picky_keys::{EcCurve, HashAlgorithm, KeyKind, SignatureAlgorithm, SshBasePublicKey, SshPublicKey};
+use picky_keys::{
+    EcCurve, HashAlgorithm, KeyKind, SignatureAlgorithm, SshBasePublicKey, SshPublicKey,
+};
 use picky_wire::{NoMemory, Text, TryClone};
 use std::alloc::Global;
 

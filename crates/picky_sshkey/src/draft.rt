@@ -9,8 +9,8 @@ ghost use Rattle.picky_sshkey.specs.Written.{envelope_of, may_derive as may_deri
 ghost use Rattle.picky_sshkey.specs.inner.Draft.{IsDraft};
 
 use crate::private_key::SshPrivateKey;
-use picky_sshkey_blob::{SshBasePrivateKey, SshPrivateKeyError, secret_pieces};
 use picky_keys::SshPublicKeyError;
+use picky_sshkey_blob::{SshBasePrivateKey, SshPrivateKeyError, secret_pieces};
 use picky_suite::bcrypt_ok;
 use picky_wire::{Bytes, MAX_LEN, NoMemory, Piece, push_pieces};
 use std::alloc::{AllocError, Global};
@@ -47,7 +47,10 @@ fn may_derive(key: &SshPrivateKey) -> bool
 /// The public key's blob and the block of a key, where its passphrase may be derived from and its envelope is short.
 /// Refuses, in order: `HashingError`, `TooLong`.
 #[tactic(auto, using(crate::proofs::WrittenLemmas::lengths))]
-pub fn private_key_draft(alloc: Global, key: &SshPrivateKey) -> Result<PrivateKeyDraft, SshPrivateKeyError>
+pub fn private_key_draft(
+    alloc: Global,
+    key: &SshPrivateKey,
+) -> Result<PrivateKeyDraft, SshPrivateKeyError>
     ensures ok { IfOk result (λ draft. IsDraft key.now draft) }
     ensures err { IfErr result (λ e. (e ≡ SshPrivateKeyError.NoMemory)
         ⊎ ((e ≡ SshPrivateKeyError.HashingError) × (may_derive_of key.now.passphrase key.now.kdf.option ≡ false))

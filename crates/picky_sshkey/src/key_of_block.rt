@@ -16,8 +16,8 @@ use crate::envelope::EnvelopeView;
 use crate::kdf::{Kdf, option_of};
 use crate::kept::{kept_pass, name_text};
 use crate::private_key::{SshPrivateKey, public_key_of};
-use picky_sshkey_blob::{SshBasePrivateKey, SshPrivateKeyError};
 use picky_keys::{SshBasePublicKey, SshPublicKey, SshPublicKeyError};
+use picky_sshkey_blob::{SshBasePrivateKey, SshPrivateKeyError};
 use picky_wire::{NoMemory, Text, both};
 use std::alloc::Global;
 

@@ -16,6 +16,7 @@ mod sealing;
 mod writing;
 
 pub use kdf::{Kdf, KdfOption};
-pub use picky_sshkey_blob::{Pem, PemError, parse_pem};
-pub use picky_sshkey_blob::{PrivateView, SshBasePrivateKey, SshPrivateKeyError};
+pub use picky_sshkey_blob::{
+    Pem, PemError, PrivateView, SshBasePrivateKey, SshPrivateKeyError, parse_pem,
+};
 pub use private_key::{PrivateKeyRef, SshPrivateKey};

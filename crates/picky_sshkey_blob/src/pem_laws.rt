@@ -8,8 +8,8 @@ ghost use Rattle.picky_wire_base.specs.Equality.{IsEquality};
 ghost use Rattle.picky_sshkey_blob.specs.Pem.{header, footer, pem_lines, pem_text, IsPem};
 ghost use Rattle.picky_sshkey_blob.specs.PemRefusal.{pem_content};
 
-use crate::pem_error::PemError;
 use crate::pem::Pem;
+use crate::pem_error::PemError;
 
 /// A text has a content exactly where it says it, and it says one.
 #[tactic(auto, using(crate::proofs::PemLawLemmas::meaning_laws))]

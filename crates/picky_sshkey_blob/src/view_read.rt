@@ -8,7 +8,9 @@ ghost use Rattle.picky_sshkey_blob.specs.Blob.{rsa_fields, ec_fields, ed_fields,
 ghost use Rattle.picky_sshkey_blob.specs.View.{key_seen, PartsLie, SeenAt, IsRefusal};
 
 use crate::view::{PrivateView, Stopped};
-use crate::view_fields::{ed_key_in, ed_secret_in, flags_in, kind_in, mpint_in, string_in, text_in};
+use crate::view_fields::{
+    ed_key_in, ed_secret_in, flags_in, kind_in, mpint_in, string_in, text_in,
+};
 use picky_keys::{EcCurve, KeyKind};
 
 /// The view of the private key's blob that stands at a place, and the place after it.

@@ -3,8 +3,8 @@ use Rattle.std.proofs.Common.{◌≡◌, ℕ, List, Bool, true, false, Result, O
 use Rattle.std.specs.Prelude.{if◌then◌else◌}
 use Rattle.picky_wire_base.specs.Outcome.{and_then}
 use Rattle.picky_wire_base.specs.carried.Outcome.{and_then_ok, map_err_ok}
-use Rattle.picky_kv_words.specs.declared.choices.PpkVersionKey.{PpkVersionKey}
-use Rattle.picky_kv_words.specs.declared.choices.PpkVersionKey.TheVariants.{V2, V3}
+use Rattle.picky_kv.specs.declared.PpkVersionKey.{PpkVersionKey}
+use Rattle.picky_kv.specs.declared.PpkVersionKey.TheVariants.{V2, V3}
 use Rattle.picky_suite.specs.Meanings.{Meanings}
 use Rattle.picky_keys.specs.Blob.{blob_of}
 use Rattle.picky_keys.specs.LineRefusal.{is_short}

@@ -14,9 +14,9 @@ use Rattle.picky_keys.specs.KeyNames.{curve_key_type, ed_key_type, kind_name}
 use Rattle.picky_sshkey_blob.specs.Pem.{header, pem_lines, pem_text}
 use Rattle.picky_text.specs.Lines.{text_of}
 use Rattle.picky_text.specs.declared.lines.LineEnd.{LineEnd}
-use Rattle.picky_kv_words.specs.ChoiceFields.{version_field}
-use Rattle.picky_kv_words.specs.declared.choices.PpkVersionKey.{PpkVersionKey}
-use Rattle.picky_kv_words.specs.declared.choices.PpkVersionKey.TheVariants.{V2, V3}
+use Rattle.picky_kv.specs.ChoiceFields.{version_field}
+use Rattle.picky_kv.specs.declared.PpkVersionKey.{PpkVersionKey}
+use Rattle.picky_kv.specs.declared.PpkVersionKey.TheVariants.{V2, V3}
 use Rattle.picky_kv.specs.AlgorithmField.{algorithm_field}
 use Rattle.picky_kv.specs.declared.algorithm.PpkKeyAlgorithmValue.{PpkKeyAlgorithmValue}
 use Rattle.picky_keys.specs.declared.key.SshPublicKey.{SshPublicKey}

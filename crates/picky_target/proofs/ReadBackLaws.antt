@@ -10,7 +10,7 @@ use Rattle.picky_keys.specs.Blob.{blob_of}
 use Rattle.picky_keys.specs.Line.{IsPublicLine, line_of}
 use Rattle.picky_keys.proofs.LineLaws.{line_says}
 use Rattle.picky_sshkey_blob.proofs.KeyLaws.{public_part_is_key}
-use Rattle.picky_kv_words.specs.declared.choices.PpkVersionKey.{PpkVersionKey}
+use Rattle.picky_kv.specs.declared.PpkVersionKey.{PpkVersionKey}
 use Rattle.picky_ppk_parts.specs.declared.config.PpkEncryptionConfig.{PpkEncryptionConfig}
 use Rattle.picky_ppk_file.specs.PuttyPublic.{putty_public}
 use Rattle.picky_ppk_file.proofs.PuttyLaws.{putty_public_means}

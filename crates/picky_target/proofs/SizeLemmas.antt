@@ -10,9 +10,9 @@ use Rattle.picky_text.specs.Lines.{text_of, end_bytes}
 use Rattle.picky_text.specs.Rows.{rows_within, rows_of}
 use Rattle.picky_text.specs.declared.lines.LineEnd.{LineEnd}
 use Rattle.picky_text.proofs.Base64Laws.{length_base64}
-use Rattle.picky_kv_words.specs.Field.{Field}
-use Rattle.picky_kv_words.specs.Keys.{public_lines_key, private_lines_key, private_mac_key}
-use Rattle.picky_kv_words.specs.ValueFields.{base64_field, hex_field}
+use Rattle.picky_kv.specs.Field.{Field}
+use Rattle.picky_kv.specs.Keys.{public_lines_key, private_lines_key, private_mac_key}
+use Rattle.picky_kv.specs.ValueFields.{base64_field, hex_field}
 use Rattle.picky_kv.specs.Output.{pair_line, block_lines}
 use Rattle.picky_kv.specs.declared.algorithm.PpkKeyAlgorithmValue.{PpkKeyAlgorithmValue}
 use Rattle.picky_ppk_file.specs.declared.file.PpkSealing.{PpkSealing}

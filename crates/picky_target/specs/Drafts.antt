@@ -1,7 +1,7 @@
 -- What is written of a private key before a suite is asked: OpenSSH's key, and PuTTY's file with its private bytes still open.
 use Rattle.std.specs.Prelude.{◌++◌, List, ℕ, Option, None, Some, take, drop}
-use Rattle.picky_kv_words.specs.declared.choices.PpkVersionKey.{PpkVersionKey}
-use Rattle.picky_kv_words.specs.declared.choices.PpkVersionKey.TheVariants.{V2, V3}
+use Rattle.picky_kv.specs.declared.PpkVersionKey.{PpkVersionKey}
+use Rattle.picky_kv.specs.declared.PpkVersionKey.TheVariants.{V2, V3}
 use Rattle.picky_suite.specs.Meanings.{Meanings}
 use Rattle.picky_keys.specs.Blob.{blob_of}
 use Rattle.picky_keys.specs.Key.{public_key_of}

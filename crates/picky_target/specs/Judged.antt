@@ -3,8 +3,8 @@ use Rattle.std.specs.Prelude.{◌==◌, ◌&&◌, ◌-◌, ◌^◌, Bool, true, 
 use Rattle.std.specs.Prelude.{Result, Ok, Err, length, slice_index, nat_le, nat_lt, if◌then◌else◌, replicate}
 use Rattle.std.specs.List.{list_any}
 use Rattle.std.specs.Str.{bytes_eq, trim_end}
-use Rattle.picky_kv_words.specs.declared.choices.PpkVersionKey.{PpkVersionKey}
-use Rattle.picky_kv_words.specs.declared.choices.PpkVersionKey.TheVariants.{V2, V3}
+use Rattle.picky_kv.specs.declared.PpkVersionKey.{PpkVersionKey}
+use Rattle.picky_kv.specs.declared.PpkVersionKey.TheVariants.{V2, V3}
 use Rattle.picky_text.specs.Words.{ends_line}
 use Rattle.picky_suite.specs.Ranges.{bcrypt_fits}
 use Rattle.picky_keys.specs.Blob.{blob_of}

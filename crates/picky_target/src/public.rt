@@ -8,10 +8,10 @@ ghost use Rattle.picky_target.specs.inner.Public.{line_written, putty_written, p
 use crate::comment::carries_comment;
 use crate::error::ConvertError;
 use crate::target::KeyTarget;
-use picky_ppk::{PuttyError, PuttyPublicKey};
-use picky_ppk_parts::no_hardware_keys;
-use picky_ppk_file::is_hardware;
 use picky_keys::{SshPublicKey, SshPublicKeyError};
+use picky_ppk::{PuttyError, PuttyPublicKey};
+use picky_ppk_file::is_hardware;
+use picky_ppk_parts::no_hardware_keys;
 use picky_wire::Text;
 use std::alloc::Global;
 

@@ -46,7 +46,6 @@ pub enum WireError {
 }
 
 impl CodecError for WireError {
-
     ghost of_wire = { λ e. e };
 
     ghost from_alike = { λ e x same. same };

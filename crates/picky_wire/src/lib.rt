@@ -22,7 +22,11 @@ pub use element::{CodecError, SshComplexTypeDecode, SshComplexTypeEncode, SshEle
 pub use error::{Failed, IoKind, WireError};
 pub use fields::{take_byte, take_bytes, take_mpint, take_text, take_uint32, take_uint64};
 pub use list_codec::{decode_items, decode_list, encode_list};
-pub use picky_wire_base::{Bytes, List, MAX_LEN, Mpint, NoMemory, Part, Piece, SizeError, Stuck, Text, TryClone, Word, both, byte_at, mpint_at, pieces_len, push_pieces, sized_at, string_at, text_at, uint32_at, uint64_at, word_at};
+pub use picky_wire_base::{
+    Bytes, List, MAX_LEN, Mpint, NoMemory, Part, Piece, SizeError, Stuck, Text, TryClone, Word,
+    both, byte_at, mpint_at, pieces_len, push_pieces, sized_at, string_at, text_at, uint32_at,
+    uint64_at, word_at,
+};
 pub use piece::{write_piece, write_pieces};
 pub use principals::{decode_principals, encode_principals};
 pub use read::{SshReadExt, fill, read_byte, read_chunks, read_uint32, read_uint64};

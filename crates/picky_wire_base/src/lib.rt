@@ -17,4 +17,7 @@ pub use error::{NoMemory, SizeError};
 pub use list::List;
 pub use mpint::Mpint;
 pub use piece::{Piece, pieces_len, push_pieces};
-pub use view::{Part, Stuck, Word, byte_at, mpint_at, sized_at, string_at, text_at, uint32_at, uint64_at, word_at};
+pub use view::{
+    Part, Stuck, Word, byte_at, mpint_at, sized_at, string_at, text_at, uint32_at, uint64_at,
+    word_at,
+};

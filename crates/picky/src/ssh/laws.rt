@@ -2,11 +2,8 @@
 
 pub use picky_cert::laws as certificate;
 pub use picky_cert_builder::laws as certificate_builder;
-pub use picky_cert_parts::cert_name_laws as certificate_names;
-pub use picky_cert_parts::laws as certificate_parts;
-pub use picky_keys::key_name_laws as keys;
-pub use picky_sshkey_blob::pem_laws as pem;
+pub use picky_cert_parts::{cert_name_laws as certificate_names, laws as certificate_parts};
+pub use picky_keys::{key_name_laws as keys, laws as public_key};
 pub use picky_sshkey::laws as private_key;
-pub use picky_sshkey_blob::laws as private_blob;
-pub use picky_keys::laws as public_key;
+pub use picky_sshkey_blob::{laws as private_blob, pem_laws as pem};
 pub use picky_suite::laws as suite;

@@ -2,7 +2,7 @@
 use Rattle.std.specs.Prelude.{◌+◌, ◌++◌, ◌&&◌, Bool, true, false, not, List, ℕ, Option, None, Some, Result, Ok, Err}
 use Rattle.std.specs.Prelude.{length, nat_le, replicate, take, drop, if◌then◌else◌}
 use Rattle.picky_wire_base.specs.Outcome.{and_then, map_err}
-use Rattle.picky_kv_words.specs.declared.choices.PpkVersionKey.{PpkVersionKey}
+use Rattle.picky_kv.specs.declared.PpkVersionKey.{PpkVersionKey}
 use Rattle.picky_suite.specs.Meanings.{Meanings}
 use Rattle.picky_keys.specs.LineRefusal.{is_short}
 use Rattle.picky_sshkey_blob.specs.declared.key.SshBasePrivateKey.{SshBasePrivateKey}

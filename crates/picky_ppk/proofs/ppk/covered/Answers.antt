@@ -1,6 +1,6 @@
 -- The input is made of the file's fields.
 use Rattle.std.proofs.Common.{ap, ◌∙◌}
-use Rattle.picky_kv_words.specs.ChoiceFields.{encryption_field}
+use Rattle.picky_kv.specs.ChoiceFields.{encryption_field}
 use Rattle.picky_ppk.proofs.MacLemmas.{input_covers}
 use Rattle.picky_ppk.proofs.ppk.covered.Goals as goal
 
