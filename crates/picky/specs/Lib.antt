@@ -2,27 +2,31 @@
 pub use Rattle.picky_wire_base.specs.ByteArray
 pub use Rattle.picky_wire_base.specs.Combine
 pub use Rattle.picky_wire_base.specs.Empty
-pub use Rattle.picky_wire_base.specs.Entry as LayoutEntry
+pub use Rattle.picky_wire_base.specs.Entry as WireEntry
+pub use Rattle.picky_wire_base.specs.Equality
 pub use Rattle.picky_wire_base.specs.Fixed
 pub use Rattle.picky_wire_base.specs.Flaw
 pub use Rattle.picky_wire_base.specs.Front
+pub use Rattle.picky_wire_base.specs.Gives
 pub use Rattle.picky_wire_base.specs.Grammar
 pub use Rattle.picky_wire_base.specs.Inside
-pub use Rattle.picky_wire_base.specs.Joined as LayoutJoined
+pub use Rattle.picky_wire_base.specs.Joined as WireJoined
 pub use Rattle.picky_wire_base.specs.Magnitude
 pub use Rattle.picky_wire_base.specs.Many
 pub use Rattle.picky_wire_base.specs.Mpint
-pub use Rattle.picky_wire_base.specs.Named as LayoutNamed
+pub use Rattle.picky_wire_base.specs.Named
 pub use Rattle.picky_wire_base.specs.Narrowed
-pub use Rattle.picky_wire_base.specs.Numbers as LayoutNumbers
+pub use Rattle.picky_wire_base.specs.Numbers as WireNumbers
 pub use Rattle.picky_wire_base.specs.OrEmpty
 pub use Rattle.picky_wire_base.specs.Outcome
+pub use Rattle.picky_wire_base.specs.Reading
 pub use Rattle.picky_wire_base.specs.Row
 pub use Rattle.picky_wire_base.specs.Short
 pub use Rattle.picky_wire_base.specs.Table
+pub use Rattle.picky_wire_base.specs.View as WireView
 pub use Rattle.picky_wire_base.specs.When
 pub use Rattle.picky_wire_base.specs.Wire
-pub use Rattle.picky_wire_base.specs.Zeros as LayoutZeros
+pub use Rattle.picky_wire_base.specs.Zeros as WireZeros
 pub use Rattle.picky_text.specs.Appended
 pub use Rattle.picky_text.specs.Base64
 pub use Rattle.picky_text.specs.Lines as TextLines
@@ -30,26 +34,32 @@ pub use Rattle.picky_text.specs.Quote
 pub use Rattle.picky_text.specs.Rows as TextRows
 pub use Rattle.picky_text.specs.Words
 pub use Rattle.picky_wire.specs.Count
-pub use Rattle.picky_wire_base.specs.Equality
 pub use Rattle.picky_wire.specs.Flaws
-pub use Rattle.picky_wire_base.specs.Gives
 pub use Rattle.picky_wire.specs.Known
 pub use Rattle.picky_wire.specs.LengthFirst
 pub use Rattle.picky_wire.specs.Memory as WireMemory
 pub use Rattle.picky_wire.specs.Moment
 pub use Rattle.picky_wire.specs.Principals
 pub use Rattle.picky_wire.specs.Puts
-pub use Rattle.picky_wire_base.specs.Reading
 pub use Rattle.picky_wire.specs.Takes
 pub use Rattle.picky_wire.specs.Unread
-pub use Rattle.picky_wire_base.specs.View as WireView
 pub use Rattle.picky_input.specs.Extent
 pub use Rattle.picky_input.specs.Input
 pub use Rattle.picky_input.specs.SourceText
-pub use Rattle.picky_keys.specs.KeyNameTables as KeyNameTables
-pub use Rattle.picky_keys.specs.KeyNames as KeyNames
+pub use Rattle.picky_keys.specs.Blob as SshPublicBlob
+pub use Rattle.picky_keys.specs.BlobLayout as SshPublicBlobLayout
+pub use Rattle.picky_keys.specs.BlobRefusal as SshPublicBlobRefusal
+pub use Rattle.picky_keys.specs.BlobSpelled
+pub use Rattle.picky_keys.specs.FromWire as SshPublicFromWire
+pub use Rattle.picky_keys.specs.Key as SshPublicKey
+pub use Rattle.picky_keys.specs.KeyNameTables
+pub use Rattle.picky_keys.specs.KeyNames
+pub use Rattle.picky_keys.specs.Line as SshPublicLine
+pub use Rattle.picky_keys.specs.LineRefusal as SshPublicLineRefusal
 pub use Rattle.picky_keys.specs.PrivateKey
 pub use Rattle.picky_keys.specs.PublicKey
+pub use Rattle.picky_keys.specs.SourceLine as SshPublicSourceLine
+pub use Rattle.picky_keys.specs.View as SshPublicView
 pub use Rattle.picky_suite.specs.Asked as SuiteAsked
 pub use Rattle.picky_suite.specs.Failures
 pub use Rattle.picky_suite.specs.Fills
@@ -61,24 +71,12 @@ pub use Rattle.picky_suite.specs.Ranges
 pub use Rattle.picky_suite.specs.Signs
 pub use Rattle.picky_suite.specs.Toy
 pub use Rattle.picky_suite.specs.Zeros as SuiteZeros
-pub use Rattle.picky_keys.specs.Blob as SshPublicBlob
-pub use Rattle.picky_keys.specs.BlobLayout as SshPublicBlobLayout
-pub use Rattle.picky_keys.specs.BlobRefusal as SshPublicBlobRefusal
-pub use Rattle.picky_keys.specs.BlobSpelled
-pub use Rattle.picky_keys.specs.FromWire as SshPublicFromWire
-pub use Rattle.picky_keys.specs.Key as SshPublicKey
-pub use Rattle.picky_keys.specs.Line as SshPublicLine
-pub use Rattle.picky_keys.specs.LineRefusal as SshPublicLineRefusal
-pub use Rattle.picky_keys.specs.SourceLine as SshPublicSourceLine
-pub use Rattle.picky_keys.specs.View as SshPublicView
 pub use Rattle.picky_authorized.specs.Entries
 pub use Rattle.picky_authorized.specs.KnownOptions
 pub use Rattle.picky_authorized.specs.Lines as AuthorizedLines
 pub use Rattle.picky_authorized.specs.OptionText
 pub use Rattle.picky_authorized.specs.Options as AuthorizedOptions
 pub use Rattle.picky_authorized.specs.Quotes
-pub use Rattle.picky_sshkey_blob.specs.Pem
-pub use Rattle.picky_sshkey_blob.specs.PemRefusal
 pub use Rattle.picky_sshkey_blob.specs.Before
 pub use Rattle.picky_sshkey_blob.specs.Blob as SshPrivateBlob
 pub use Rattle.picky_sshkey_blob.specs.BlobLayout as SshPrivateBlobLayout
@@ -86,6 +84,8 @@ pub use Rattle.picky_sshkey_blob.specs.BlobRefusal as SshPrivateBlobRefusal
 pub use Rattle.picky_sshkey_blob.specs.Copy
 pub use Rattle.picky_sshkey_blob.specs.FromWire as SshPrivateFromWire
 pub use Rattle.picky_sshkey_blob.specs.Key as SshPrivateKey
+pub use Rattle.picky_sshkey_blob.specs.Pem
+pub use Rattle.picky_sshkey_blob.specs.PemRefusal
 pub use Rattle.picky_sshkey_blob.specs.SecretSpelled
 pub use Rattle.picky_sshkey_blob.specs.View as SshPrivateView
 pub use Rattle.picky_sshkey.specs.Cipher
@@ -101,15 +101,15 @@ pub use Rattle.picky_sshkey.specs.PrivateBlock
 pub use Rattle.picky_sshkey.specs.PrivateRefusal
 pub use Rattle.picky_sshkey.specs.PrivateText
 pub use Rattle.picky_sshkey.specs.Written as SshPrivateWritten
-pub use Rattle.picky_cert_parts.specs.ExtensionType
-pub use Rattle.picky_cert_parts.specs.CertFromWire as CertFromWire
-pub use Rattle.picky_cert_parts.specs.CertNameTables as CertNameTables
-pub use Rattle.picky_cert_parts.specs.CertNamed as CertNamed
-pub use Rattle.picky_cert_parts.specs.CertNames as CertNames
+pub use Rattle.picky_cert_parts.specs.CertFromWire
+pub use Rattle.picky_cert_parts.specs.CertNameTables
+pub use Rattle.picky_cert_parts.specs.CertNamed
+pub use Rattle.picky_cert_parts.specs.CertNames
 pub use Rattle.picky_cert_parts.specs.CertNumber
 pub use Rattle.picky_cert_parts.specs.CertType
 pub use Rattle.picky_cert_parts.specs.CriticalOption
 pub use Rattle.picky_cert_parts.specs.Extension
+pub use Rattle.picky_cert_parts.specs.ExtensionType
 pub use Rattle.picky_cert_parts.specs.Field as CertPartField
 pub use Rattle.picky_cert_parts.specs.NumberTable
 pub use Rattle.picky_cert_parts.specs.Signature
@@ -147,21 +147,21 @@ pub use Rattle.picky_cert_builder.specs.Permits
 pub use Rattle.picky_cert_builder.specs.RefusalName
 pub use Rattle.picky_cert_builder.specs.Request as BuilderRequest
 pub use Rattle.picky_cert_builder.specs.Terms
-pub use Rattle.picky_kv.specs.Block
-pub use Rattle.picky_kv.specs.BlockRefusal
-pub use Rattle.picky_kv.specs.Joined as BlockJoined
 pub use Rattle.picky_kv_words.specs.Argon2Keys
+pub use Rattle.picky_kv_words.specs.Blocks
 pub use Rattle.picky_kv_words.specs.ChoiceFields
 pub use Rattle.picky_kv_words.specs.Choices
 pub use Rattle.picky_kv_words.specs.Field as KvField
 pub use Rattle.picky_kv_words.specs.Keys as KvKeys
 pub use Rattle.picky_kv_words.specs.Literal
-pub use Rattle.picky_kv_words.specs.Blocks
 pub use Rattle.picky_kv_words.specs.ValueFields
 pub use Rattle.picky_kv_words.specs.Values
 pub use Rattle.picky_kv.specs.Algorithm as KvAlgorithm
 pub use Rattle.picky_kv.specs.AlgorithmField
+pub use Rattle.picky_kv.specs.Block
+pub use Rattle.picky_kv.specs.BlockRefusal
 pub use Rattle.picky_kv.specs.Context
+pub use Rattle.picky_kv.specs.Joined as KvJoined
 pub use Rattle.picky_kv.specs.Lines as KvLines
 pub use Rattle.picky_kv.specs.NumberFields
 pub use Rattle.picky_kv.specs.Numbers as KvNumbers
@@ -187,9 +187,9 @@ pub use Rattle.picky_ppk_parts.specs.Unsupported
 pub use Rattle.picky_ppk_file.specs.File
 pub use Rattle.picky_ppk_file.specs.FileRefusal
 pub use Rattle.picky_ppk_file.specs.FileText
-pub use Rattle.picky_ppk_file.specs.Written as PpkFileWritten
 pub use Rattle.picky_ppk_file.specs.PuttyPublic
 pub use Rattle.picky_ppk_file.specs.PuttyRefusal
+pub use Rattle.picky_ppk_file.specs.Written as PpkFileWritten
 pub use Rattle.picky_ppk.specs.Accepted
 pub use Rattle.picky_ppk.specs.Changed
 pub use Rattle.picky_ppk.specs.Checked
@@ -213,7 +213,7 @@ pub use Rattle.picky_target.specs.Drafts
 pub use Rattle.picky_target.specs.Judged
 pub use Rattle.picky_target.specs.Output as TargetOutput
 pub use Rattle.picky_target.specs.ReadBack as TargetReadBack
-pub use Rattle.picky_target.specs.Texts as TargetTexts
+pub use Rattle.picky_target.specs.Texts
 pub use Rattle.picky_target.specs.Written as TargetWritten
 pub use Rattle.picky_issuing.specs.NamedPayload
 pub use Rattle.picky_issuing.specs.OptionWord
@@ -221,29 +221,29 @@ pub use Rattle.picky_issuing.specs.Options as IssuingOptions
 pub use Rattle.picky_issuing.specs.Parts as IssuingParts
 pub use Rattle.picky_issuing.specs.Steps
 pub use Rattle.picky_issuing.specs.Value
-pub use Rattle.picky_conversion.specs.Certified
-pub use Rattle.picky_conversion.specs.Drafted as CertTargetDrafted
-pub use Rattle.picky_conversion.specs.Request as CertTargetRequest
 pub use Rattle.picky_conversion.specs.AnyChain
 pub use Rattle.picky_conversion.specs.Binds
+pub use Rattle.picky_conversion.specs.Certified
 pub use Rattle.picky_conversion.specs.Certify
-pub use Rattle.picky_conversion.specs.Chain as ConversionChain
+pub use Rattle.picky_conversion.specs.Chain
 pub use Rattle.picky_conversion.specs.Convert
+pub use Rattle.picky_conversion.specs.Drafted as ConversionDrafted
 pub use Rattle.picky_conversion.specs.Issue
 pub use Rattle.picky_conversion.specs.Made as ConversionMade
 pub use Rattle.picky_conversion.specs.Outside
 pub use Rattle.picky_conversion.specs.Refusal
+pub use Rattle.picky_conversion.specs.Request as ConversionRequest
 pub use Rattle.picky_conversion.specs.To
 pub use Rattle.picky_conversion.specs.Want as ConversionWant
-pub use Rattle.picky_convert.specs.SampleChain as SampleChain
-pub use Rattle.picky_convert.specs.Generator
-pub use Rattle.picky_convert.specs.SampleKeys as SampleKeys
-pub use Rattle.picky_convert.specs.Sample
-pub use Rattle.picky_convert.specs.SampleTexts as SampleTexts
 pub use Rattle.picky_convert.specs.Command
 pub use Rattle.picky_convert.specs.Fingerprint
+pub use Rattle.picky_convert.specs.Generator
 pub use Rattle.picky_convert.specs.Report
 pub use Rattle.picky_convert.specs.Run
+pub use Rattle.picky_convert.specs.Sample
+pub use Rattle.picky_convert.specs.SampleChain
+pub use Rattle.picky_convert.specs.SampleKeys
+pub use Rattle.picky_convert.specs.SampleTexts
 pub use Rattle.picky_inventory.specs.BadLine
 pub use Rattle.picky_inventory.specs.Command as InventoryCommand
 pub use Rattle.picky_inventory.specs.InOrder
@@ -277,7 +277,7 @@ pub use Rattle.picky_agent.specs.Frame
 pub use Rattle.picky_agent.specs.Run as AgentRun
 pub use Rattle.picky_agent.specs.Served
 pub use Rattle.picky_request.specs.Builder
-pub use Rattle.picky_request.specs.Names as LineNames
+pub use Rattle.picky_request.specs.Names
 pub use Rattle.picky_request.specs.Request as LineRequest
 pub use Rattle.picky_ledger.specs.Apply
 pub use Rattle.picky_ledger.specs.Entry as LedgerEntry
