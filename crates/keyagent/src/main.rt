@@ -9,9 +9,10 @@ use std::process::ExitCode;
 
 const HELP: &str = "usage: keyagent < MESSAGES > REPLIES
 
-Keeps private keys, as an SSH agent does. Reads the messages of an agent's protocol (draft-miller-ssh-agent-04) from standard
-input, each behind its length in four bytes, and writes the reply to each to standard output before it reads the next. What it
-keeps ends with it. Words are ignored, but for one of these alone:
+Keeps private keys, as an SSH agent does. Reads the messages of an agent's
+protocol (draft-miller-ssh-agent-04) from standard input, each behind its length
+in four bytes, and writes the reply to each to standard output before it reads
+the next. What it keeps ends with it. Words are ignored, but for one alone:
 
   --help     this text
   --version  the version
@@ -24,16 +25,20 @@ Messages, and the reply where there is one other than the failure, 5:
   18, 19  an identity, or all of them, removed: 6
   22, 23  locked, and unlocked, under a passphrase: 6
 
-While it is locked 11 has no identities, and all but 23 fail. It keeps 1,024 identities, and takes 262,144 bytes a message.
+While it is locked 11 has no identities, and all but 23 fail. It keeps 1,024
+identities, and takes 262,144 bytes a message.
 
-This program signs nothing itself. A signature is the one that it was handed, whatever the message and the key, or else the
-failure. It has no socket, and asks nobody: whoever writes to it may use what it keeps.
+This program signs nothing itself. A signature is the one that it was handed,
+whatever the message and the key, or else the failure. It has no socket, and
+asks nobody: whoever writes to it may use what it keeps.
 
-Environment: KEYCONV_SIGNATURE, the signature that another device made, in hex and without the name of its format. One that is
-set counts where it is empty, too.
+Environment: KEYCONV_SIGNATURE, the signature that another device made, in hex
+and without the name of its format. One that is set counts where it is empty.
 
-Status: 0 done, 1 a message's length is 0 or above 262,144, 2 the input ends inside a message, 3 read fault, 4 write fault, 5 out
-of memory, 6 18,446,744,073,709,551,615 messages were answered, 7 KEYCONV_SIGNATURE isn't hex. Nothing goes to standard error.
+Status: 0 done, 1 a message's length is 0 or above 262,144, 2 the input ends
+inside a message, 3 read fault, 4 write fault, 5 out of memory,
+6 18,446,744,073,709,551,615 messages were answered, 7 KEYCONV_SIGNATURE isn't
+hex. Nothing goes to standard error.
 ";
 
 const VERSION: &str = "keyagent 0.1.0\n";

@@ -10,52 +10,42 @@ use std::process::ExitCode;
 const HELP: &str = "usage: keyconv COMMAND [OPTION VALUE]... < KEY
        keyconv sample N
 
-Reads a key from standard input: an OpenSSH private key, a PuTTY private key file of version 2 or 3, a PuTTY public key, a
-public key line or a certificate; of RSA, ECDSA, Ed25519 and the two kinds whose secret a device keeps. Writes to standard
-output, by the command:
+Reads a key from standard input: an OpenSSH private key, a PuTTY private key
+file, a PuTTY public key, a public key line or a certificate. Writes:
 
-  openssh      the private key and the comment as an OpenSSH private key
-  ppk2, ppk3   the same as a PuTTY private key file of version 2 or 3; PuTTY has no keys whose secret a device keeps, and
-               takes some files of Ed25519 keys as other secrets: see the manual page first
-  ssh-pub      the public key and the comment as a public key line
-  putty-pub    the same as a PuTTY public key
-  fingerprint  the MD5, SHA-1 and SHA-256 fingerprints of the public key, a line each
-  cert         a certificate of the public key and the comment, with a signature that another device made
+  openssh      the private key and the comment as OpenSSH has it
+  ppk2, ppk3   the same as a PuTTY file of version 2 or 3; of Ed25519 keys PuTTY
+               takes some as other secrets: see the manual page
+  ssh-pub      the public key and the comment as a line
+  putty-pub    the same as PuTTYgen saves it
+  fingerprint  the MD5, SHA-1 and SHA-256 fingerprints, a line each
+  cert         a certificate, with a signature that another device made
   tbs          what that device has to sign for it, in hex
-  sample N     a summary of N sample keys, 1 to 1000, which other programs can be compared by; nothing is read
+  sample N     a summary of N sample keys, 1 to 1000; nothing is read
+  --help       this text, and --version the version
 
-  --help       this text
-  --version    the version
+cert and tbs read the issuer's key, a line %%, and the key that is certified.
+Their options, in any order; the first four are needed:
 
-For cert and tbs standard input holds the issuer's key, a line that is exactly %%, and the key that is certified. Options, in
-any order, each followed by its value, of which the first four are needed:
+  --type NAME       of certificates, as ssh-ed25519-cert-v01@openssh.com
+  --kind KIND       client, a user's, or host, a host's
+  --after SECONDS   valid from then on, in seconds since 1970
+  --before SECONDS  valid until then
+  --serial NUMBER   the serial number, else 0
+  --id TEXT         the name by which the issuer logs it
+  --principal NAME  whom it is for, once for each; else for all
+  --critical NAME   or NAME=TEXT: a critical option of a user's, once for each
+  --extension NAME  or NAME=TEXT: an extension of a user's; else five permits
+  --algorithm NAME  how the issuer signs: rsa-sha1, rsa-sha2-256, rsa-sha2-512,
+                    ecdsa-sha2-256, ecdsa-sha2-384, ecdsa-sha2-512, ed25519
 
-  --type NAME        the type of certificates that the key is of, as ssh-ed25519-cert-v01@openssh.com
-  --kind KIND        client, a user's, or host, a host's
-  --after SECONDS    valid from then on, in seconds since 1970
-  --before SECONDS   valid until then
-  --serial NUMBER    the serial number; 0 where none is given
-  --id TEXT          the name by which the issuer logs it
-  --principal NAME   a user or host name that it is for, once for each; where none is given, it is for all
-  --critical NAME    or NAME=TEXT: a critical option, once for each; a host's certificate has none
-  --extension NAME   or NAME=TEXT: an extension, once for each; a user's certificate without any gets the five permits, and
-                     a host's has none
-  --algorithm NAME   how the issuer signs, where its key isn't of the kind that the type is for: rsa-sha1, rsa-sha2-256,
-                     rsa-sha2-512, ecdsa-sha2-256, ecdsa-sha2-384, ecdsa-sha2-512 or ed25519
+Environment: KEYCONV_PASS_IN, the passphrase of sealed keys; KEYCONV_PASS_OUT,
+that to seal under; KEYCONV_FRESH, fresh bytes in hex; KEYCONV_SIGNATURE, the
+signature for cert in hex. This program has no ciphers and signs nothing itself.
 
-Environment: KEYCONV_PASS_IN, the passphrase of sealed keys that are read; KEYCONV_PASS_OUT, under which a private key is sealed;
-KEYCONV_FRESH, the fresh bytes that sealing takes, or the 32 of a certificate's nonce, in hex; KEYCONV_SIGNATURE, the
-signature of the bytes that tbs printed in hex for the same options, input and fresh bytes, in hex and without the name of
-its format. One that is set counts where it is empty, too.
-
-This program has no ciphers and signs nothing itself: a key that it would open or seal, and a certificate for which there is no
-signature, end with status 5. Take a passphrase off a copy before with ssh-keygen -p or puttygen, and set it after with the
-same.
-
-Lines of ppk2, ssh-pub, putty-pub and cert end in CR LF, all others in LF.
-
-Status: 0 done, 1 refused, 2 usage, 3 read fault, 4 write fault, 5 outside fault, 6 out of memory, 7 input over 16 MiB,
-8 input not UTF-8. With each but 0 a line on standard error says which.
+Status: 0 done, 1 refused, 2 usage, 3 read fault, 4 write fault, 5 outside
+fault, 6 out of memory, 7 input over 16 MiB, 8 input not UTF-8. Each but 0 has a
+line on standard error.
 ";
 
 const VERSION: &str = "keyconv 0.1.0\n";

@@ -9,28 +9,32 @@ use std::process::ExitCode;
 
 const HELP: &str = "usage: keyinventory list|merge < TEXTS
 
-Says which keys a heap of key texts has, each once. Reads standard input, and writes to standard output, by the word:
+Says which keys a heap of key texts has, each once. Reads standard input, and
+writes to standard output:
 
-  list       the inventory of key texts, between which a line stands that is exactly %%
-  merge      the inventory of all that is in one of two inventories, between which such a line stands
-
+  list       the inventory of key texts, with a line %% between two
+  merge      the inventory of all that is in one of two inventories, with such
+             a line between them
   --help     this text
   --version  the version
 
-An inventory has a line for each key: private or public, a space, the public key in base64, as a public key line has it, a
-space, and the comment in base64. The lines are sorted by their bytes, and none stands twice. So neither the order of the
-texts nor how often one stands there changes it, and an inventory that is merged with itself stays as it is.
+An inventory has a line for each key: private or public, the public key in
+base64, and the comment in base64, parted by spaces. Lines are sorted by their
+bytes, and none stands twice. So neither the order of the texts nor how often
+one is there changes it.
 
-A key text is whatever keyconv reads: an OpenSSH private key, a PuTTY private key file of version 2 or 3, a PuTTY public key, a
-public key line or a certificate. Of each its first key counts, and what follows that is skipped. A text of white space alone
-has no key. A text that isn't read ends the run.
+A key text is whatever keyconv reads. Its first key counts; what follows that is
+skipped. A text of white space alone has no key. One that isn't read ends the
+run.
 
-Environment: KEYCONV_PASS_IN, the passphrase of sealed keys. This program has no ciphers: a sealed key ends with status 1
-without it, and with status 5 with it. List its public key, or a copy without passphrase.
+Environment: KEYCONV_PASS_IN, the passphrase of sealed keys. This program has no
+ciphers: a sealed key ends with status 1 without it, and with status 5 with it.
+List its public key, or a copy without passphrase.
 
-Status: 0 done, 1 a text isn't a key's or a line isn't an inventory's, 2 usage, 3 read fault, 4 write fault, 5 outside fault, 6
-out of memory, 7 input over 16 MiB, 8 input not UTF-8. With 0 all is written, with 4 a part or nothing, with the others nothing.
-Only 2 has a line on standard error.
+Status: 0 done, 1 a text isn't a key's or a line isn't an inventory's, 2 usage,
+3 read fault, 4 write fault, 5 outside fault, 6 out of memory, 7 input over
+16 MiB, 8 input not UTF-8. With 0 all is written, with 4 a part or nothing, with
+the others nothing. Only 2 has a line on standard error.
 ";
 
 const VERSION: &str = "keyinventory 0.1.0\n";

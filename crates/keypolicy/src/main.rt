@@ -9,41 +9,39 @@ use std::process::ExitCode;
 const HELP: &str = "usage: keypolicy decide USER MOMENT < SOURCE
        keypolicy message < SOURCE
 
-Says whether who offers a key or a certificate gets in by a text of authorized keys. Reads standard input, which holds the
-authorized keys, a line that is exactly %%, and the offer: the line of a public key or of a certificate. Without such a line all
-is the offer, and there are no authorized keys. Writes to standard output, by the command:
+Says whether who offers a key or a certificate gets in by authorized keys. Reads
+the authorized keys, a line %% and the offer, the line of a key or certificate.
 
-  decide USER MOMENT  the decision for a user at a moment, in seconds since 1970: deny and the rule that fails, or grant and
-                      the number of the line that grants, and then a line for each thing that whoever lets in has to keep to
-  message             what the issuer of a certificate signed, in hex; an empty line for a key
+  decide USER MOMENT  grants or denies, for a user at a moment, in seconds since
+                      1970
+  message             what the issuer of a certificate signed, in hex; an empty
+                      line for a key
+  --help, --version   this text, the version
 
-  --help              this text
-  --version           the version
-
-A key gets in by the first line that has it without the option cert-authority. A certificate gets in by the first line that has
-its issuer's key with this option. It is denied by the first of these rules that fails:
+A key gets in by the first line that has it without cert-authority, and a
+certificate by the first that has its issuer's key with it. It is denied by the
+first of these rules that fails:
 
   NoLine          a key has such a line
   NoAuthority     a certificate has such a line
   NotClient       the certificate is a user's
   NotYet          its time has begun
   Expired         its time hasn't ended
-  Principal       it is for the user; where the line has principals=\"..\", it is for one of these names, whoever the user is
-  CriticalOption  none of its critical options stands twice, and the data of each fits
+  Principal       it is for the user, or one of the line's principals=\"..\"
+  CriticalOption  no critical option stands twice, and their data fit
   BadSignature    its issuer signed it
 
-A grant has a line for each of these that there is: command and source, with the text of the certificate's force-command and
-source-address in base64; verify-required; and option, with the name of an option of the line and, where it has one, its value in
-base64. No option but cert-authority and principals is judged, so whoever lets in has to know them all, and no extension of the
-certificate is.
+A grant has the line's number, and then a line for each thing to keep to:
+command and source of the certificate, in base64; verify-required; and each
+other option of the line, its value in base64. Whoever lets in has to know all.
 
-Environment: KEYPOLICY_VERIFIED, the message, in hex, of which another program found the signature of the certificate to be good
-under its issuer's key: what message prints. This program verifies nothing itself. Without the variable a certificate that no
-other rule denies ends with status 6, and with another message it is denied.
+Environment: KEYPOLICY_VERIFIED, the message, in hex, whose signature another
+program found good under the issuer's key. Without it a certificate that no
+other rule denies ends with status 6; with another message it is denied.
 
-Status: 0 granted, or the message was written, 1 denied, 2 usage, 3 the offer isn't read, 4 read fault, 5 write fault, 6 outside
-fault, 7 out of memory, 8 input over 16 MiB, 9 input not UTF-8. With 0 and 1 all is written, with 5 a part or nothing, with the
-others nothing. Nothing is written to standard error.
+Status: 0 granted, or the message was written, 1 denied, 2 usage, 3 the offer
+isn't read, 4 read fault, 5 write fault, 6 outside fault, 7 out of memory,
+8 input over 16 MiB, 9 input not UTF-8. Nothing goes to standard error.
 ";
 
 const VERSION: &str = "keypolicy 0.1.0\n";
