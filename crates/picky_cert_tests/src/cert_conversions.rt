@@ -2,9 +2,9 @@
 
 use crate::answers::{ends_in, gives};
 use picky_cert_rows::{CertRow, ROW_COUNT, ZERO_LINE, cert_row};
-use picky_conversion::{ConversionGiven, convert_key};
+use picky_conversion::{Target, convert};
 use picky_ppk::{PpkEncryptionConfig, PpkVersion};
-use picky_suite::PlainSuite;
+use picky_suite::{HandedSigner, PlainSuite};
 use picky_target::{ConvertError, KeyTarget};
 use picky_wire::Text;
 use std::alloc::{AllocError, Global};
@@ -13,12 +13,16 @@ use std::test::Fail;
 
 /// The conversion without passphrases and fresh bytes.
 pub fn converted(alloc: Global, line: &str, target: KeyTarget) -> Result<Text, ConvertError> {
-    let given = ConversionGiven {
-        pass_in: None,
-        pass_out: None,
-        fresh: &[],
-    };
-    convert_key(alloc, &mut PlainSuite::new(), line, target, given)
+    convert(
+        alloc,
+        &mut PlainSuite::new(),
+        &mut HandedSigner::new(None),
+        line,
+        None,
+        &Target::from(target),
+        None,
+        &[],
+    )
 }
 
 /// The second line is the public key's for the first.

@@ -291,3 +291,12 @@ want_leaves meanings faults asked x old new leaves = record {
   calm = λ calm. leaves.calm (λ e is fault. cc is);
   unasked = leaves.unasked;
 }
+
+-- and the signer
+pub ok_signs : {S A B : Type 0} (signs : S → Relation) (faults : S → ℕ) (asked : Bool) (x : A) (y : B) (old new : S)
+    → LeavesSigner signs faults asked (Ok x) old new → LeavesSigner signs faults asked (Ok y) old new
+ok_signs signs faults asked x y old new leaves = record {
+  kept = leaves.kept;
+  calm = λ other. leaves.calm (λ is. cc is);
+  unasked = leaves.unasked;
+}

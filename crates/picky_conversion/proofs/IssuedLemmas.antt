@@ -23,7 +23,7 @@ use Rattle.picky_conversion.proofs.ReadBackLemmas.{line_is_read_back}
 use Rattle.picky_conversion.specs.Certify.{IsCertified, IsToBeSigned, certification, drafting, hex_line}
 use Rattle.picky_conversion.specs.Chain.{IsGiven}
 use Rattle.picky_conversion.specs.Issue.{CanIssue, CanIssueBytes, IsIssued, IsIssuedBytes, IsIssuer, issued, issued_bytes, issuer_read, request_by, unsigned}
-use Rattle.picky_conversion.specs.Made.{IsTextOf, Made, ToSign, Whole, Writes}
+use Rattle.picky_conversion.specs.Made.{IsLeft, IsTextOf, IsUnwritten, Made, ToSign, Whole, Writes}
 use Rattle.picky_conversion.specs.Outside.{Outside, reader, reader_back}
 use Rattle.picky_conversion.proofs.ConvertLemmas.{means_one, says_in}
 
@@ -41,6 +41,13 @@ whole_of signs (Ok t) text (made, is, of) =
     let same : made ≡ Whole t = cc is in
     ap Ok (sym (subst (λ m. IsTextOf signs m text) same of))
 whole_of signs (Err e) text (made, is, of) = cc is
+
+-- and then nothing is left unwritten
+pub none_left : (signs : Relation) (says : Result (List ℕ) ConvertError) (rose : Type 0) (e : ConvertError)
+    → IsLeft signs (map_ok Whole says) rose e → ⊥
+none_left signs (Ok t) rose e (made, is, left) =
+    let same : made ≡ Whole t = cc is in subst (λ m. IsUnwritten signs m rose e) same left
+none_left signs (Err f) rose e (made, is, left) = cc is
 
 -- where one does
 pub signed_of_it : (signs : Relation) (says : Result Unsigned ConvertError) (text : List ℕ) → Writes signs (map_ok ToSign says) text
@@ -135,9 +142,9 @@ drafting_from o request input m u reads is =
 pub issued_from : (o : Outside) (options : CertOptions) (input : List ℕ) → CanIssue o options input
     → (u : Unsigned) × (issued o options input ≡ Ok u)
 unfolding issued
-issued_from o options input (issuer, is, m, reads, u, drafted) = (
-  u,
-  rw (issuer_of o (issuer_part input) issuer is) (certification_from o (request_by options issuer) (key_part input) m u reads drafted),
+issued_from o options input (issuer, is, m, reads, can) = (
+  can.0,
+  rw (issuer_of o (issuer_part input) issuer is) (certification_from o (request_by options issuer) (key_part input) m can.0 reads can.1),
 )
 
 pub unsigned_from : (o : Outside) (options : CertOptions) (input : List ℕ) → CanIssueBytes o options input

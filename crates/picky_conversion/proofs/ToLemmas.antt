@@ -21,7 +21,7 @@ use Rattle.picky_conversion.proofs.IssuedLemmas.{certification_from, certified_i
 use Rattle.picky_conversion.proofs.ConvertLemmas.{conversion_is, conversion_valid}
 use Rattle.picky_conversion.proofs.KeptLemmas.{text_binds}
 
-converted_is : (signs : Relation) (o : Outside) (way : Way) (input text : List ℕ) → IsGiven o → IsWay way → IsUtf8 input
+pub converted_is : (signs : Relation) (o : Outside) (way : Way) (input text : List ℕ) → IsGiven o → IsWay way → IsUtf8 input
     → Writes signs (converted o way input) text → IsConverted signs o way input text
 converted_is signs o (Written target) input text given fits utf8 done =
     conversion_is o target input text given fits utf8 (whole_of signs (conversion o target input) text done)
@@ -29,7 +29,7 @@ converted_is signs o (Certified request) input text given fits utf8 done =
     let line = signed_of_it signs (certification o request input) text done in
     certified_is signs o request input text line.0 given utf8 line.1 line.2
 
-can_convert : (o : Outside) (way : Way) (input : List ℕ) (meaning : Meaning) → Reads (reader o) input meaning
+pub can_convert : (o : Outside) (way : Way) (input : List ℕ) (meaning : Meaning) → Reads (reader o) input meaning
     → CanConvert o way meaning → (made : Made) × (converted o way input ≡ Ok made)
 can_convert o (Written target) input meaning reads can =
     let text = conversion_valid o target input meaning reads can in

@@ -13,9 +13,10 @@ use Rattle.picky_target.specs.declared.error.ConvertError.{ConvertError}
 use Rattle.picky_target.specs.declared.error.ConvertError.TheVariants as errors
 use Rattle.picky_conversion.specs.declared.request.CertRequest.{CertRequest}
 use Rattle.picky_conversion.specs.Certified.{Relation}
-use Rattle.picky_conversion.specs.Drafted.{IsDrafted, IsLineDrafted}
-use Rattle.picky_conversion.specs.Certify.{IsCertified, IsToBeSigned, certification, drafting, hex_line}
+use Rattle.picky_conversion.specs.Drafted.{IsDrafted}
+use Rattle.picky_conversion.specs.Certify.{IsToBeSigned, certification, drafting, hex_line}
 use Rattle.picky_conversion.specs.Outside.{Outside, reader}
+use Rattle.picky_conversion.specs.To.{CanConvert, Certified, IsConverted}
 
 -- what the options ask, of an issuer
 abbrev pub request_by : CertOptions → Option Key → CertRequest
@@ -88,7 +89,8 @@ IsIssuingFault o input e rose =
 
 abbrev pub IsIssued : Relation → Outside → CertOptions → (input text : List ℕ) → Type 0
 IsIssued signs o options input text =
-    (issuer : Option Key) × IsIssuer o (issuer_part input) issuer × IsCertified signs o (request_by options issuer) (key_part input) text
+    (issuer : Option Key) × IsIssuer o (issuer_part input) issuer
+    × IsConverted signs o (Certified (request_by options issuer)) (key_part input) text
 
 abbrev pub IsIssuedBytes : Outside → CertOptions → (input text : List ℕ) → Type 0
 IsIssuedBytes o options input text =
@@ -99,7 +101,7 @@ IsIssuedBytes o options input text =
 abbrev pub CanIssue : Outside → CertOptions → List ℕ → Type 0
 CanIssue o options input =
     (issuer : Option Key) × IsIssuer o (issuer_part input) issuer × (meaning : Meaning) × Reads (reader o) (key_part input) meaning
-    × (u : Unsigned) × IsLineDrafted (request_by options issuer) meaning o.output.fresh u
+    × CanConvert o (Certified (request_by options issuer)) meaning
 
 abbrev pub CanIssueBytes : Outside → CertOptions → List ℕ → Type 0
 CanIssueBytes o options input =

@@ -124,8 +124,8 @@ fn convert_to<S: Suite, G: Signer>(
     }
 }
 
-/// The conversion to a target that no device signs. Refuses as `convert`.
-pub fn convert_key<S: Suite>(
+/// The conversion to a target that no device signs.
+fn convert_key<S: Suite>(
     alloc: Global,
     suite: &mut S,
     input: &str,
@@ -149,9 +149,7 @@ pub fn convert_key<S: Suite>(
 }
 
 /// The line of the certificate that the request asks of what a text means.
-///
-/// Refuses, in order: `Input` as `read_text`; and as `crate::write_certificate`.
-pub fn certify<S: Suite, G: Signer>(
+fn certify<S: Suite, G: Signer>(
     alloc: Global,
     suite: &mut S,
     signer: &mut G,

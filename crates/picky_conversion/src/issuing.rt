@@ -14,9 +14,10 @@ ghost use Rattle.picky_conversion.specs.Issue.{IsIssuingFault, asks_issuer, issu
 ghost use Rattle.picky_conversion.specs.Made.{Answers, AnswersPlain, LeavesSigner, ToSign, is_signed};
 ghost use Rattle.picky_conversion.specs.Outside.{outside};
 
-use crate::conversion::{bytes_to_sign, certify, issuer_refusal};
+use crate::conversion::{bytes_to_sign, convert, issuer_refusal};
 use crate::given::ConversionGiven;
 use crate::request::CertRequest;
+use crate::target::Target;
 use picky_issuing::{CertOptions, parts_of};
 use picky_key_text::{Key, Meaning, read_text};
 use picky_suite::{Signer, Suite};
@@ -26,7 +27,7 @@ use std::alloc::{AllocError, Global};
 
 /// The line of the certificate that the options ask of the key text, of the issuer whose text stands before it.
 ///
-/// Refuses, in order: `Issuer` and then `Input`, each as `read_text`; and as `crate::write_certificate`.
+/// Refuses, in order: `Issuer` as `read_text`; and as `crate::convert` to a certificate.
 pub fn issue<S: Suite, G: Signer>(
     alloc: Global,
     suite: &mut S,
@@ -46,9 +47,16 @@ pub fn issue<S: Suite, G: Signer>(
     match issuer_of(alloc, suite, parts.issuer, given) {
         Ok(issuer) => {
             let request = request_by(options, issuer);
-            let line = certify(alloc, suite, signer, parts.key, &request, given);
-            drop(request);
-            line
+            convert(
+                alloc,
+                suite,
+                signer,
+                parts.key,
+                given.pass_in,
+                &Target::Certificate(request),
+                given.pass_out,
+                given.fresh,
+            )
         }
         Err(e) => {
             drop(options);

@@ -2,6 +2,7 @@
 
 use crate::request::CertRequest;
 use picky_ppk::{PpkEncryptionConfig, PpkVersion};
+use picky_target::KeyTarget;
 use picky_wire::{NoMemory, TryClone};
 use std::alloc::Global;
 
@@ -18,6 +19,22 @@ pub enum Target {
     PuttyPublic,
     /// A certificate's line.
     Certificate(CertRequest),
+}
+
+impl From<KeyTarget> for Target {
+    ghost use Rattle.std.specs.Prelude.{◌≡◌};
+    ghost use Rattle.picky_conversion.specs.To.{Written, way_to};
+
+    ghost from_gives = { λ key target. way_to target ≡ Written key };
+
+    fn from(key: KeyTarget) -> Target {
+        match key {
+            KeyTarget::OpenSsh => Target::OpenSsh,
+            KeyTarget::Ppk(version, config) => Target::Ppk(version, config),
+            KeyTarget::OpenSshPublic => Target::OpenSshPublic,
+            KeyTarget::PuttyPublic => Target::PuttyPublic,
+        }
+    }
 }
 
 impl TryClone for Target {

@@ -16,12 +16,13 @@ use Rattle.picky_key_text.proofs.ReadingLaws.{reading_of as read}
 use Rattle.picky_target.specs.declared.error.ConvertError.TheVariants as errors
 use Rattle.picky_conversion.specs.Certify.{hex_line}
 use Rattle.picky_conversion.specs.Chain.{IsGiven}
-use Rattle.picky_conversion.specs.Convert.{conversion}
 use Rattle.picky_conversion.specs.Issue.{issued, issued_bytes}
 use Rattle.picky_conversion.specs.Made.{IsTextOf, Made, ToSign, Whole, Writes}
 use Rattle.picky_conversion.specs.Outside.{Outside, reader}
-use Rattle.picky_conversion.proofs.ConvertLemmas.{conversion_is, conversion_valid, means_one, says_in}
+use Rattle.picky_conversion.specs.To.{Written}
+use Rattle.picky_conversion.proofs.ConvertLemmas.{means_one, says_in}
 use Rattle.picky_conversion.proofs.IssuedLemmas.{issued_bytes_is, issued_from, issued_is, signed_of_it, unsigned_from, whole_of}
+use Rattle.picky_conversion.proofs.ToLemmas.{can_convert, converted_is}
 use Rattle.picky_convert.specs.declared.command.Command.{Command}
 use Rattle.picky_convert.specs.declared.command.Command.TheVariants as commands
 use Rattle.picky_convert.specs.Command.{CanAnswer, IsAnswer, IsCommand, Names, alone, answer, command_of_word, fingerprints, sample_size, with_options, with_size}
@@ -39,7 +40,7 @@ one_word (y ∷ z ∷ xs) x len is = absurd (omega (arith, len))
 pub answer_is : (signs : Relation) (o : Outside) (command : Command) (input text : List ℕ) → IsGiven o → IsCommand command
     → IsUtf8 input → Writes signs (answer o command input) text → IsAnswer signs o command input text
 answer_is signs o (commands.Convert target) input text given fits utf8 done =
-    conversion_is o target input text given fits utf8 (whole_of signs (conversion o target input) text done)
+    converted_is signs o (Written target) input text given fits utf8 done
 answer_is signs o (commands.Certify options) input text given fits utf8 done =
     let line = signed_of_it signs (issued o options input) text done in
     issued_is signs o options input text line.0 given utf8 line.1 line.2
@@ -61,9 +62,7 @@ answer_is signs o (commands.Sample keys) input text given fits utf8 (made, is, o
 
 pub answer_of : (o : Outside) (command : Command) (input : List ℕ) → CanAnswer o command input
     → (made : Made) × (answer o command input ≡ Ok made)
-answer_of o (commands.Convert target) input (meaning, reads, can) =
-    let text = conversion_valid o target input meaning reads can in
-    (Whole text.0, ap (map_ok Whole) text.1)
+answer_of o (commands.Convert target) input (meaning, reads, can) = can_convert o (Written target) input meaning reads can
 answer_of o (commands.Certify options) input can =
     let found = issued_from o options input can in
     (ToSign found.0, ap (map_ok ToSign) found.1)

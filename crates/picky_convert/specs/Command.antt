@@ -17,18 +17,16 @@ use Rattle.picky_key_text.specs.Reads.{Reads}
 use Rattle.picky_target.specs.declared.error.ConvertError.{ConvertError}
 use Rattle.picky_target.specs.declared.error.ConvertError.TheVariants as errors
 use Rattle.picky_target.specs.declared.target.KeyTarget.TheVariants as targets
-use Rattle.picky_target.specs.Carried.{Carries}
-use Rattle.picky_target.specs.ReadBack.{IsTarget}
 use Rattle.picky_conversion.specs.Certified.{Relation}
 use Rattle.picky_convert.specs.declared.command.Command.{Command}
 use Rattle.picky_convert.specs.declared.command.Command.TheVariants as commands
 use Rattle.picky_conversion.specs.Outside.{Outside, reader}
 use Rattle.picky_conversion.specs.Certify.{IsReadFault}
-use Rattle.picky_conversion.specs.Convert.{conversion, converting_asks, IsConversion, IsFaultOf}
 use Rattle.picky_convert.specs.Fingerprint.{fingerprint_text}
 use Rattle.picky_conversion.specs.Issue.{CanIssue, CanIssueBytes, IsIssued, IsIssuedBytes, IsIssuingFault, issued}
 use Rattle.picky_conversion.specs.Issue.{issued_bytes, issuing_asks}
 use Rattle.picky_conversion.specs.Made.{Made, ToSign, Whole}
+use Rattle.picky_conversion.specs.To.{CanConvert, IsConverted, IsFaultTo, IsWay, Written, asks_to, converted}
 use Rattle.picky_convert.specs.Sample.{sample_text}
 
 unfoldable pub openssh : List ℕ
@@ -99,7 +97,7 @@ command_of (word ∷ more) =
 
 -- its numbers are a value's
 abbrev pub IsCommand : Command → Type 0
-IsCommand (commands.Convert target) = IsTarget target
+IsCommand (commands.Convert target) = IsWay (Written target)
 IsCommand (commands.Certify options) = Unit {0}
 IsCommand (commands.PrintSigned options) = Unit {0}
 IsCommand commands.Fingerprint = Unit {0}
@@ -124,7 +122,7 @@ fingerprints o text =
 
 -- what the command comes to for a source's text before a device signs, or the first reason why it comes to nothing
 abbrev pub answer : Outside → Command → List ℕ → Result Made ConvertError
-answer o (commands.Convert target) text = map_ok Whole (conversion o target text)
+answer o (commands.Convert target) text = converted o (Written target) text
 answer o (commands.Certify options) text = map_ok ToSign (issued o options text)
 answer o (commands.PrintSigned options) text = map_ok Whole (issued_bytes o options text)
 answer o commands.Fingerprint text = map_ok Whole (fingerprints o text)
@@ -132,7 +130,7 @@ answer o (commands.Sample keys) text = Ok (Whole (sample_text o.meanings keys))
 
 -- the suite is asked for it
 abbrev pub answering_asks : Outside → Command → List ℕ → Bool
-answering_asks o (commands.Convert target) text = converting_asks o target text
+answering_asks o (commands.Convert target) text = asks_to o (Written target) text
 answering_asks o (commands.Certify options) text = issuing_asks o text
 answering_asks o (commands.PrintSigned options) text = issuing_asks o text
 answering_asks o commands.Fingerprint text = asks o.pass_in text
@@ -140,7 +138,7 @@ answering_asks o (commands.Sample keys) text = false
 
 -- the refusal is the suite's fault
 abbrev pub IsFaultFor : Outside → Command → List ℕ → ConvertError → Type 0 → Type 0
-IsFaultFor o (commands.Convert target) text e rose = IsFaultOf o target text e rose
+IsFaultFor o (commands.Convert target) text e rose = IsFaultTo o (Written target) text e rose
 IsFaultFor o (commands.Certify options) text e rose = IsIssuingFault o text e rose
 IsFaultFor o (commands.PrintSigned options) text e rose = IsIssuingFault o text e rose
 IsFaultFor o commands.Fingerprint text e rose = IsReadFault o text e rose
@@ -155,7 +153,7 @@ pub record IsFingerprint (o : Outside) (input text : List ℕ) : Type 0 where
 
 -- the text is what the command writes for a source's text
 abbrev pub IsAnswer : Relation → Outside → Command → List ℕ → List ℕ → Type 0
-IsAnswer signs o (commands.Convert target) input text = IsConversion o target input text
+IsAnswer signs o (commands.Convert target) input text = IsConverted signs o (Written target) input text
 IsAnswer signs o (commands.Certify options) input text = IsIssued signs o options input text
 IsAnswer signs o (commands.PrintSigned options) input text = IsIssuedBytes o options input text
 IsAnswer signs o commands.Fingerprint input text = IsFingerprint o input text
@@ -164,7 +162,7 @@ IsAnswer signs o (commands.Sample keys) input text = text ≡ sample_text o.mean
 -- the source's text is one for which the command comes to something: the target carries its meaning, each key has fingerprints,
 -- a request comes to a certificate, and a sample rests on no source
 abbrev pub CanAnswer : Outside → Command → List ℕ → Type 0
-CanAnswer o (commands.Convert target) input = (meaning : Meaning) × Reads (reader o) input meaning × Carries o.output target meaning
+CanAnswer o (commands.Convert target) input = (meaning : Meaning) × Reads (reader o) input meaning × CanConvert o (Written target) meaning
 CanAnswer o (commands.Certify options) input = CanIssue o options input
 CanAnswer o (commands.PrintSigned options) input = CanIssueBytes o options input
 CanAnswer o commands.Fingerprint input = (meaning : Meaning) × Reads (reader o) input meaning

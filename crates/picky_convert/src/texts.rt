@@ -12,10 +12,10 @@ ghost use Rattle.picky_convert.specs.SampleTexts.{is_on_device as is_on_device_o
 ghost use Rattle.picky_convert.specs.inner.Fed.{Feeds, five_targets};
 
 use crate::keys::{kind_of, meaning_of};
-use picky_conversion::{ConversionGiven, convert_key};
+use picky_conversion::{Target, convert};
 use picky_keys::KeyKind;
 use picky_ppk::{PpkEncryptionConfig, PpkVersion};
-use picky_suite::Suite;
+use picky_suite::{HandedSigner, Signer, Suite};
 use picky_target::{ConvertError, KeyTarget, write_text};
 use picky_wire::{NoMemory, Text};
 use sha2::{Digest, Sha256};
@@ -159,12 +159,31 @@ fn converted<S: Suite>(
     ensures text { IfOk result (λ text. conversion (without_passphrase (S.meanings suite.old)) target from.now ≡ Ok text) }
     ensures suite { suite.new ≡ suite.old }
 {
-    let given = ConversionGiven {
-        pass_in: None,
-        pass_out: None,
-        fresh: &[],
-    };
-    match convert_key(alloc, suite, from, target, given) {
+    converted_by(alloc, suite, &mut HandedSigner::new(None), target, from)
+}
+
+/// The same, with a signer that isn't asked.
+fn converted_by<S: Suite, G: Signer>(
+    alloc: Global,
+    suite: &mut S,
+    signer: &mut G,
+    target: KeyTarget,
+    from: &str,
+) -> Result<Text, NoMemory>
+    requires { IsOk (conversion (without_passphrase (S.meanings suite.old)) target from.now) }
+    ensures text { IfOk result (λ text. conversion (without_passphrase (S.meanings suite.old)) target from.now ≡ Ok text) }
+    ensures suite { suite.new ≡ suite.old }
+{
+    match convert(
+        alloc,
+        suite,
+        signer,
+        from,
+        None,
+        &Target::from(target),
+        None,
+        &[],
+    ) {
         Ok(text) => Ok(text),
         Err(e) => Err(want_of(e)),
     }

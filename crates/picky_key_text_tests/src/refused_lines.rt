@@ -1,9 +1,9 @@
 //! Why a public key line is refused.
 
-use picky_conversion::{ConversionGiven, convert_key};
+use picky_conversion::{Target, convert};
 use picky_key_text::{ReadError, read_text};
 use picky_keys::{SshPublicKey, SshPublicKeyError};
-use picky_suite::PlainSuite;
+use picky_suite::{HandedSigner, PlainSuite};
 use picky_target::{ConvertError, KeyTarget};
 use picky_wire::{IoKind, MemorySource, SshComplexTypeDecode};
 use std::alloc::Global;
@@ -152,17 +152,15 @@ fn is_of_input(why: &ConvertError, wanted: &SshPublicKeyError) -> bool {
 }
 
 fn is_unwritten(alloc: Global, line: &str, target: KeyTarget, wanted: &SshPublicKeyError) -> bool {
-    let given = ConversionGiven {
-        pass_in: None,
-        pass_out: None,
-        fresh: &[],
-    };
-    let written = ManuallyDrop::new(convert_key(
+    let written = ManuallyDrop::new(convert(
         alloc,
         &mut PlainSuite::new(),
+        &mut HandedSigner::new(None),
         line,
-        target,
-        given,
+        None,
+        &Target::from(target),
+        None,
+        &[],
     ));
     match &*written {
         Err(why) => is_of_input(why, wanted),

@@ -1,30 +1,43 @@
 -- A command's answer, by the command.
-use Rattle.std.proofs.Common.{Global, ap, refl}
+use Rattle.std.proofs.Common.{Global, refl}
 use Rattle.std.specs.Prelude.{string_bytes}
-use Rattle.picky_wire_base.specs.Outcome.{map_ok}
 use Rattle.picky_wire.specs.Count.{Rose}
 use Rattle.picky_conversion.specs.Certify.{IsReadFault}
 use Rattle.picky_convert.specs.Command.{fingerprints}
 use Rattle.picky_conversion.specs.Issue.{IsIssuingFault, issued_bytes}
 use Rattle.picky_conversion.specs.Made.{Whole}
 use Rattle.picky_conversion.specs.Outside.{outside}
-use Rattle.picky_conversion.proofs.CertifyLemmas.{plain_made}
-use Rattle.picky_conversion.proofs.CertifyLemmas.{still_leaves, still_signs}
+use Rattle.picky_conversion.proofs.CertifyLemmas.{plain_made, still_leaves, still_signs}
+use Rattle.picky_conversion.proofs.IssueLemmas.{ok_leaves, ok_signs}
 use Rattle.picky_convert.specs.Sample.{sample_text}
 use Rattle.picky_convert.proofs.command.answer_to.Goals as goal
 
 pub returns-in-Ok-clause-gives : goal.returns-in-Ok-clause-gives
 returns-in-Ok-clause-gives g c =
-    rw c.in-Convert.is (Whole c.in-Ok.text, ap (map_ok Whole) c.in-Ok.ensures.gives, c.into_string.ensures.bytes)
+    let text = c.into_string.ensures.bytes in
+    rw (c.in-Convert.is, text) (rw c.from.ensures at c.in-Ok.ensures.gives)
 
-pub returns-in-Err-clause-suite : goal.returns-in-Err-clause-suite
-returns-in-Err-clause-suite g c = rw c.in-Convert.is (still_leaves _ _ _ c.in-Err.e _ _ c.in-Err.ensures.suite)
+pub returns-in-Ok-clause-suite : goal.returns-in-Ok-clause-suite
+returns-in-Ok-clause-suite g c =
+    rw c.in-Convert.is (ok_leaves _ _ _ c.in-Ok.text _ _ _ (rw c.from.ensures at c.in-Ok.ensures.suite))
 
-pub returns-in-Err-issue-clause-suite : goal.returns-in-Err-issue-clause-suite
-returns-in-Err-issue-clause-suite g c = rw c.in-Certify.is (still_leaves _ _ _ c.in-Err-issue.e _ _ c.in-Err-issue.ensures.suite)
+pub returns-in-Ok-clause-signer : goal.returns-in-Ok-clause-signer
+returns-in-Ok-clause-signer g c =
+    rw c.in-Convert.is (ok_signs _ _ _ c.in-Ok.text _ _ _ (rw c.from.ensures at c.in-Ok.ensures.signer))
 
-pub returns-in-Err-issue-clause-signer : goal.returns-in-Err-issue-clause-signer
-returns-in-Err-issue-clause-signer g c = rw c.in-Certify.is (still_signs _ _ _ c.in-Err-issue.e _ _ c.in-Err-issue.ensures.signer)
+pub returns-in-Convert-clause-suite : goal.returns-in-Convert-clause-suite
+returns-in-Convert-clause-suite g c =
+    rw c.in-Convert.is (still_leaves _ _ _ c.in-Err.e _ _ (rw c.from.ensures at c.in-Err.ensures.suite))
+
+pub returns-in-Convert-clause-signer : goal.returns-in-Convert-clause-signer
+returns-in-Convert-clause-signer g c =
+    rw c.in-Convert.is (still_signs _ _ _ c.in-Err.e _ _ (rw c.from.ensures at c.in-Err.ensures.signer))
+
+pub returns-in-Certify-clause-suite : goal.returns-in-Certify-clause-suite
+returns-in-Certify-clause-suite g c = rw c.in-Certify.is (still_leaves _ _ _ c.in-Err-issue.e _ _ c.in-Err-issue.ensures.suite)
+
+pub returns-in-Certify-clause-signer : goal.returns-in-Certify-clause-signer
+returns-in-Certify-clause-signer g c = rw c.in-Certify.is (still_signs _ _ _ c.in-Err-issue.e _ _ c.in-Err-issue.ensures.signer)
 
 pub returns-in-PrintSigned-clause-gives : goal.returns-in-PrintSigned-clause-gives
 returns-in-PrintSigned-clause-gives g c =
