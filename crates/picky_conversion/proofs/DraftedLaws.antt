@@ -1,10 +1,13 @@
 -- The order of a request's refusals ends in a certificate exactly where the request comes to it.
 use Rattle.std.specs.Prelude.{◌↔◌, ◌≤◌, ◌<◌, ◌^◌, ◌≡◌, Bool, true, false, List, ℕ, Result, Ok, Err, length, nat_le, take, if◌then◌else◌}
-use Rattle.std.proofs.Common.{refl, sym, ap, ◌∙◌, subst}
+use Rattle.std.proofs.Common.{refl, sym, ap, ◌∙◌, subst, ◌⊎◌, inl, inr}
 use Rattle.std.proofs.lemmas.Bool.{leb-true, le-leb, lt-ltb, ltb-true}
 use Rattle.picky_wire_base.specs.Outcome.{and_then, map_err}
 use Rattle.picky_wire_base.specs.carried.Outcome.{and_then_ok, map_err_ok}
 use Rattle.picky_keys.specs.LineRefusal.{is_short}
+use Rattle.picky_cert_builder.specs.declared.builder.SshCertificateBuilder.{SshCertificateBuilder}
+use Rattle.picky_cert_builder.specs.declared.error.SshCertificateGenerationError.{SshCertificateGenerationError}
+use Rattle.picky_cert_builder.specs.declared.error.SshCertificateGenerationError.TheVariants as requests
 use Rattle.picky_cert_builder.specs.declared.terms.FitTerms.{FitTerms}
 use Rattle.picky_cert_builder.specs.Draft.{Unsigned, requested}
 use Rattle.picky_cert_builder.specs.Request.{terms_of}
@@ -26,6 +29,25 @@ passes : {A E : Type 0} (b : Bool) (x : Result A E) (e : E) (y : A)
     → (if b then x else Err e) ≡ Ok y → (b ≡ true) × (x ≡ Ok y)
 passes true x e y same = (refl, same)
 passes false x e y same = cc same
+
+-- a refusal of the first is that of both
+refused_once : {A B E F : Type 0} (refuse : E → F) (first : Result A E) (next : A → Result B E)
+    → and_then (map_err refuse first) (λ _. map_err refuse (and_then first next)) ≡ map_err refuse (and_then first next)
+refused_once refuse (Ok x) next = refl
+refused_once refuse (Err e) next = refl
+
+-- where there are fresh bytes enough, the order is that of the request itself, which judges its terms first
+pub drafted_with : (b : SshCertificateBuilder) (fresh nonce : List ℕ) → nonce_in fresh ≡ Ok nonce
+    → drafted_of b fresh ≡ map_err request_refusal (requested b nonce)
+unfolding drafted_of requested
+drafted_with b fresh nonce is = rw is (refused_once request_refusal (judged_terms (terms_of b)) _)
+
+pub refused_with : (b : SshCertificateBuilder) (fresh nonce : List ℕ) (e : SshCertificateGenerationError)
+    → nonce_in fresh ≡ Ok nonce → (e ≡ requests.NoMemory) ⊎ (requested b nonce ≡ Err e)
+    → (request_refusal e ≡ errors.NoMemory) ⊎ (drafted_of b fresh ≡ Err (request_refusal e))
+refused_with b fresh nonce e is (inl want) = inl (ap request_refusal want)
+refused_with b fresh nonce e is (inr refused) =
+    inr (drafted_with b fresh nonce is ∙ ap (map_err request_refusal) refused)
 
 drafted_is : (request : CertRequest) (m : Meaning) (fresh : List ℕ) (u : Unsigned) → drafted request m fresh ≡ Ok u
     → IsDrafted request m fresh u

@@ -300,3 +300,10 @@ ok_signs signs faults asked x y old new leaves = record {
   calm = λ other. leaves.calm (λ is. cc is);
   unasked = leaves.unasked;
 }
+
+-- memory runs out behind a text that was read
+pub wanting_leaves : {S A : Type 0} (meanings : S → Meanings) (faults : S → ℕ) (input : List ℕ) (asked : Bool) (m : Meaning)
+    (old new : S) → LeavesSuite {A = Meaning} {E = ReadError} meanings faults (input_fault input) asked (Ok m) old new
+    → LeavesAskedSuite {A = A} meanings faults asked (Err errors.NoMemory) old new
+wanting_leaves meanings faults input asked m old new leaves =
+    want_leaves meanings faults asked m old new (read_leaves meanings faults input asked m m old new leaves)

@@ -30,13 +30,13 @@ use std::alloc::Global;
 pub fn write_certificate<G: Signer>(
     alloc: Global,
     signer: &mut G,
-    request: &CertRequest,
+    request: CertRequest,
     meaning: Meaning,
     fresh: &[u8],
 ) -> Result<Text, ConvertError>
-    ensures answers { Certifies (G.signs signer.old) (line_drafted request.now meaning fresh.now)
+    ensures answers { Certifies (G.signs signer.old) (line_drafted request meaning fresh.now)
         (Rose (G.faults signer.old) (G.faults signer.new)) result }
-    ensures signer { LeavesSigner G.signs G.faults (line_drafted request.now meaning fresh.now) result signer.old signer.new }
+    ensures signer { LeavesSigner G.signs G.faults (line_drafted request meaning fresh.now) result signer.old signer.new }
 {
     match draft_line(alloc, request, meaning, fresh) {
         Ok(draft) => sign_line(alloc, signer, draft),

@@ -29,7 +29,7 @@ use picky_key_text::{ReadError, read_text};
 use picky_ppk::PpkEncryptionConfig;
 use picky_suite::{Signer, Suite};
 use picky_target::{ConvertError, KeyTarget, write_text};
-use picky_wire::{Bytes, Text};
+use picky_wire::{Bytes, NoMemory, Text, TryClone};
 use std::alloc::Global;
 
 /// The text of the target for the key and the comment that a text means: the key text is read under one passphrase, and what
@@ -167,7 +167,13 @@ fn certify<S: Suite, G: Signer>(
         result signer.old signer.new }
 {
     match read_text(alloc, suite, input, given.pass_in) {
-        Ok(meaning) => write_certificate(alloc, signer, request, meaning, given.fresh),
+        Ok(meaning) => match request.try_clone(alloc) {
+            Ok(request) => write_certificate(alloc, signer, request, meaning, given.fresh),
+            Err(NoMemory) => {
+                drop(meaning);
+                Err(ConvertError::NoMemory)
+            }
+        },
         Err(e) => Err(input_refusal(e)),
     }
 }
@@ -179,17 +185,20 @@ pub fn bytes_to_sign<S: Suite>(
     alloc: Global,
     suite: &mut S,
     input: &str,
-    request: &CertRequest,
+    request: CertRequest,
     given: ConversionGiven<'_>,
 ) -> Result<Bytes, ConvertError>
     ensures gives { AnswersPlain (λ bytes. bytes)
-        (map_ok (λ u. signed_of u.certificate) (drafting (outside (S.meanings suite.old) given.entry) request.now input.now))
+        (map_ok (λ u. signed_of u.certificate) (drafting (outside (S.meanings suite.old) given.entry) request input.now))
         (λ e. IsReadFault (outside (S.meanings suite.old) given.entry) input.now e (Rose (S.faults suite.old) (S.faults suite.new))) result }
     ensures suite { LeavesAskedSuite S.meanings S.faults (asks (option_copied given.entry.pass_in) input.now) result suite.old suite.new }
 {
     match read_text(alloc, suite, input, given.pass_in) {
         Ok(meaning) => write_signed_bytes(alloc, request, meaning, given.fresh),
-        Err(e) => Err(input_refusal(e)),
+        Err(e) => {
+            drop(request);
+            Err(input_refusal(e))
+        }
     }
 }
 

@@ -28,27 +28,28 @@ const NONCE_LEN: usize = 32;
 ///
 /// Refuses, in order: `CommentNotCarried`, where a line doesn't carry the comment; `Request`, as
 /// `picky_cert_builder::RequestTerms::judge`; `FreshTooShort`; `TooLong`, where there are 2^32 bytes or more.
-#[tactic(auto, unfolding(crate::specs::Drafted::drafted))]
 pub fn write_signed_bytes(
     alloc: Global,
-    request: &CertRequest,
+    request: CertRequest,
     meaning: Meaning,
     fresh: &[u8],
 ) -> Result<Bytes, ConvertError>
     ensures { Gives ConvertError.NoMemory (λ bytes. bytes) result
-        (map_ok (λ u. signed_of u.certificate) (drafted request.now meaning fresh.now)) }
+        (map_ok (λ u. signed_of u.certificate) (drafted request meaning fresh.now)) }
 {
-    if !carries_comment(KeyTarget::OpenSshPublic, meaning.comment.as_str()) {
-        drop(meaning);
-        return Err(ConvertError::CommentNotCarried);
-    }
-    match builder_of(alloc, request, meaning) {
-        Ok(builder) => {
-            let bytes = bytes_of(alloc, &builder, fresh);
-            drop(builder);
-            bytes
+    match draft(alloc, request, meaning, fresh) {
+        Ok(draft) => {
+            let CertificateDraft {
+                certificate,
+                issuer,
+                message,
+                ..
+            } = draft;
+            drop(certificate);
+            drop(issuer);
+            Ok(message)
         }
-        Err(NoMemory) => Err(ConvertError::NoMemory),
+        Err(e) => Err(e),
     }
 }
 
@@ -58,11 +59,11 @@ pub fn write_signed_bytes(
 #[tactic(auto, unfolding(crate::specs::Drafted::line_drafted))]
 pub fn draft_line(
     alloc: Global,
-    request: &CertRequest,
+    request: CertRequest,
     meaning: Meaning,
     fresh: &[u8],
 ) -> Result<CertificateDraft, ConvertError>
-    ensures gives { Gives ConvertError.NoMemory draft_shown result (line_drafted request.now meaning fresh.now) }
+    ensures gives { Gives ConvertError.NoMemory draft_shown result (line_drafted request meaning fresh.now) }
     ensures whole { IfOk result IsWhole }
     ensures back { IfOk result (λ d. IsReadBack d.certificate) }
 {
@@ -82,16 +83,17 @@ pub fn draft_line(
 #[tactic(auto, unfolding(crate::specs::Drafted::drafted))]
 fn draft(
     alloc: Global,
-    request: &CertRequest,
+    request: CertRequest,
     meaning: Meaning,
     fresh: &[u8],
 ) -> Result<CertificateDraft, ConvertError>
-    ensures gives { Gives ConvertError.NoMemory draft_shown result (drafted request.now meaning fresh.now) }
+    ensures gives { Gives ConvertError.NoMemory draft_shown result (drafted request meaning fresh.now) }
     ensures whole { IfOk result IsWhole }
     ensures back { IfOk result (λ d. IsReadBack d.certificate) }
 {
     if !carries_comment(KeyTarget::OpenSshPublic, meaning.comment.as_str()) {
         drop(meaning);
+        drop(request);
         return Err(ConvertError::CommentNotCarried);
     }
     match builder_of(alloc, request, meaning) {
@@ -104,28 +106,9 @@ fn draft(
     }
 }
 
-/// What is signed of what is asked for. Refuses, in order: `Request`; `FreshTooShort`; `TooLong`.
-#[tactic(auto, unfolding(crate::specs::Drafted::drafted_of))]
-fn bytes_of(
-    alloc: Global,
-    builder: &SshCertificateBuilder,
-    fresh: &[u8],
-) -> Result<Bytes, ConvertError>
-    ensures { Gives ConvertError.NoMemory (λ bytes. bytes) result (map_ok (λ u. signed_of u.certificate) (drafted_by builder.now fresh.now)) }
-{
-    match builder.terms().judge() {
-        Ok(_) => match nonce_of(fresh) {
-            Ok(nonce) => match builder.unsigned(alloc, &nonce) {
-                Ok(bytes) => Ok(bytes),
-                Err(e) => Err(request_refusal(e)),
-            },
-            Err(e) => Err(e),
-        },
-        Err(e) => Err(request_refusal(e)),
-    }
-}
-
 /// The certificate of what is asked for. Refuses, in order: `Request`; `FreshTooShort`; `TooLong`.
+///
+/// The terms are judged once: by `draft`, where there are fresh bytes enough for it.
 #[tactic(auto, unfolding(crate::specs::Drafted::drafted_of))]
 fn builder_draft(
     alloc: Global,
@@ -138,15 +121,18 @@ fn builder_draft(
     ensures bytes { IsBytes fresh.now }
 {
     request_keeps_its_ranges(builder);
-    match builder.terms().judge() {
-        Ok(_) => match nonce_of(fresh) {
-            Ok(nonce) => match builder.draft(alloc, &nonce) {
-                Ok(draft) => Ok(draft),
-                Err(e) => Err(request_refusal(e)),
-            },
-            Err(e) => Err(e),
+    match nonce_of(fresh) {
+        Ok(nonce) => match builder.draft(alloc, &nonce) {
+            Ok(draft) => Ok(draft),
+            Err(e) => Err(request_refusal(e)),
         },
-        Err(e) => Err(request_refusal(e)),
+        Err(short) => match builder.terms().judge() {
+            Ok(_) => Err(short),
+            Err(e) => {
+                drop(short);
+                Err(request_refusal(e))
+            }
+        },
     }
 }
 

@@ -83,9 +83,7 @@ pub fn print_signed<S: Suite>(
     match issuer_of(alloc, suite, parts.issuer, given) {
         Ok(issuer) => {
             let request = request_by(options, issuer);
-            let text = print_request(alloc, suite, parts.key, &request, given);
-            drop(request);
-            text
+            print_request(alloc, suite, parts.key, request, given)
         }
         Err(e) => {
             drop(options);
@@ -99,10 +97,10 @@ fn print_request<S: Suite>(
     alloc: Global,
     suite: &mut S,
     input: &str,
-    request: &CertRequest,
+    request: CertRequest,
     given: ConversionGiven<'_>,
 ) -> Result<String, ConvertError>
-    ensures gives { AnswersPlain string_bytes (map_ok hex_line (drafting (outside (S.meanings suite.old) given.entry) request.now input.now))
+    ensures gives { AnswersPlain string_bytes (map_ok hex_line (drafting (outside (S.meanings suite.old) given.entry) request input.now))
         (λ e. IsReadFault (outside (S.meanings suite.old) given.entry) input.now e (Rose (S.faults suite.old) (S.faults suite.new))) result }
     ensures suite { LeavesAskedSuite S.meanings S.faults (asks (option_copied given.entry.pass_in) input.now) result suite.old suite.new }
 {

@@ -66,33 +66,29 @@ impl TryClone for CertRequest {
 /// The certificate that is asked for of a key and a comment. Refuses: `NoMemory`.
 pub fn builder_of(
     alloc: Global,
-    request: &CertRequest,
+    request: CertRequest,
     meaning: Meaning,
 ) -> Result<SshCertificateBuilder, NoMemory>
-    ensures { IfOk result (λ builder. builder ≡ asked_for request.now meaning) }
+    ensures { IfOk result (λ builder. builder ≡ asked_for request meaning) }
 {
-    let subject = subject_of(alloc, meaning)?;
-    match request.try_clone(alloc) {
-        Ok(request) => {
-            let (key, comment) = subject;
-            Ok(SshCertificateBuilder {
-                cert_key_type: request.cert_key_type,
-                public_key: Some(key),
-                serial: request.serial,
-                cert_type: request.cert_type,
-                key_id: request.key_id,
-                valid_principals: Some(request.principals),
-                valid_after: request.valid_after,
-                valid_before: request.valid_before,
-                critical_options: Some(request.critical_options),
-                extensions: Some(request.extensions),
-                issuer: issuer_of(request.issuer),
-                signature_algo: request.signature_algo,
-                comment: Some(comment),
-            })
-        }
+    match subject_of(alloc, meaning) {
+        Ok((key, comment)) => Ok(SshCertificateBuilder {
+            cert_key_type: request.cert_key_type,
+            public_key: Some(key),
+            serial: request.serial,
+            cert_type: request.cert_type,
+            key_id: request.key_id,
+            valid_principals: Some(request.principals),
+            valid_after: request.valid_after,
+            valid_before: request.valid_before,
+            critical_options: Some(request.critical_options),
+            extensions: Some(request.extensions),
+            issuer: issuer_of(request.issuer),
+            signature_algo: request.signature_algo,
+            comment: Some(comment),
+        }),
         Err(NoMemory) => {
-            drop(subject);
+            drop(request);
             Err(NoMemory)
         }
     }

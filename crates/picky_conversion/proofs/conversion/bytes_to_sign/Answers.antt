@@ -12,12 +12,12 @@ use Rattle.picky_conversion.proofs.conversion.bytes_to_sign.Goals as goal
 pub returns-in-Ok-clause-gives : goal.returns-in-Ok-clause-gives
 returns-in-Ok-clause-gives g c =
     let o = outside (g.S.Suite.meanings c.args.suite.now) c.args.given in
-    drafted_gives (λ u. signed_of u.certificate) o c.args.request.now c.args.input.now c.in-Ok.meaning _ c.write_signed_bytes.result
+    drafted_gives (λ u. signed_of u.certificate) o c.args.request c.args.input.now c.in-Ok.meaning _ c.write_signed_bytes.result
     c.in-Ok.ensures.gives c.write_signed_bytes.ensures
 
 pub returns-in-Ok-clause-suite : goal.returns-in-Ok-clause-suite
 returns-in-Ok-clause-suite g c =
-    drafted_leaves (λ u. signed_of u.certificate) _ _ c.args.request.now c.in-Ok.meaning c.args.input.now _ _ c.write_signed_bytes.result
+    drafted_leaves (λ u. signed_of u.certificate) _ _ c.args.request c.in-Ok.meaning c.args.input.now _ _ c.write_signed_bytes.result
     _ _ c.in-Ok.ensures.suite c.write_signed_bytes.ensures
 
 pub returns-in-Err-clause-gives : goal.returns-in-Err-clause-gives
@@ -25,7 +25,7 @@ returns-in-Err-clause-gives g c =
     let o = outside (g.S.Suite.meanings c.args.suite.now) c.args.given in
     rw c.input_refusal.ensures
     (input_refused o c.args.input.now c.in-Err.e _ _ c.in-Err.ensures.gives
-    (λ was. ap (map_ok (λ u. signed_of u.certificate)) (drafting_refused o c.args.request.now c.args.input.now c.in-Err.e was)))
+    (λ was. ap (map_ok (λ u. signed_of u.certificate)) (drafting_refused o c.args.request c.args.input.now c.in-Err.e was)))
 
 pub returns-in-Err-clause-suite : goal.returns-in-Err-clause-suite
 returns-in-Err-clause-suite g c =
