@@ -25,8 +25,8 @@ Messages, and the reply where there is one other than the failure, 5:
   18, 19  an identity, or all of them, removed: 6
   22, 23  locked, and unlocked, under a passphrase: 6
 
-While it is locked 11 has no identities, and all but 23 fail. It keeps 1,024
-identities, and takes 262,144 bytes a message.
+While it is locked 11 has no identities, and all but 23 fail. It keeps
+1,024 identities, and takes 262,144 bytes a message.
 
 This program signs nothing itself. A signature is the one that it was handed,
 whatever the message and the key, or else the failure. It has no socket, and

@@ -32,8 +32,9 @@ first of these rules that fails:
   BadSignature    its issuer signed it
 
 A grant has the line's number, and then a line for each thing to keep to:
-command and source of the certificate, in base64; verify-required; and each
-other option of the line, its value in base64. Whoever lets in has to know all.
+command and source, the certificate's force-command and source-address in
+base64; verify-required; and option, for each further option of the line, its
+value in base64. Whoever lets in has to know them all.
 
 Environment: KEYPOLICY_VERIFIED, the message, in hex, whose signature another
 program found good under the issuer's key. Without it a certificate that no
