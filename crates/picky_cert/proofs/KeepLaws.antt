@@ -10,10 +10,11 @@ use Rattle.picky_keys.proofs.ByteLaws.{no_bytes}
 use Rattle.picky_cert_parts.specs.declared.signature.SshSignature.{SshSignature}
 use Rattle.picky_cert_parts.specs.Signature.{IsSignature, signature}
 use Rattle.picky_cert_parts.proofs.SpellingLaws.{signature_keeps}
+use Rattle.picky_cert_blob.specs.declared.part.CertPart.{CertPart}
 use Rattle.picky_cert_blob.specs.Keeps.{FitsSubject}
 use Rattle.picky_cert_blob.specs.Layout.{Body, body, signature_part}
-use Rattle.picky_cert_blob.specs.View.{SeenIn}
-use Rattle.picky_cert_blob.specs.declared.stopped.Stopped.{Stopped}
+use Rattle.picky_wire_base.specs.View.{SeenAt}
+use Rattle.picky_wire_base.specs.declared.stopped.Stopped.{Stopped}
 use Rattle.picky_cert_blob.proofs.KeepLaws.{body_keeps}
 use Rattle.picky_cert.specs.declared.certificate.SshCertificate.{SshCertificate}
 use Rattle.picky_cert.specs.declared.view.CertView.{CertView}
@@ -86,8 +87,8 @@ pub read_fits_subject : (bytes : List ℕ) (c : SshCertificate) (rest : List ℕ
 read_fits_subject bytes c rest each read = (read_keeps bytes c rest each read).1
 
 -- So does what is seen.
-pub seen_is_certificate : (bytes : List ℕ) (r : Result (CertView × ℕ) Stopped) → IsBytes bytes
-    → SeenIn cert_seen (CertLies bytes) certificate bytes 0 r → IfOk r (λ found. IsCertificate (cert_seen found.0))
+pub seen_is_certificate : (bytes : List ℕ) (r : Result (CertView × ℕ) (Stopped CertPart)) → IsBytes bytes
+    → SeenAt cert_seen (CertLies bytes) certificate bytes 0 r → IfOk r (λ found. IsCertificate (cert_seen found.0))
 seen_is_certificate bytes (Ok (view, next)) each seen =
     read_is_certificate bytes (cert_seen view) (drop next bytes) each seen.sees
 seen_is_certificate bytes (Err stopped) each seen = tt

@@ -41,13 +41,14 @@ use Rattle.picky_wire_base.specs.declared.view.Stuck.TheVariants as stucks
 use Rattle.picky_cert_blob.specs.Items.{extension_item, option_item, principal_item}
 use Rattle.picky_cert_blob.specs.Layout.{body, cert_name, critical_options, extensions, grants, head, head_for, head_of, issuer, principals}
 use Rattle.picky_cert_blob.specs.Layout.{signature_part, terms, type_number, valid_after, valid_before}
-use Rattle.picky_cert_blob.specs.Reason.{CertReason, extension_why, in_key, in_part, option_why, signature_why, the, within}
+use Rattle.picky_wire_base.specs.Combine.{placed, at}
+use Rattle.picky_cert_blob.specs.Reason.{CertReason, extension_why, in_key, option_why, signature_why, within}
 use Rattle.picky_cert_blob.specs.Subject.{subject_kind}
-use Rattle.picky_cert_blob.specs.View.{SeenIn}
+use Rattle.picky_wire_base.specs.View.{SeenAt}
 use Rattle.picky_cert_blob.specs.carried.Items.{extension_item_solid, option_item_solid, principal_item_solid}
 use Rattle.picky_cert_blob.specs.declared.part.CertPart.{CertPart}
 use Rattle.picky_cert_blob.specs.declared.part.CertPart.TheVariants as parts
-use Rattle.picky_cert_blob.specs.declared.stopped.Stopped.{Stopped}
+use Rattle.picky_wire_base.specs.declared.stopped.Stopped.{Stopped}
 use Rattle.picky_cert.specs.declared.view.CertView.{CertView}
 use Rattle.picky_cert.specs.Certificate.{certificate}
 use Rattle.picky_cert.specs.View.{cert_seen, CertLies, IsRefusal}
@@ -127,8 +128,8 @@ blob_refuses =
 
 -- ---- the head
 
-the_refuses : {A : Type 0} (part : CertPart) (G : Grammar Flaw A) → RefusesAs InCert (the part G).read
-the_refuses part G = flawed_refuses InCert (in_part part) G (λ flaw. tt)
+the_refuses : {A : Type 0} (part : CertPart) (G : Grammar Flaw A) → RefusesAs InCert (at part G).read
+the_refuses part G = flawed_refuses InCert (placed part) G (λ flaw. tt)
 
 within_key_refuses : {A : Type 0} (part : CertPart) (G : Grammar Reason A) → RefusesAs InBlob G.read → RefusesAs InCert (within part G).read
 within_key_refuses part G own = tag_refuses InCert (in_key part) G own
@@ -136,13 +137,13 @@ within_key_refuses part G own = tag_refuses InCert (in_key part) G own
 cert_name_refuses : RefusesAs InCert cert_name.read
 unfolding cert_name
 cert_name_refuses =
-    named_refuses InCert (the parts.Name text) (λ name. (parts.Name, Name name)) cert_key_types (the_refuses parts.Name text)
-    (λ bytes name rest is. tagged_is_utf8 (in_part parts.Name) bytes name rest is)
+    named_refuses InCert (at parts.Name text) (λ name. (parts.Name, Name name)) cert_key_types (the_refuses parts.Name text)
+    (λ bytes name rest is. tagged_is_utf8 (placed parts.Name) bytes name rest is)
 
 head_for_refuses : (t : SshCertKeyType) (kind : KeyKind) → RefusesAs InCert (head_for t kind).read
 unfolding head_for
 head_for_refuses t kind =
-    both_refuses InCert (the parts.Nonce string).read _ (the_refuses parts.Nonce string) (λ nonce.
+    both_refuses InCert (at parts.Nonce string).read _ (the_refuses parts.Nonce string) (λ nonce.
     both_refuses InCert (within parts.Subject (public_key_fields kind)).read _
     (within_key_refuses parts.Subject (public_key_fields kind) (fields_refuse kind)) (λ key. done_refuses InCert _))
 
@@ -162,17 +163,17 @@ head_refuses =
 type_refuses : RefusesAs InCert type_number.read
 unfolding type_number
 type_refuses =
-    narrow_refuses InCert (the parts.CertType uint32) (entry (λ n. (parts.CertType, Number n)) cert_types)
+    narrow_refuses InCert (at parts.CertType uint32) (entry (λ n. (parts.CertType, Number n)) cert_types)
     (the_refuses parts.CertType uint32)
     (λ bytes n rest e was. entry_refuses InCert (find_entry cert_types n) (parts.CertType, Number n) e tt)
 
 after_refuses : RefusesAs InCert valid_after.read
 unfolding valid_after
-after_refuses = narrow_refuses InCert (the parts.After uint64) (each moment) (the_refuses parts.After uint64) (λ bytes n rest e was is. cc is)
+after_refuses = narrow_refuses InCert (at parts.After uint64) (each moment) (the_refuses parts.After uint64) (λ bytes n rest e was is. cc is)
 
 before_refuses : RefusesAs InCert valid_before.read
 unfolding valid_before
-before_refuses = narrow_refuses InCert (the parts.Before uint64) (each moment) (the_refuses parts.Before uint64) (λ bytes n rest e was is. cc is)
+before_refuses = narrow_refuses InCert (at parts.Before uint64) (each moment) (the_refuses parts.Before uint64) (λ bytes n rest e was is. cc is)
 
 principal_refuses : RefusesAs InCert principal_item.read
 unfolding principal_item
@@ -181,14 +182,14 @@ principal_refuses = the_refuses parts.Principals text
 principals_refuse : RefusesAs InCert principals.read
 unfolding principals
 principals_refuse =
-    list_refuses InCert (in_part parts.Principals) principal_item principal_item_solid (λ flaw. tt) principal_refuses
+    list_refuses InCert (placed parts.Principals) principal_item principal_item_solid (λ flaw. tt) principal_refuses
 
 terms_refuse : RefusesAs InCert terms.read
 unfolding terms
 terms_refuse =
-    both_refuses InCert (the parts.Serial uint64).read _ (the_refuses parts.Serial uint64) (λ serial.
+    both_refuses InCert (at parts.Serial uint64).read _ (the_refuses parts.Serial uint64) (λ serial.
     both_refuses InCert type_number.read _ type_refuses (λ cert_type.
-    both_refuses InCert (the parts.KeyId text).read _ (the_refuses parts.KeyId text) (λ key_id.
+    both_refuses InCert (at parts.KeyId text).read _ (the_refuses parts.KeyId text) (λ key_id.
     both_refuses InCert principals.read _ principals_refuse (λ names.
     both_refuses InCert valid_after.read _ after_refuses (λ after.
     both_refuses InCert valid_before.read _ before_refuses (λ before. done_refuses InCert _))))))
@@ -220,7 +221,7 @@ option_refuses = tag_refuses InCert (λ e. (parts.Options, option_why e)) critic
 
 options_refuse : RefusesAs InCert critical_options.read
 unfolding critical_options
-options_refuse = list_refuses InCert (in_part parts.Options) option_item option_item_solid (λ flaw. tt) option_refuses
+options_refuse = list_refuses InCert (placed parts.Options) option_item option_item_solid (λ flaw. tt) option_refuses
 
 abbrev InExtension : SshExtensionError → Type 0
 InExtension e = NamesText (extension_why e)
@@ -248,12 +249,12 @@ extension_refuses = tag_refuses InCert (λ e. (parts.Extensions, extension_why e
 extensions_refuse : RefusesAs InCert extensions.read
 unfolding extensions
 extensions_refuse =
-    list_refuses InCert (in_part parts.Extensions) extension_item extension_item_solid (λ flaw. tt) extension_refuses
+    list_refuses InCert (placed parts.Extensions) extension_item extension_item_solid (λ flaw. tt) extension_refuses
 
 issuer_refuses : RefusesAs InCert issuer.read
 unfolding issuer
 issuer_refuses =
-    front_refuses InCert (in_part parts.IssuerString) (within parts.Issuer blob) (λ flaw. tt)
+    front_refuses InCert (placed parts.IssuerString) (within parts.Issuer blob) (λ flaw. tt)
     (within_key_refuses parts.Issuer blob blob_refuses)
 
 grants_refuse : RefusesAs InCert grants.read
@@ -261,7 +262,7 @@ unfolding grants
 grants_refuse =
     both_refuses InCert critical_options.read _ options_refuse (λ options.
     both_refuses InCert extensions.read _ extensions_refuse (λ more.
-    both_refuses InCert (the parts.Reserved string).read _ (the_refuses parts.Reserved string) (λ reserved.
+    both_refuses InCert (at parts.Reserved string).read _ (the_refuses parts.Reserved string) (λ reserved.
     both_refuses InCert issuer.read _ issuer_refuses (λ key. done_refuses InCert _))))
 
 -- ---- the signature
@@ -318,8 +319,8 @@ cert_refuses =
     both_refuses InCert signature_part.read _ signature_part_refuses (λ s. done_refuses InCert _))
 
 refused_is_text : (bytes : List ℕ) (part : CertPart) (stuck : Stuck) → length bytes < 2 ^ 32
-    → SeenIn {X = CertView} cert_seen (CertLies bytes) certificate bytes 0 (Err (record { part = part; stuck = stuck }))
-    → IsRefusal (record { part = part; stuck = stuck })
+    → SeenAt {X = CertView} cert_seen (CertLies bytes) certificate bytes 0 (Err (record { place = part; stuck = stuck }))
+    → IsRefusal (record { place = part; stuck = stuck })
 refused_is_text bytes part (stucks.Name name) short seen = record {
   short = omega (arith, seen.placed.ends, seen.placed.within);
   utf8 = cert_refuses bytes (part, Name name.bytes.now) seen.sees;
@@ -330,7 +331,7 @@ refused_is_text bytes part stucks.Length short seen = tt
 refused_is_text bytes part (stucks.Number n) short seen = tt
 
 -- A name at which a view is stopped is text.
-pub seen_is_refusal : (bytes : List ℕ) (r : Result (CertView × ℕ) Stopped) → length bytes < 2 ^ 32
-    → SeenIn cert_seen (CertLies bytes) certificate bytes 0 r → IfErr r IsRefusal
+pub seen_is_refusal : (bytes : List ℕ) (r : Result (CertView × ℕ) (Stopped CertPart)) → length bytes < 2 ^ 32
+    → SeenAt cert_seen (CertLies bytes) certificate bytes 0 r → IfErr r IsRefusal
 seen_is_refusal bytes (Ok found) short seen = tt
-seen_is_refusal bytes (Err stopped) short seen = refused_is_text bytes stopped.part stopped.stuck short seen
+seen_is_refusal bytes (Err stopped) short seen = refused_is_text bytes stopped.place stopped.stuck short seen

@@ -4,10 +4,11 @@ use Rattle.picky_wire.specs.Principals.{IsPrincipal}
 use Rattle.picky_wire_base.specs.View.{Lies, end_of}
 use Rattle.picky_wire_base.specs.declared.view.Stuck.{Stuck}
 use Rattle.picky_wire_base.specs.declared.view.Stuck.TheVariants as stucks
+use Rattle.picky_cert_blob.specs.declared.part.CertPart.{CertPart}
 use Rattle.picky_cert_blob.specs.declared.body.BodyView.{BodyView}
 use Rattle.picky_cert.specs.declared.certificate.SshCertificate.{SshCertificate}
 use Rattle.picky_cert_blob.specs.declared.signature.SignatureView.{SignatureView}
-use Rattle.picky_cert_blob.specs.declared.stopped.Stopped.{Stopped}
+use Rattle.picky_wire_base.specs.declared.stopped.Stopped.{Stopped}
 use Rattle.picky_cert.specs.declared.view.CertView.{CertView}
 use Rattle.picky_cert.specs.Certificate.{certified}
 use Rattle.picky_cert_blob.specs.Layout.{body}
@@ -49,5 +50,5 @@ abbrev pub NamesText : Stuck → Type 0
 NamesText (stucks.Name name) = IsPrincipal name.bytes.now
 NamesText stuck = Unit {0}
 
-abbrev pub IsRefusal : Stopped → Type 0
+abbrev pub IsRefusal : Stopped CertPart → Type 0
 IsRefusal stopped = NamesText stopped.stuck

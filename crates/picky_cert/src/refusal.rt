@@ -5,23 +5,26 @@ ghost use Rattle.picky_wire.specs.Principals.{IsPrincipal};
 ghost use Rattle.picky_wire_base.specs.View.{why_of};
 ghost use Rattle.picky_cert.specs.CertRefusal.{cert_error, issuer_error, extensions_error, name_error, options_error, own_error, signature_part_error, type_error};
 ghost use Rattle.picky_cert.specs.View.{IsRefusal, NamesText};
-ghost use Rattle.picky_cert_blob.specs.View.{reason_of};
+ghost use Rattle.picky_wire_base.specs.View.{reason_of};
 
-use picky_cert_blob::{CertPart, Stopped};
+use picky_cert_blob::CertPart;
 use picky_cert_parts::{
     SshCertKeyType, SshCertTypeError, SshCertificateError, SshCriticalOptionError,
     SshExtensionError, SshSignatureError,
 };
 use picky_keys::SshPublicKeyError;
-use picky_wire::{IoKind, NoMemory, Part, Stuck};
+use picky_wire::{IoKind, NoMemory, Part, Stopped, Stuck};
 use std::alloc::Global;
 
 /// The error of the reader where a view is stopped, with a copy of a refused name, or `NoMemory`.
-pub fn certificate_view_refusal(alloc: Global, stopped: &Stopped<'_>) -> SshCertificateError
+pub fn certificate_view_refusal(
+    alloc: Global,
+    stopped: &Stopped<'_, CertPart>,
+) -> SshCertificateError
     requires { IsRefusal stopped.now }
     ensures { (result ≡ cert_error (reason_of stopped.now)) ⊎ (result ≡ SshCertificateError.NoMemory) }
 {
-    match stopped.part {
+    match stopped.place {
         CertPart::CertType => type_refusal(alloc, &stopped.stuck),
         CertPart::Options => options_refusal(alloc, &stopped.stuck),
         CertPart::Extensions => extensions_refusal(alloc, &stopped.stuck),

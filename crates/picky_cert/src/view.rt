@@ -8,12 +8,12 @@ ghost use Rattle.picky_cert.specs.declared.certificate.SshCertificate.{SshCertif
 ghost use Rattle.picky_cert.specs.View.{body_in, cert_seen, CertLies, IsRefusal};
 ghost use Rattle.picky_cert_blob.specs.Reason.{why_in};
 ghost use Rattle.picky_cert_blob.specs.Seen.{HasItems};
-ghost use Rattle.picky_cert_blob.specs.View.{SeenIn};
+ghost use Rattle.picky_wire_base.specs.View.{SeenAt};
 
-use picky_cert_blob::{CertPart, Stopped, body_at, signature_at};
+use picky_cert_blob::{CertPart, body_at, signature_at};
 use picky_cert_parts::{SshCertKeyType, SshCertType, SshSignatureFormat};
 use picky_keys::PublicView;
-use picky_wire::{Part, Stuck, Timestamp};
+use picky_wire::{Part, Stopped, Stuck, Timestamp};
 
 /// A certificate whose parts are slices of its bytes. The part of a list is its block, without its length.
 #[derive(Clone, Copy, Debug, PartialEq, Eq)]
@@ -71,7 +71,7 @@ impl<'a> CertView<'a> {
     {
         match certificate_at(blob) {
             Ok(_) => None,
-            Err(stopped) => Some(stopped.part),
+            Err(stopped) => Some(stopped.place),
         }
     }
 }
@@ -79,9 +79,9 @@ impl<'a> CertView<'a> {
 /// The certificate that the bytes begin with, whose parts keep their ranges.
 /// Refuses, in order: as `body_at`; as `signature_at`.
 #[tactic(auto, using(crate::proofs::KeepLaws::seen_is_certificate, crate::proofs::NameLemmas::seen_is_refusal))]
-pub fn certificate_at<'a>(blob: &'a [u8]) -> Result<(CertView<'a>, usize), Stopped<'a>>
+pub fn certificate_at<'a>(blob: &'a [u8]) -> Result<(CertView<'a>, usize), Stopped<'a, CertPart>>
     requires { length blob.now < 2 ^ 32 }
-    ensures seen { SeenIn cert_seen (CertLies blob.now) certificate_layout blob.now 0 result }
+    ensures seen { SeenAt cert_seen (CertLies blob.now) certificate_layout blob.now 0 result }
     ensures is_certificate { IfOk result (λ found. IsCertificate (cert_seen found.0)) }
     ensures items { IfOk result (λ found. HasItems (body_in found.0)) }
     ensures refusal { IfErr result IsRefusal }
@@ -91,9 +91,9 @@ pub fn certificate_at<'a>(blob: &'a [u8]) -> Result<(CertView<'a>, usize), Stopp
 
 /// The parts of the certificate that the bytes begin with.
 #[tactic(auto, unfolding(crate::specs::Certificate::certificate))]
-fn view_at<'a>(blob: &'a [u8]) -> Result<(CertView<'a>, usize), Stopped<'a>>
+fn view_at<'a>(blob: &'a [u8]) -> Result<(CertView<'a>, usize), Stopped<'a, CertPart>>
     requires { length blob.now < 2 ^ 32 }
-    ensures seen { SeenIn cert_seen (CertLies blob.now) certificate_layout blob.now 0 result }
+    ensures seen { SeenAt cert_seen (CertLies blob.now) certificate_layout blob.now 0 result }
     ensures items { IfOk result (λ found. HasItems (body_in found.0)) }
 {
     let (body, end) = body_at(blob, 0)?;

@@ -13,8 +13,7 @@ use Rattle.picky_cert_parts.specs.contracts.cert_key_type.SshCertKeyTypePartialE
 use Rattle.picky_cert_parts.specs.declared.cert_key_type.SshCertKeyType.{SshCertKeyType}
 use Rattle.picky_cert_blob.specs.contracts.part.CertPartPartialEq.TheImpl as part
 use Rattle.picky_cert_blob.specs.declared.part.CertPart.{CertPart}
-use Rattle.picky_cert_blob.specs.contracts.stopped.StoppedPartialEq.TheImpl as stopped
-use Rattle.picky_cert_blob.specs.declared.stopped.Stopped.{Stopped}
+use Rattle.picky_wire_base.specs.declared.stopped.Stopped.{Stopped}
 use Rattle.picky_cert_blob.specs.contracts.head.HeadViewPartialEq.TheImpl as head
 use Rattle.picky_cert_blob.specs.declared.head.HeadView.{HeadView}
 use Rattle.picky_cert_blob.specs.contracts.terms.TermsViewPartialEq.TheImpl as terms
@@ -23,7 +22,8 @@ use Rattle.picky_cert_blob.specs.contracts.grants.GrantsViewPartialEq.TheImpl as
 use Rattle.picky_cert_blob.specs.declared.grants.GrantsView.{GrantsView}
 use Rattle.picky_cert_blob.specs.contracts.body.BodyViewPartialEq.TheImpl as body
 use Rattle.picky_cert_blob.specs.declared.body.BodyView.{BodyView}
-use Rattle.picky_cert_blob.specs.Shown.{body_shown, grants_shown, head_shown, stopped_shown, terms_shown}
+use Rattle.picky_wire_base.specs.View.{stopped_shown}
+use Rattle.picky_cert_blob.specs.Shown.{body_shown, grants_shown, head_shown, terms_shown}
 
 -- ---- two and three fields
 
@@ -73,10 +73,11 @@ part_equal = search rules
 
 -- ---- the views
 
-pub stopped_equal : (a b : Stopped) → IsTrue (stopped.ghosts.eq a b) ↔ (stopped_shown a ≡ stopped_shown b)
+pub stopped_equal : (a b : Stopped CertPart) → IsTrue (part.ghosts.eq a.place b.place && stuck.ghosts.eq a.stuck b.stuck)
+    ↔ (stopped_shown a ≡ stopped_shown b)
 stopped_equal a b =
-    two_equal (part.ghosts.eq a.part b.part) (stuck.ghosts.eq a.stuck b.stuck) (stopped_shown a) (stopped_shown b)
-    (part_equal a.part b.part) (stuck_equal a.stuck b.stuck)
+    two_equal (part.ghosts.eq a.place b.place) (stuck.ghosts.eq a.stuck b.stuck) (stopped_shown a) (stopped_shown b)
+    (part_equal a.place b.place) (stuck_equal a.stuck b.stuck)
 
 pub head_equal : (a b : HeadView) → IsTrue (head.ghosts.eq a b) ↔ (head_shown a ≡ head_shown b)
 head_equal a b =

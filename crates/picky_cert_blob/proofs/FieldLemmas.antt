@@ -13,7 +13,7 @@ use Rattle.picky_wire_base.specs.declared.view.Stuck.{Stuck}
 use Rattle.picky_wire_base.specs.View.{Seen, why_in, why_of}
 use Rattle.picky_cert_blob.specs.declared.part.CertPart.{CertPart}
 use Rattle.picky_cert_blob.specs.Reason.{in_key, within}
-use Rattle.picky_cert_blob.specs.View.{SeenIn}
+use Rattle.picky_wire_base.specs.View.{SeenAt}
 
 in_key_why : {A : Type 0} (part : CertPart) (r : Result A Reason) (why : Why) → map_err why_in r ≡ Err why
     → map_err (in_key part) r ≡ Err (part, why)
@@ -28,7 +28,7 @@ in_key_read part r x is = ap (map_err (in_key part)) is
 
 pub key_in_part_seen : {X A : Type 0} (part : CertPart) (shows : X → A) (lies : X → Type 0) (layout : Grammar Reason A)
     (from next : ℕ) (blob : List ℕ) (x : X) → Seen shows lies why_in layout blob from (Ok (x, next))
-    → SeenIn shows lies (within part layout) blob from (Ok (x, next))
+    → SeenAt shows lies (within part layout) blob from (Ok (x, next))
 key_in_part_seen part shows lies layout from next blob x seen = record {
   sees = in_key_read part (layout.read (drop from blob)) (shows x, drop next blob) seen.sees;
   placed = seen.placed;
@@ -36,7 +36,7 @@ key_in_part_seen part shows lies layout from next blob x seen = record {
 
 pub key_in_part_stuck : {X A : Type 0} (part : CertPart) (shows : X → A) (lies : X → Type 0) (layout : Grammar Reason A)
     (from : ℕ) (blob : List ℕ) (stuck : Stuck) → Seen {X = X} shows lies why_in layout blob from (Err stuck)
-    → SeenIn {X = X} shows lies (within part layout) blob from (Err (record { part = part; stuck = stuck }))
+    → SeenAt {X = X} shows lies (within part layout) blob from (Err (record { place = part; stuck = stuck }))
 key_in_part_stuck part shows lies layout from blob stuck seen = record {
   sees = in_key_why part (layout.read (drop from blob)) (why_of stuck) seen.sees;
   placed = seen.placed;

@@ -10,16 +10,16 @@ use Rattle.picky_keys.specs.View.{key_seen, PartsLie}
 use Rattle.picky_keys.specs.declared.view.PublicView.{PublicView}
 use Rattle.picky_cert_blob.specs.declared.part.CertPart.TheVariants as parts
 use Rattle.picky_cert_blob.specs.Layout.{issuer}
-use Rattle.picky_cert_blob.specs.Reason.{the}
+use Rattle.picky_wire_base.specs.Combine.{at}
 use Rattle.picky_cert_blob.specs.Seen.{IssuerLies}
-use Rattle.picky_cert_blob.specs.View.{SeenIn}
+use Rattle.picky_wire_base.specs.View.{SeenAt}
 use Rattle.picky_cert_blob.proofs.PlaceLemmas.{block_at, enclosed_passed, enclosed_stopped}
 
 pub issuer_seen : (blob front : List ℕ) (from next after : ℕ) (block : Part) (key : PublicView)
-    → SeenIn part_bytes (Lies blob (end_of string blob from)) (the parts.IssuerString string) blob from (Ok (block, next))
+    → SeenAt part_bytes (Lies blob (end_of string blob from)) (at parts.IssuerString string) blob from (Ok (block, next))
     → front ≡ take next blob
     → Seen key_seen (PartsLie front (end_of key_type front block.at)) why_in key_blob front block.at (Ok (key, after))
-    → SeenIn key_seen (IssuerLies blob from) issuer blob from (Ok (key, next))
+    → SeenAt key_seen (IssuerLies blob from) issuer blob from (Ok (key, next))
 unfolding issuer
 issuer_seen blob front from next after block key seen are found =
     let at = block_at parts.IssuerString blob from next block seen in
@@ -33,10 +33,10 @@ issuer_seen blob front from next after block key seen are found =
     record { sees = all.sees; placed = (placed, all.placed.1, all.placed.2) }
 
 pub issuer_stuck : (blob front : List ℕ) (from next : ℕ) (block : Part) (stuck : Stuck)
-    → SeenIn part_bytes (Lies blob (end_of string blob from)) (the parts.IssuerString string) blob from (Ok (block, next))
+    → SeenAt part_bytes (Lies blob (end_of string blob from)) (at parts.IssuerString string) blob from (Ok (block, next))
     → front ≡ take next blob
     → Seen {X = PublicView} key_seen (PartsLie front (end_of key_type front block.at)) why_in key_blob front block.at (Err stuck)
-    → SeenIn {X = PublicView} key_seen (IssuerLies blob from) issuer blob from (Err (record { part = parts.Issuer; stuck = stuck }))
+    → SeenAt {X = PublicView} key_seen (IssuerLies blob from) issuer blob from (Err (record { place = parts.Issuer; stuck = stuck }))
 unfolding issuer
 issuer_stuck blob front from next block stuck seen are found =
     let found' = subst (λ f. Seen {X = PublicView} key_seen (PartsLie f (end_of key_type f block.at)) why_in key_blob f block.at

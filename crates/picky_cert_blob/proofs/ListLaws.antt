@@ -14,7 +14,8 @@ use Rattle.picky_cert_parts.specs.CriticalOption.{critical_option}
 use Rattle.picky_cert_parts.specs.Extension.{extension}
 use Rattle.picky_cert_blob.specs.declared.part.CertPart.TheVariants as parts
 use Rattle.picky_cert_blob.specs.Items.{principal_item, option_item, extension_item}
-use Rattle.picky_cert_blob.specs.Reason.{CertReason, in_part, option_why, extension_why}
+use Rattle.picky_wire_base.specs.Combine.{placed}
+use Rattle.picky_cert_blob.specs.Reason.{CertReason, option_why, extension_why}
 use Rattle.picky_cert_blob.specs.View.{AreItems, values_in, values_or_none}
 
 -- ---- a row whose layout has another layer's reasons
@@ -57,7 +58,7 @@ pub principals_are_read : (block : Part) → AreItems principal_item block
 unfolding principal_item principal
 principals_are_read block are =
     all_tagged wire_error text block.bytes.now
-    ∙ ap (map_err wire_error) (own_values (in_part parts.Principals) text block are)
+    ∙ ap (map_err wire_error) (own_values (placed parts.Principals) text block are)
 
 -- So is a block of critical options.
 pub options_are_read : (block : Part) → AreItems option_item block

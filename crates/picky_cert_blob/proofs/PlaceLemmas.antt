@@ -5,21 +5,22 @@ use Rattle.std.proofs.lemmas.List.{length-append, length-take-le, drop-take, tak
 use Rattle.picky_wire_base.specs.Flaw.{Why, Reason}
 use Rattle.picky_wire_base.specs.Front.{read_front}
 use Rattle.picky_wire_base.specs.Grammar.{Grammar}
-use Rattle.picky_wire_base.specs.Many.{read_many}
 use Rattle.picky_wire_base.specs.Outcome.{and_then, map_err}
 use Rattle.picky_wire_base.specs.carried.Outcome.{map_err_ok}
-use Rattle.picky_wire_base.specs.Row.{read_all}
+use Rattle.picky_wire_base.specs.Row.{Solid, read_all}
 use Rattle.picky_wire_base.specs.Wire.{string, uint32, byte_array}
 use Rattle.picky_wire_base.specs.declared.view.Part.{Part}
 use Rattle.picky_wire_base.specs.declared.view.Stuck.{Stuck}
 use Rattle.picky_wire_base.specs.declared.view.Stuck.TheVariants as stucks
 use Rattle.picky_wire_base.specs.View.{Lies, Places, Seen, end_of, part_bytes, why_in, why_of}
 use Rattle.picky_cert_blob.specs.declared.part.CertPart.{CertPart}
-use Rattle.picky_cert_blob.specs.declared.stopped.Stopped.{Stopped}
-use Rattle.picky_cert_blob.specs.Reason.{CertReason, in_key, in_part, the, within}
-use Rattle.picky_cert_blob.specs.Listed.{enclosed}
+use Rattle.picky_wire_base.specs.declared.stopped.Stopped.{Stopped}
+use Rattle.picky_wire_base.specs.Combine.{placed, at}
+use Rattle.picky_cert_blob.specs.Reason.{CertReason, in_key, within}
+use Rattle.picky_cert_blob.specs.Listed.{enclosed, listed}
 use Rattle.picky_cert_blob.specs.Used.{up_to, up_to_inside, used_inside, used_row}
-use Rattle.picky_cert_blob.specs.View.{AreItems, ArePassed, NameLies, SeenBy, SeenIn, reason_of, values_in, values_or_none}
+use Rattle.picky_wire_base.specs.View.{SeenAt, reason_of}
+use Rattle.picky_cert_blob.specs.View.{AreItems, ArePassed, NameLies, values_in, values_or_none}
 
 -- a string takes the four bytes of its length and its bytes
 pub string_used : (bytes v rest : List ℕ) → string.read bytes ≡ Ok (v, rest) → string.used bytes ≡ 4 + length v
@@ -45,11 +46,11 @@ string_used bytes v rest read =
 
 -- where the string's bytes stand, and that they are all from there on
 pub block_at : (part : CertPart) (blob : List ℕ) (from next : ℕ) (block : Part)
-    → SeenIn part_bytes (Lies blob (end_of string blob from)) (the part string) blob from (Ok (block, next))
+    → SeenAt part_bytes (Lies blob (end_of string blob from)) (at part string) blob from (Ok (block, next))
     → (string.read (drop from blob) ≡ Ok (block.bytes.now, drop next blob)) × (block.at ≡ from + 4)
     × (drop block.at (take next blob) ≡ block.bytes.now)
 block_at part blob from next block seen =
-    let read = map_err_ok (in_part part) (string.read (drop from blob)) (block.bytes.now, drop next blob) seen.sees in
+    let read = map_err_ok (placed part) (string.read (drop from blob)) (block.bytes.now, drop next blob) seen.sees in
     let lies = seen.placed.0 in
     let len = length block.bytes.now in
     let ends : next ≡ block.at + len = omega (arith, seen.placed.1, lies.ends) in (
@@ -90,13 +91,12 @@ used_up_to decide used bytes v rest e read refused =
 
 -- ---- what is refused inside a list's string
 
-pub list_stopped : {A : Type 0} (item : Grammar CertReason A) (part : CertPart) (blob : List ℕ) (from next : ℕ)
-    (block : Part) (stopped : Stopped)
-    → SeenIn part_bytes (Lies blob (end_of string blob from)) (the part string) blob from (Ok (block, next))
+pub list_stopped : {A : Type 0} (item : Grammar CertReason A) (solid : Solid item.piece) (part : CertPart) (blob : List ℕ) (from next : ℕ)
+    (block : Part) (stopped : Stopped CertPart)
+    → SeenAt part_bytes (Lies blob (end_of string blob from)) (at part string) blob from (Ok (block, next))
     → ArePassed item (take next blob) block.at (Err stopped)
-    → SeenBy (values_in item) (Lies blob (end_of string blob from)) (read_many (in_part part) item)
-    (used_inside (read_all item) (used_row item)) blob from (Err stopped)
-list_stopped item part blob from next block stopped seen (refused, lies) =
+    → SeenAt (values_in item) (Lies blob (end_of string blob from)) (listed (placed part) item solid) blob from (Err stopped)
+list_stopped item solid part blob from next block stopped seen (refused, lies) =
     let at = block_at part blob from next block seen in
     let whole = at.2 in
     let inner : read_all item block.bytes.now ≡ Err (reason_of stopped) = ap (read_all item) (sym whole) ∙ refused in
@@ -106,7 +106,7 @@ list_stopped item part blob from next block stopped seen (refused, lies) =
     ≡ from + used_inside (read_all item) (used_row item) (drop from blob) =
     omega (arith, at.1, used, ap (used_row item) whole) in
     record {
-      sees = ap (λ r. and_then (map_err (in_part part) r) (λ found. and_then (read_all item found.0) (λ vs. Ok (vs, found.1)))) at.0
+      sees = ap (λ r. and_then (map_err (placed part) r) (λ found. and_then (read_all item found.0) (λ vs. Ok (vs, found.1)))) at.0
           ∙ ap (λ r. and_then r (λ vs. Ok (vs, drop next blob))) inner;
       placed = name_of_front (Lies blob (end_of string blob from)) blob next
           (from + used_inside (read_all item) (used_row item) (drop from blob)) stopped.stuck seen.placed.2
@@ -114,26 +114,25 @@ list_stopped item part blob from next block stopped seen (refused, lies) =
     }
 
 -- and what isn't
-pub list_passed : {A : Type 0} (item : Grammar CertReason A) (part : CertPart) (blob : List ℕ) (from next : ℕ)
-    (block : Part) → SeenIn part_bytes (Lies blob (end_of string blob from)) (the part string) blob from (Ok (block, next))
+pub list_passed : {A : Type 0} (item : Grammar CertReason A) (solid : Solid item.piece) (part : CertPart) (blob : List ℕ) (from next : ℕ)
+    (block : Part) → SeenAt part_bytes (Lies blob (end_of string blob from)) (at part string) blob from (Ok (block, next))
     → ((vs : List A) × (read_all item (drop block.at (take next blob)) ≡ Ok vs))
-    → SeenBy (values_in item) (Lies blob (end_of string blob from)) (read_many (in_part part) item)
-    (used_inside (read_all item) (used_row item)) blob from (Ok (block, next))
-list_passed item part blob from next block seen (vs, passed) =
+    → SeenAt (values_in item) (Lies blob (end_of string blob from)) (listed (placed part) item solid) blob from (Ok (block, next))
+list_passed item solid part blob from next block seen (vs, passed) =
     let at = block_at part blob from next block seen in
     let inner : read_all item block.bytes.now ≡ Ok vs = ap (read_all item) (sym at.2) ∙ passed in
     let used : used_inside (read_all item) (used_row item) (drop from blob) ≡ string.used (drop from blob) =
     ap (up_to_inside (read_all item) (used_row item) (string.used (drop from blob))) at.0
     ∙ ap (λ r. up_to r (string.used (drop from blob)) (4 + used_row item block.bytes.now)) inner in
     record {
-      sees = ap (λ r. and_then (map_err (in_part part) r) (λ found. and_then (read_all item found.0) (λ vs. Ok (vs, found.1)))) at.0
+      sees = ap (λ r. and_then (map_err (placed part) r) (λ found. and_then (read_all item found.0) (λ vs. Ok (vs, found.1)))) at.0
           ∙ ap (λ r. and_then r (λ vs. Ok (vs, drop next blob))) inner
           ∙ ap (λ r. Ok (values_or_none r, drop next blob)) (sym inner);
       placed = (seen.placed.0, omega (arith, seen.placed.1, used), seen.placed.2);
     }
 
 pub list_items : {A : Type 0} (item : Grammar CertReason A) (part : CertPart) (blob : List ℕ) (from next : ℕ)
-    (block : Part) → SeenIn part_bytes (Lies blob (end_of string blob from)) (the part string) blob from (Ok (block, next))
+    (block : Part) → SeenAt part_bytes (Lies blob (end_of string blob from)) (at part string) blob from (Ok (block, next))
     → ((vs : List A) × (read_all item (drop block.at (take next blob)) ≡ Ok vs)) → AreItems item block
 list_items item part blob from next block seen (vs, passed) =
     (vs, ap (read_all item) (sym (block_at part blob from next block seen).2) ∙ passed)
@@ -142,9 +141,9 @@ list_items item part blob from next block seen (vs, passed) =
 
 pub enclosed_passed : {X A : Type 0} (shows : X → A) (lies : X → Type 0) (inner : Grammar Reason A) (whole inside : CertPart)
     (blob : List ℕ) (from next after : ℕ) (block : Part) (x : X)
-    → SeenIn part_bytes (Lies blob (end_of string blob from)) (the whole string) blob from (Ok (block, next))
+    → SeenAt part_bytes (Lies blob (end_of string blob from)) (at whole string) blob from (Ok (block, next))
     → Seen shows lies why_in inner (take next blob) block.at (Ok (x, after))
-    → SeenIn shows lies (enclosed (in_part whole) (within inside inner)) blob from (Ok (x, next))
+    → SeenAt shows lies (enclosed (placed whole) (within inside inner)) blob from (Ok (x, next))
 enclosed_passed shows lies inner whole inside blob from next after block x seen found =
     let at = block_at whole blob from next block seen in
     let read : inner.read block.bytes.now ≡ Ok (shows x, drop after (take next blob)) = ap inner.read (sym at.2) ∙ found.sees in
@@ -154,7 +153,7 @@ enclosed_passed shows lies inner whole inside blob from next after block x seen 
     ap (up_to_inside (read_front (within inside inner)) inner.used (string.used (drop from blob))) at.0
     ∙ ap (λ r. up_to r (string.used (drop from blob)) (4 + inner.used block.bytes.now)) front in
     record {
-      sees = ap (λ r. and_then (map_err (in_part whole) r) (λ first. and_then (read_front (within inside inner) first.0)
+      sees = ap (λ r. and_then (map_err (placed whole) r) (λ first. and_then (read_front (within inside inner) first.0)
           (λ v. Ok (v, first.1)))) at.0
           ∙ ap (λ r. and_then r (λ v. Ok (v, drop next blob))) front;
       placed = (found.placed.0, omega (arith, seen.placed.1, used), seen.placed.2);
@@ -177,10 +176,10 @@ name_placed lies blob end (stucks.Number n) placed = tt
 
 pub enclosed_stopped : {X A : Type 0} (shows : X → A) (lies lies' : X → Type 0) (inner : Grammar Reason A) (whole inside : CertPart)
     (blob : List ℕ) (from next : ℕ) (block : Part) (stuck : Stuck)
-    → SeenIn part_bytes (Lies blob (end_of string blob from)) (the whole string) blob from (Ok (block, next))
+    → SeenAt part_bytes (Lies blob (end_of string blob from)) (at whole string) blob from (Ok (block, next))
     → Seen {X = X} shows lies why_in inner (take next blob) block.at (Err stuck)
-    → SeenIn {X = X} shows lies' (enclosed (in_part whole) (within inside inner)) blob from
-    (Err (record { part = inside; stuck = stuck }))
+    → SeenAt {X = X} shows lies' (enclosed (placed whole) (within inside inner)) blob from
+    (Err (record { place = inside; stuck = stuck }))
 enclosed_stopped {X = X} shows lies lies' inner whole inside blob from next block stuck seen found =
     let at = block_at whole blob from next block seen in
     let why : map_err why_in (inner.read block.bytes.now) ≡ Err (why_of stuck) = ap (λ b. map_err why_in (inner.read b)) (sym at.2) ∙ found.sees in
@@ -192,7 +191,7 @@ enclosed_stopped {X = X} shows lies lies' inner whole inside blob from next bloc
     ≡ from + used_inside (read_front (within inside inner)) inner.used (drop from blob) =
     omega (arith, at.1, used, ap inner.used at.2) in
     record {
-      sees = ap (λ r. and_then (map_err (in_part whole) r) (λ first. and_then (read_front (within inside inner) first.0)
+      sees = ap (λ r. and_then (map_err (placed whole) r) (λ first. and_then (read_front (within inside inner) first.0)
           (λ v. Ok (v, first.1)))) at.0
           ∙ ap (λ r. and_then r (λ v. Ok (v, drop next blob))) front;
       placed = name_of_front lies' blob next

@@ -10,15 +10,17 @@ use Rattle.picky_wire_base.proofs.Solid.{read_shortens}
 use Rattle.picky_wire_base.proofs.Steps.{following, taking_begins, taking_more, taking_ends, taking_refused}
 use Rattle.picky_wire_base.specs.declared.view.Part.{Part}
 use Rattle.picky_wire_base.specs.View.{end_of, part_bytes}
+use Rattle.picky_cert_blob.specs.declared.part.CertPart.{CertPart}
 use Rattle.picky_cert_blob.specs.Reason.{CertReason}
 use Rattle.picky_cert_blob.specs.Used.{used_within, used_row}
-use Rattle.picky_cert_blob.specs.View.{ArePassed, IsPassed, NameLies, SeenIn, reason_of}
+use Rattle.picky_wire_base.specs.View.{SeenAt, reason_of}
+use Rattle.picky_cert_blob.specs.View.{ArePassed, IsPassed, NameLies}
 use Rattle.picky_cert_blob.specs.Items.{principal_item, option_item, extension_item}
 use Rattle.picky_cert_blob.specs.carried.Items.{principal_item_solid, option_item_solid, extension_item_solid}
 use Rattle.picky_cert_blob.specs.Seen.{option_seen, extension_seen}
 use Rattle.picky_cert_blob.specs.declared.kinds.OptionView.{OptionView}
 use Rattle.picky_cert_blob.specs.declared.kinds.ExtensionView.{ExtensionView}
-use Rattle.picky_cert_blob.specs.declared.stopped.Stopped.{Stopped}
+use Rattle.picky_wire_base.specs.declared.stopped.Stopped.{Stopped}
 
 used_nil : {E A : Type 0} (G : Grammar E A) (most : ℕ) → used_within G most [] ≡ 0
 used_nil G zero = refl
@@ -84,7 +86,7 @@ passing_more item solid bytes from at next some so (v, is, end, further, within)
       within = within;
     }
 
-pub passing_stops : {A : Type 0} (item : Grammar CertReason A) (bytes : List ℕ) (from at : ℕ) (stopped : Stopped)
+pub passing_stops : {A : Type 0} (item : Grammar CertReason A) (bytes : List ℕ) (from at : ℕ) (stopped : Stopped CertPart)
     → at < length bytes → Passing item bytes from at → IsPassed item bytes at (Err stopped)
     → ArePassed item bytes from (Err stopped)
 passing_stops item bytes from at stopped some so (is, lies) =
@@ -103,7 +105,7 @@ passing_ends item bytes from at none so =
 -- ---- an item that was seen
 
 passed : {X A : Type 0} (shows : X → A) (lies : X → Type 0) (item : Grammar CertReason A) → Solid item.piece
-    → (block : List ℕ) (from next : ℕ) (x : X) → SeenIn shows lies item block from (Ok (x, next))
+    → (block : List ℕ) (from next : ℕ) (x : X) → SeenAt shows lies item block from (Ok (x, next))
     → IsPassed item block from (Ok next)
 passed shows lies item solid block from next x seen =
     let shorter = read_shortens item solid (drop from block) (shows x) (drop next block) seen.sees in
@@ -111,14 +113,14 @@ passed shows lies item solid block from next x seen =
     (shows x, seen.sees, seen.placed.1, further, seen.placed.2)
 
 pub principal_passed : (lies : Part → Type 0) (block : List ℕ) (from next : ℕ) (x : Part)
-    → SeenIn part_bytes lies principal_item block from (Ok (x, next)) → IsPassed principal_item block from (Ok next)
+    → SeenAt part_bytes lies principal_item block from (Ok (x, next)) → IsPassed principal_item block from (Ok next)
 principal_passed lies block from next x seen = passed part_bytes lies principal_item principal_item_solid block from next x seen
 
 pub option_passed : (block : List ℕ) (from next : ℕ) (x : OptionView)
-    → SeenIn option_seen (λ _. ⊤) option_item block from (Ok (x, next)) → IsPassed option_item block from (Ok next)
+    → SeenAt option_seen (λ _. ⊤) option_item block from (Ok (x, next)) → IsPassed option_item block from (Ok next)
 option_passed block from next x seen = passed option_seen (λ _. ⊤) option_item option_item_solid block from next x seen
 
 pub extension_passed : (block : List ℕ) (from next : ℕ) (x : ExtensionView)
-    → SeenIn extension_seen (λ _. ⊤) extension_item block from (Ok (x, next)) → IsPassed extension_item block from (Ok next)
+    → SeenAt extension_seen (λ _. ⊤) extension_item block from (Ok (x, next)) → IsPassed extension_item block from (Ok next)
 extension_passed block from next x seen =
     passed extension_seen (λ _. ⊤) extension_item extension_item_solid block from next x seen

@@ -8,11 +8,12 @@ use Rattle.picky_cert_parts.specs.declared.extension.SshExtension.{SshExtension}
 use Rattle.picky_cert_parts.specs.CriticalOption.{critical_option}
 use Rattle.picky_cert_parts.specs.Extension.{extension}
 use Rattle.picky_cert_blob.specs.declared.part.CertPart.TheVariants as parts
-use Rattle.picky_cert_blob.specs.Reason.{CertReason, the, option_why, extension_why}
+use Rattle.picky_wire_base.specs.Combine.{at}
+use Rattle.picky_cert_blob.specs.Reason.{CertReason, option_why, extension_why}
 
 -- string principal, which is text
 unfoldable pub principal_item : Grammar CertReason (List ℕ)
-principal_item = the parts.Principals text
+principal_item = at parts.Principals text
 
 -- string name, of a critical option
 -- string data

@@ -21,7 +21,8 @@ use Rattle.picky_cert_parts.specs.NumberTable.{cert_types}
 use Rattle.picky_cert_blob.specs.declared.part.CertPart.TheVariants as parts
 use Rattle.picky_cert_parts.specs.declared.signature.SshSignature.{SshSignature}
 use Rattle.picky_cert_parts.specs.Signature.{signature}
-use Rattle.picky_cert_blob.specs.Reason.{CertReason, in_part, in_signature, the, within}
+use Rattle.picky_wire_base.specs.Combine.{placed, at}
+use Rattle.picky_cert_blob.specs.Reason.{CertReason, in_signature, within}
 use Rattle.picky_cert_blob.specs.Subject.{subject_kind}
 use Rattle.picky_cert_blob.specs.Listed.{enclosed, listed, refuses_all_bytes}
 use Rattle.picky_cert_blob.specs.Items.{principal_item, option_item, extension_item}
@@ -36,13 +37,13 @@ pub record Head : Type 0 where
 
 -- string name, of a type of certificates
 unfoldable pub cert_name : Grammar CertReason SshCertKeyType
-cert_name = narrow (the parts.Name text) (entry (λ name. (parts.Name, Name name)) cert_key_types)
+cert_name = narrow (at parts.Name text) (entry (λ name. (parts.Name, Name name)) cert_key_types)
 
 -- string nonce
 -- the fields of the subject's blob after its name
 unfoldable pub head_for : SshCertKeyType → KeyKind → Grammar CertReason Head
 head_for t kind = do
-  nonce ← the parts.Nonce string
+  nonce ← at parts.Nonce string
   key ← within parts.Subject (public_key_fields kind)
   done (record { cert_key_type = t; nonce = nonce; key = key })
 
@@ -68,18 +69,18 @@ pub record Terms : Type 0 where
 
 -- uint32 type, 1 or 2
 unfoldable pub type_number : Grammar CertReason SshCertType
-type_number = narrow (the parts.CertType uint32) (entry (λ n. (parts.CertType, Number n)) cert_types)
+type_number = narrow (at parts.CertType uint32) (entry (λ n. (parts.CertType, Number n)) cert_types)
 
 -- string valid principals: strings, which are text
 unfoldable pub principals : Grammar CertReason (List (List ℕ))
-principals = listed (in_part parts.Principals) principal_item principal_item_solid
+principals = listed (placed parts.Principals) principal_item principal_item_solid
 
 -- uint64 of seconds
 unfoldable pub valid_after : Grammar CertReason Timestamp
-valid_after = narrow (the parts.After uint64) (each moment)
+valid_after = narrow (at parts.After uint64) (each moment)
 
 unfoldable pub valid_before : Grammar CertReason Timestamp
-valid_before = narrow (the parts.Before uint64) (each moment)
+valid_before = narrow (at parts.Before uint64) (each moment)
 
 -- uint64 serial
 -- uint32 type
@@ -89,9 +90,9 @@ valid_before = narrow (the parts.Before uint64) (each moment)
 -- uint64 valid before
 unfoldable pub terms : Grammar CertReason Terms
 terms = do
-  serial ← the parts.Serial uint64
+  serial ← at parts.Serial uint64
   cert_type ← type_number
-  key_id ← the parts.KeyId text
+  key_id ← at parts.KeyId text
   names ← principals
   after ← valid_after
   before ← valid_before
@@ -106,15 +107,15 @@ pub record Grants : Type 0 where
 
 -- string critical options: each a name and its data
 unfoldable pub critical_options : Grammar CertReason (List SshCriticalOption)
-critical_options = listed (in_part parts.Options) option_item option_item_solid
+critical_options = listed (placed parts.Options) option_item option_item_solid
 
 -- string extensions: each a name and its data
 unfoldable pub extensions : Grammar CertReason (List SshExtension)
-extensions = listed (in_part parts.Extensions) extension_item extension_item_solid
+extensions = listed (placed parts.Extensions) extension_item extension_item_solid
 
 -- string signature key: a public key's blob
 unfoldable pub issuer : Grammar CertReason SshBasePublicKey
-issuer = enclosed (in_part parts.IssuerString) (within parts.Issuer blob)
+issuer = enclosed (placed parts.IssuerString) (within parts.Issuer blob)
 
 -- string critical options
 -- string extensions
@@ -124,7 +125,7 @@ unfoldable pub grants : Grammar CertReason Grants
 grants = do
   options ← critical_options
   more ← extensions
-  reserved ← the parts.Reserved string
+  reserved ← at parts.Reserved string
   key ← issuer
   done (record { options = options; extensions = more; issuer = key })
 

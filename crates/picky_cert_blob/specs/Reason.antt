@@ -14,13 +14,6 @@ use Rattle.picky_cert_blob.specs.declared.part.CertPart.TheVariants as parts
 abbrev pub CertReason : Type 0
 CertReason = CertPart × Why
 
--- a field of a part
-abbrev pub in_part : CertPart → Flaw → CertReason
-in_part part flaw = (part, Flawed flaw)
-
-abbrev pub the : {A : Type 0} → CertPart → Grammar Flaw A → Grammar CertReason A
-the part G = tag (in_part part) G
-
 -- the fields of a key, all in one part
 abbrev pub in_key : CertPart → Reason → CertReason
 in_key part reason = (part, reason.1)

@@ -25,7 +25,7 @@ use Rattle.picky_cert_blob.specs.declared.body.BodyView.{BodyView}
 use Rattle.picky_cert_blob.specs.declared.grants.GrantsView.{GrantsView}
 use Rattle.picky_cert_blob.specs.declared.terms.TermsView.{TermsView}
 use Rattle.picky_cert_blob.specs.declared.part.CertPart.TheVariants as parts
-use Rattle.picky_cert_blob.specs.Reason.{the}
+use Rattle.picky_wire_base.specs.Combine.{at}
 use Rattle.picky_cert_blob.specs.Items.{principal_item, option_item, extension_item}
 use Rattle.picky_cert_blob.specs.View.{AreItems, values_in}
 use Rattle.picky_cert_blob.specs.Layout.{Body, Grants, Head, Terms, cert_name, critical_options, extensions, head, terms, type_number}
@@ -71,7 +71,7 @@ terms_seen view = record {
 
 abbrev pub TermsLie : List ℕ → ℕ → TermsView → Type 0
 TermsLie blob from view =
-    let number_end = end_of type_number blob (end_of (the parts.Serial uint64) blob from) in
+    let number_end = end_of type_number blob (end_of (at parts.Serial uint64) blob from) in
     let key_id_end = end_of text blob number_end in
     Lies blob key_id_end view.key_id × Lies blob (end_of string blob key_id_end) view.principals
 

@@ -13,15 +13,12 @@ use Rattle.picky_cert_blob.specs.declared.grants.GrantsView.{GrantsView}
 use Rattle.picky_cert_blob.specs.declared.head.HeadView.{HeadView}
 use Rattle.picky_cert_blob.specs.declared.part.CertPart.{CertPart}
 use Rattle.picky_cert_blob.specs.declared.signature.SignatureView.{SignatureView}
-use Rattle.picky_cert_blob.specs.declared.stopped.Stopped.{Stopped}
+use Rattle.picky_wire_base.specs.declared.stopped.Stopped.{Stopped}
 use Rattle.picky_cert_blob.specs.declared.terms.TermsView.{TermsView}
 
 -- where a part stands, and its bytes
 abbrev pub Placed : Type 0
 Placed = ℕ × List ℕ
-
-abbrev pub stopped_shown : Stopped → CertPart × (Why × ℕ)
-stopped_shown stopped = (stopped.part, stuck_shown stopped.stuck)
 
 abbrev pub head_shown : HeadView → SshCertKeyType × Placed × (SshBasePublicKey × List ℕ)
 head_shown view = (view.cert_key_type, part_shown view.nonce, view_shown view.key)

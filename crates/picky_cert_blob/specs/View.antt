@@ -6,33 +6,11 @@ use Rattle.picky_wire_base.specs.Row.{read_all}
 use Rattle.picky_wire_base.specs.declared.view.Part.{Part}
 use Rattle.picky_wire_base.specs.declared.view.Stuck.{Stuck}
 use Rattle.picky_wire_base.specs.declared.view.Stuck.TheVariants as stucks
-use Rattle.picky_wire_base.specs.View.{Lies, Places, end_of, why_of}
+use Rattle.picky_wire_base.specs.View.{Lies, end_of, reason_of}
+use Rattle.picky_cert_blob.specs.declared.part.CertPart.{CertPart}
 use Rattle.picky_cert_blob.specs.Reason.{CertReason}
 use Rattle.picky_cert_blob.specs.Used.{used_row}
-use Rattle.picky_cert_blob.specs.declared.stopped.Stopped.{Stopped}
-
--- the layout's reason: the part, and what is wrong there
-abbrev pub reason_of : Stopped → CertReason
-reason_of stopped = (stopped.part, why_of stopped.stuck)
-
-abbrev pub stuck_of : Stopped → Stuck
-stuck_of stopped = stopped.stuck
-
--- what is shown is read before what stands at the next place, or all is refused with that very reason
-abbrev pub SeesBy : {X A : Type 0} → (X → A) → (List ℕ → Result (A × List ℕ) CertReason) → List ℕ → ℕ
-    → Result (X × ℕ) Stopped → Type 0
-SeesBy shows read blob from (Ok (x, next)) = read (drop from blob) ≡ Ok (shows x, drop next blob)
-SeesBy shows read blob from (Err stopped) = read (drop from blob) ≡ Err (reason_of stopped)
-
--- what a call that reads a buffer at a place answers, and the part at which it stops
-pub record SeenBy {X A : Type 0} (shows : X → A) (lies : X → Type 0) (read : List ℕ → Result (A × List ℕ) CertReason)
-    (used : List ℕ → ℕ) (blob : List ℕ) (from : ℕ) (result : Result (X × ℕ) Stopped) : Type 0 where
-  pub sees : SeesBy shows read blob from result
-  pub placed : Places lies blob (from + used (drop from blob)) (map_err stuck_of result)
-
-abbrev pub SeenIn : {X A : Type 0} → (X → A) → (X → Type 0) → Grammar CertReason A → List ℕ → ℕ
-    → Result (X × ℕ) Stopped → Type 0
-SeenIn shows lies layout blob from result = SeenBy shows lies layout.read layout.used blob from result
+use Rattle.picky_wire_base.specs.declared.stopped.Stopped.{Stopped}
 
 -- ---- a row of items
 
@@ -42,7 +20,7 @@ NameLies blob end (stucks.Name name) = Lies blob end name
 NameLies blob end stuck = Unit {0}
 
 -- an item stands there, up to the next place; or none does, for that very reason
-abbrev pub IsPassed : {A : Type 0} → Grammar CertReason A → List ℕ → ℕ → Result ℕ Stopped → Type 0
+abbrev pub IsPassed : {A : Type 0} → Grammar CertReason A → List ℕ → ℕ → Result ℕ (Stopped CertPart) → Type 0
 IsPassed {A = A} item bytes from (Ok next) =
     (v : A) × (item.read (drop from bytes) ≡ Ok (v, drop next bytes)) × (next ≡ end_of item bytes from) × (from < next)
     × (next ≤ length bytes)
@@ -50,7 +28,7 @@ IsPassed item bytes from (Err stopped) =
     (item.read (drop from bytes) ≡ Err (reason_of stopped)) × NameLies bytes (end_of item bytes from) stopped.stuck
 
 -- all of the bytes from a place on are items; or the first place where none stands is refused, for that very reason
-abbrev pub ArePassed : {A : Type 0} → Grammar CertReason A → List ℕ → ℕ → Result Unit Stopped → Type 0
+abbrev pub ArePassed : {A : Type 0} → Grammar CertReason A → List ℕ → ℕ → Result Unit (Stopped CertPart) → Type 0
 ArePassed {A = A} item bytes from (Ok done) = (vs : List A) × (read_all item (drop from bytes) ≡ Ok vs)
 ArePassed item bytes from (Err stopped) =
     (read_all item (drop from bytes) ≡ Err (reason_of stopped))

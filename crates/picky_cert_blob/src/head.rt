@@ -8,15 +8,13 @@ ghost use Rattle.picky_cert_blob.specs.declared.part.CertPart.TheVariants as par
 ghost use Rattle.picky_cert_blob.specs.Layout.{cert_name, head as head_layout, head_for};
 ghost use Rattle.picky_cert_blob.specs.Reason.{within};
 ghost use Rattle.picky_cert_blob.specs.Seen.{head_seen, HeadLies, HeadLiesBehind, type_named, NameLies};
-ghost use Rattle.picky_cert_blob.specs.View.{SeenIn};
+ghost use Rattle.picky_wire_base.specs.View.{SeenAt};
 
-use crate::fields::{string_in, word_in};
 use crate::part::CertPart;
-use crate::stopped::Stopped;
 use crate::subject::subject_kind;
 use picky_cert_parts::SshCertKeyType;
 use picky_keys::{KeyKind, PublicView, fields_at};
-use picky_wire::{Part, Stuck};
+use picky_wire::{Part, Stopped, Stuck, string_in, word_in};
 
 /// Who is certified, as parts of the buffer.
 #[derive(Clone, Copy, Debug, PartialEq, Eq)]
@@ -36,15 +34,18 @@ pub struct NamedType<'a> {
 /// The head of the certificate that stands at a place, and the place after it.
 /// Refuses as `body_at`, at the parts from `Name` to `Subject`.
 #[tactic(auto, unfolding(crate::specs::Layout::head))]
-pub fn head_at<'a>(blob: &'a [u8], from: usize) -> Result<(HeadView<'a>, usize), Stopped<'a>>
+pub fn head_at<'a>(
+    blob: &'a [u8],
+    from: usize,
+) -> Result<(HeadView<'a>, usize), Stopped<'a, CertPart>>
     requires { length blob.now < 2 ^ 32 }
-    ensures { SeenIn head_seen (HeadLies blob.now from) head_layout blob.now from result }
+    ensures { SeenAt head_seen (HeadLies blob.now from) head_layout blob.now from result }
 {
     let (named, next) = type_at(blob, from)?;
     match subject_kind(named.cert_key_type) {
         Some(kind) => head_behind(blob, next, named.cert_key_type, kind),
         None => Err(Stopped {
-            part: CertPart::Name,
+            place: CertPart::Name,
             stuck: Stuck::Name(named.name),
         }),
     }
@@ -52,8 +53,8 @@ pub fn head_at<'a>(blob: &'a [u8], from: usize) -> Result<(HeadView<'a>, usize),
 
 /// The type of certificates whose name stands at a place.
 #[tactic(auto, unfolding(crate::specs::Layout::cert_name), using(crate::proofs::FieldLemmas::type_has_name))]
-fn type_at<'a>(blob: &'a [u8], from: usize) -> Result<(NamedType<'a>, usize), Stopped<'a>>
-    ensures { SeenIn type_named (NameLies blob.now (end_of cert_name blob.now from)) cert_name blob.now from result }
+fn type_at<'a>(blob: &'a [u8], from: usize) -> Result<(NamedType<'a>, usize), Stopped<'a, CertPart>>
+    ensures { SeenAt type_named (NameLies blob.now (end_of cert_name blob.now from)) cert_name blob.now from result }
 {
     let (word, next) = word_in(blob, from, CertPart::Name)?;
     match SshCertKeyType::of_name(word.text) {
@@ -65,7 +66,7 @@ fn type_at<'a>(blob: &'a [u8], from: usize) -> Result<(NamedType<'a>, usize), St
             next,
         )),
         None => Err(Stopped {
-            part: CertPart::Name,
+            place: CertPart::Name,
             stuck: Stuck::Name(word.part),
         }),
     }
@@ -78,9 +79,9 @@ fn head_behind<'a>(
     from: usize,
     cert_key_type: SshCertKeyType,
     kind: KeyKind,
-) -> Result<(HeadView<'a>, usize), Stopped<'a>>
+) -> Result<(HeadView<'a>, usize), Stopped<'a, CertPart>>
     requires { length blob.now < 2 ^ 32 }
-    ensures { SeenIn head_seen (HeadLiesBehind blob.now from) (head_for cert_key_type kind) blob.now from result }
+    ensures { SeenAt head_seen (HeadLiesBehind blob.now from) (head_for cert_key_type kind) blob.now from result }
 {
     let (nonce, next) = string_in(blob, from, CertPart::Nonce)?;
     let (key, next) = subject_at(blob, next, kind)?;
@@ -100,14 +101,14 @@ fn subject_at<'a>(
     blob: &'a [u8],
     from: usize,
     kind: KeyKind,
-) -> Result<(PublicView<'a>, usize), Stopped<'a>>
+) -> Result<(PublicView<'a>, usize), Stopped<'a, CertPart>>
     requires { length blob.now < 2 ^ 32 }
-    ensures { SeenIn key_seen (PartsLie blob.now from) (within parts.Subject (public_key_fields kind)) blob.now from result }
+    ensures { SeenAt key_seen (PartsLie blob.now from) (within parts.Subject (public_key_fields kind)) blob.now from result }
 {
     match fields_at(blob, from, kind) {
         Ok(found) => Ok(found),
         Err(stuck) => Err(Stopped {
-            part: CertPart::Subject,
+            place: CertPart::Subject,
             stuck,
         }),
     }

@@ -2,18 +2,17 @@
 
 ghost use Rattle.std.specs.Prelude.{◌≤◌, IfOk, length};
 ghost use Rattle.picky_wire_base.specs.Grammar.{Grammar};
-ghost use Rattle.picky_wire_base.specs.Many.{read_many};
-ghost use Rattle.picky_wire_base.specs.Row.{Solid, read_all};
+ghost use Rattle.picky_wire_base.specs.Row.{Solid};
 ghost use Rattle.picky_wire_base.specs.Wire.{string};
 ghost use Rattle.picky_wire_base.specs.View.{Lies, end_of};
-ghost use Rattle.picky_cert_blob.specs.Reason.{CertReason, in_part};
-ghost use Rattle.picky_cert_blob.specs.Used.{used_inside, used_row};
-ghost use Rattle.picky_cert_blob.specs.View.{AreItems, ArePassed, IsPassed, SeenBy, values_in};
+ghost use Rattle.picky_wire_base.specs.Combine.{placed};
+ghost use Rattle.picky_cert_blob.specs.Reason.{CertReason};
+ghost use Rattle.picky_cert_blob.specs.Listed.{listed};
+ghost use Rattle.picky_wire_base.specs.View.{SeenAt};
+ghost use Rattle.picky_cert_blob.specs.View.{AreItems, ArePassed, IsPassed, values_in};
 
-use crate::fields::string_in;
 use crate::part::CertPart;
-use crate::stopped::Stopped;
-use picky_wire::Part;
+use picky_wire::{Part, Stopped, string_in};
 
 /// A kind of items of a list.
 pub trait Item {
@@ -23,7 +22,7 @@ pub trait Item {
 
     /// The place after the item that stands at a place.
     /// Refuses at the list's part, in order, by field: `Short`, `NotUtf8`, and for a critical option's name `Name`.
-    fn pass<'a>(bytes: &'a [u8], from: usize) -> Result<usize, Stopped<'a>>
+    fn pass<'a>(bytes: &'a [u8], from: usize) -> Result<usize, Stopped<'a, CertPart>>
         ensures { IsPassed item bytes.now from result };
 
     ghost solid: { Solid item.piece };
@@ -35,9 +34,9 @@ pub fn list_at<'a, I: Item>(
     blob: &'a [u8],
     from: usize,
     part: CertPart,
-) -> Result<(Part<'a>, usize), Stopped<'a>>
-    ensures seen { SeenBy (values_in I.item) (Lies blob.now (end_of string blob.now from)) (read_many (in_part part) I.item)
-        (used_inside (read_all I.item) (used_row I.item)) blob.now from result }
+) -> Result<(Part<'a>, usize), Stopped<'a, CertPart>>
+    ensures seen { (solid : Solid I.item.piece) → SeenAt (values_in I.item) (Lies blob.now (end_of string blob.now from))
+        (listed (placed part) I.item solid) blob.now from result }
     ensures items { IfOk result (λ found. AreItems I.item found.0) }
 {
     let (block, next) = string_in(blob, from, part)?;
@@ -49,7 +48,7 @@ pub fn list_at<'a, I: Item>(
 }
 
 /// Passes the items that stand from a place on, up to the end of the bytes.
-fn pass_items<'a, I: Item>(bytes: &'a [u8], from: usize) -> Result<(), Stopped<'a>>
+fn pass_items<'a, I: Item>(bytes: &'a [u8], from: usize) -> Result<(), Stopped<'a, CertPart>>
     requires { from ≤ length bytes.now }
     ensures { ArePassed I.item bytes.now from result }
 {

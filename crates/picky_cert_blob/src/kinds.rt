@@ -4,14 +4,12 @@ ghost use Rattle.std.specs.Prelude.{⊤};
 ghost use Rattle.picky_cert_blob.specs.Items.{principal_item, option_item, extension_item};
 ghost use Rattle.picky_cert_blob.specs.carried.Items.{principal_item_solid, option_item_solid, extension_item_solid};
 ghost use Rattle.picky_cert_blob.specs.Seen.{extension_seen, option_seen};
-ghost use Rattle.picky_cert_blob.specs.View.{SeenIn};
+ghost use Rattle.picky_wire_base.specs.View.{SeenAt};
 
-use crate::fields::{string_in, text_in, word_in};
 use crate::items::Item;
 use crate::part::CertPart;
-use crate::stopped::Stopped;
 use picky_cert_parts::{SshCriticalOption, SshCriticalOptionType, SshExtension};
-use picky_wire::{Part, Stuck, Text};
+use picky_wire::{Part, Stopped, Stuck, Text, string_in, text_in, word_in};
 
 /// A principal: a text.
 pub struct Principals;
@@ -24,7 +22,7 @@ impl Item for Principals {
     ghost solid = { principal_item_solid };
 
     #[tactic(auto, unfolding(crate::specs::Items::principal_item))]
-    fn pass<'a>(bytes: &'a [u8], from: usize) -> Result<usize, Stopped<'a>> {
+    fn pass<'a>(bytes: &'a [u8], from: usize) -> Result<usize, Stopped<'a, CertPart>> {
         match text_in(bytes, from, CertPart::Principals) {
             Ok((_, next)) => Ok(next),
             Err(stopped) => Err(stopped),
@@ -42,7 +40,7 @@ impl Item for Options {
 
     ghost solid = { option_item_solid };
 
-    fn pass<'a>(bytes: &'a [u8], from: usize) -> Result<usize, Stopped<'a>> {
+    fn pass<'a>(bytes: &'a [u8], from: usize) -> Result<usize, Stopped<'a, CertPart>> {
         match option_at(bytes, from) {
             Ok((_, next)) => Ok(next),
             Err(stopped) => Err(stopped),
@@ -58,8 +56,11 @@ pub struct OptionView<'a> {
 }
 
 #[tactic(auto, unfolding(crate::specs::Items::option_item, picky_cert_parts::specs::CriticalOption::critical_option, picky_cert_parts::specs::CriticalOption::option_type, picky_cert_parts::specs::CriticalOption::option_payload))]
-fn option_at<'a>(bytes: &'a [u8], from: usize) -> Result<(OptionView<'a>, usize), Stopped<'a>>
-    ensures { SeenIn option_seen (λ _. ⊤) option_item bytes.now from result }
+fn option_at<'a>(
+    bytes: &'a [u8],
+    from: usize,
+) -> Result<(OptionView<'a>, usize), Stopped<'a, CertPart>>
+    ensures { SeenAt option_seen (λ _. ⊤) option_item bytes.now from result }
 {
     let (name, next) = word_in(bytes, from, CertPart::Options)?;
     match SshCriticalOptionType::of_name(name.text) {
@@ -74,7 +75,7 @@ fn option_at<'a>(bytes: &'a [u8], from: usize) -> Result<(OptionView<'a>, usize)
             ))
         }
         None => Err(Stopped {
-            part: CertPart::Options,
+            place: CertPart::Options,
             stuck: Stuck::Name(name.part),
         }),
     }
@@ -91,7 +92,7 @@ impl Item for Extensions {
     ghost solid = { extension_item_solid };
 
     #[tactic(auto, using(crate::proofs::RowLemmas::extension_passed))]
-    fn pass<'a>(bytes: &'a [u8], from: usize) -> Result<usize, Stopped<'a>> {
+    fn pass<'a>(bytes: &'a [u8], from: usize) -> Result<usize, Stopped<'a, CertPart>> {
         match extension_at(bytes, from) {
             Ok((_, next)) => Ok(next),
             Err(stopped) => Err(stopped),
@@ -107,8 +108,11 @@ pub struct ExtensionView<'a> {
 }
 
 #[tactic(auto, unfolding(crate::specs::Items::extension_item, picky_cert_parts::specs::Extension::extension, picky_cert_parts::specs::Extension::extension_type, picky_cert_parts::specs::Extension::extension_payload))]
-fn extension_at<'a>(bytes: &'a [u8], from: usize) -> Result<(ExtensionView<'a>, usize), Stopped<'a>>
-    ensures { SeenIn extension_seen (λ _. ⊤) extension_item bytes.now from result }
+fn extension_at<'a>(
+    bytes: &'a [u8],
+    from: usize,
+) -> Result<(ExtensionView<'a>, usize), Stopped<'a, CertPart>>
+    ensures { SeenAt extension_seen (λ _. ⊤) extension_item bytes.now from result }
 {
     let (name, next) = text_in(bytes, from, CertPart::Extensions)?;
     let (payload, next) = string_in(bytes, next, CertPart::Extensions)?;

@@ -14,7 +14,8 @@ ghost use Rattle.picky_cert_parts.specs.Extension.{extension};
 ghost use Rattle.picky_cert_blob.specs.Items.{principal_item, option_item, extension_item};
 ghost use Rattle.picky_cert_blob.specs.Keeps.{FitsSubject, IsBody, IsWellFormed};
 ghost use Rattle.picky_cert_blob.specs.Layout.{Body, body};
-ghost use Rattle.picky_cert_blob.specs.Shown.{body_shown, grants_shown, head_shown, signature_shown, stopped_shown, terms_shown};
+ghost use Rattle.picky_wire_base.specs.View.{stopped_shown};
+ghost use Rattle.picky_cert_blob.specs.Shown.{body_shown, grants_shown, head_shown, signature_shown, terms_shown};
 ghost use Rattle.picky_cert_blob.specs.Spelled.{body_spelled};
 ghost use Rattle.picky_cert_blob.specs.Subject.{fits_subject, subject_kind};
 ghost use Rattle.picky_cert_blob.specs.View.{AreItems, values_in};
@@ -24,8 +25,8 @@ use crate::grants::GrantsView;
 use crate::head::HeadView;
 use crate::part::CertPart;
 use crate::signature::SignatureView;
-use crate::stopped::Stopped;
 use crate::terms::TermsView;
+use picky_wire::Stopped;
 
 /// A block that is items is read as the list of its elements.
 #[tactic(auto, using(crate::proofs::ListLaws::list_laws))]
@@ -72,7 +73,7 @@ pub fn signed_bytes_bind_what_is_said()
 /// Two values are equal exactly where their contents are; of views these are their values and where their parts stand.
 pub fn equality_is_of_contents()
     ensures part { IsEquality ⟦<CertPart as PartialEq>⟧.eq }
-    ensures stopped { IsEqualityOf stopped_shown ⟦<Stopped<'static> as PartialEq>⟧.eq }
+    ensures stopped { IsEqualityOf stopped_shown ⟦<Stopped<'static, CertPart> as PartialEq>⟧.eq }
     ensures head { IsEqualityOf head_shown ⟦<HeadView<'static> as PartialEq>⟧.eq }
     ensures terms { IsEqualityOf terms_shown ⟦<TermsView<'static> as PartialEq>⟧.eq }
     ensures grants { IsEqualityOf grants_shown ⟦<GrantsView<'static> as PartialEq>⟧.eq }

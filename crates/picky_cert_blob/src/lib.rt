@@ -2,7 +2,6 @@
 #![tactic(auto)]
 
 mod body;
-mod fields;
 mod grants;
 mod head;
 mod items;
@@ -10,7 +9,6 @@ mod kinds;
 pub mod laws;
 mod part;
 mod signature;
-mod stopped;
 mod subject;
 mod terms;
 
@@ -19,6 +17,5 @@ pub use grants::GrantsView;
 pub use head::HeadView;
 pub use part::CertPart;
 pub use signature::{SignatureView, signature_at};
-pub use stopped::Stopped;
 pub use subject::{fits_subject, subject_kind};
 pub use terms::TermsView;

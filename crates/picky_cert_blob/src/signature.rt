@@ -5,15 +5,14 @@ ghost use Rattle.picky_wire_base.specs.Numbers.{byte};
 ghost use Rattle.picky_cert_parts.specs.Signature.{signature_format, signature_rest, sk_fields, standard_fields};
 ghost use Rattle.picky_cert_blob.specs.declared.part.CertPart.TheVariants as parts;
 ghost use Rattle.picky_cert_blob.specs.Layout.{signature_part};
-ghost use Rattle.picky_cert_blob.specs.Reason.{in_signature, the};
+ghost use Rattle.picky_wire_base.specs.Combine.{at};
+ghost use Rattle.picky_cert_blob.specs.Reason.{in_signature};
 ghost use Rattle.picky_cert_blob.specs.Seen.{PayloadLies, SignatureLies, signature_seen};
-ghost use Rattle.picky_cert_blob.specs.View.{SeenIn};
+ghost use Rattle.picky_wire_base.specs.View.{SeenAt};
 
-use crate::fields::{string_in, uint32_in, word_in};
 use crate::part::CertPart;
-use crate::stopped::Stopped;
 use picky_cert_parts::SshSignatureFormat;
-use picky_wire::{Part, Stuck, byte_at};
+use picky_wire::{Part, Stopped, Stuck, byte_in, string_in, uint32_in, word_in};
 
 /// A signature whose payload is a part of the buffer, with a hardware key's flags and counter.
 #[derive(Clone, Copy, Debug, PartialEq, Eq)]
@@ -32,8 +31,8 @@ pub struct SignatureView<'a> {
 pub fn signature_at<'a>(
     blob: &'a [u8],
     from: usize,
-) -> Result<(SignatureView<'a>, usize), Stopped<'a>>
-    ensures { SeenIn signature_seen (SignatureLies blob.now from) signature_part blob.now from result }
+) -> Result<(SignatureView<'a>, usize), Stopped<'a, CertPart>>
+    ensures { SeenAt signature_seen (SignatureLies blob.now from) signature_part blob.now from result }
 {
     let (_, next) = uint32_in(blob, from, CertPart::Signature)?;
     let (format, next) = format_at(blob, next)?;
@@ -42,14 +41,17 @@ pub fn signature_at<'a>(
 
 /// The format, by its name.
 #[tactic(auto, unfolding(picky_cert_parts::specs::Signature::signature_format))]
-fn format_at<'a>(blob: &'a [u8], from: usize) -> Result<(SshSignatureFormat, usize), Stopped<'a>>
-    ensures { SeenIn (λ format. format) (λ _. ⊤) (in_signature signature_format) blob.now from result }
+fn format_at<'a>(
+    blob: &'a [u8],
+    from: usize,
+) -> Result<(SshSignatureFormat, usize), Stopped<'a, CertPart>>
+    ensures { SeenAt (λ format. format) (λ _. ⊤) (in_signature signature_format) blob.now from result }
 {
     let (word, next) = word_in(blob, from, CertPart::Signature)?;
     match SshSignatureFormat::of_name(word.text) {
         Some(format) => Ok((format, next)),
         None => Err(Stopped {
-            part: CertPart::Signature,
+            place: CertPart::Signature,
             stuck: Stuck::Name(word.part),
         }),
     }
@@ -60,8 +62,8 @@ fn rest_at<'a>(
     blob: &'a [u8],
     from: usize,
     format: SshSignatureFormat,
-) -> Result<(SignatureView<'a>, usize), Stopped<'a>>
-    ensures { SeenIn signature_seen (PayloadLies blob.now from) (in_signature (signature_rest format)) blob.now from result }
+) -> Result<(SignatureView<'a>, usize), Stopped<'a, CertPart>>
+    ensures { SeenAt signature_seen (PayloadLies blob.now from) (in_signature (signature_rest format)) blob.now from result }
 {
     if format.is_sk() {
         sk_at(blob, from, format)
@@ -76,8 +78,8 @@ fn standard_at<'a>(
     blob: &'a [u8],
     from: usize,
     format: SshSignatureFormat,
-) -> Result<(SignatureView<'a>, usize), Stopped<'a>>
-    ensures { SeenIn signature_seen (PayloadLies blob.now from) (in_signature (standard_fields format)) blob.now from result }
+) -> Result<(SignatureView<'a>, usize), Stopped<'a, CertPart>>
+    ensures { SeenAt signature_seen (PayloadLies blob.now from) (in_signature (standard_fields format)) blob.now from result }
 {
     let (payload, next) = string_in(blob, from, CertPart::Signature)?;
     Ok((
@@ -96,11 +98,11 @@ fn sk_at<'a>(
     blob: &'a [u8],
     from: usize,
     format: SshSignatureFormat,
-) -> Result<(SignatureView<'a>, usize), Stopped<'a>>
-    ensures { SeenIn signature_seen (PayloadLies blob.now from) (in_signature (sk_fields format)) blob.now from result }
+) -> Result<(SignatureView<'a>, usize), Stopped<'a, CertPart>>
+    ensures { SeenAt signature_seen (PayloadLies blob.now from) (in_signature (sk_fields format)) blob.now from result }
 {
     let (payload, next) = string_in(blob, from, CertPart::Signature)?;
-    let (flags, next) = flags_at(blob, next)?;
+    let (flags, next) = byte_in(blob, next, CertPart::Signature)?;
     let (counter, next) = uint32_in(blob, next, CertPart::Signature)?;
     Ok((
         SignatureView {
@@ -110,16 +112,4 @@ fn sk_at<'a>(
         },
         next,
     ))
-}
-
-fn flags_at<'a>(blob: &'a [u8], from: usize) -> Result<(u8, usize), Stopped<'a>>
-    ensures { SeenIn (λ n. n) (λ _. ⊤) (the parts.Signature byte) blob.now from result }
-{
-    match byte_at(blob, from) {
-        Ok(found) => Ok(found),
-        Err(stuck) => Err(Stopped {
-            part: CertPart::Signature,
-            stuck,
-        }),
-    }
 }

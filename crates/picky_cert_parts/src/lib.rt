@@ -1,4 +1,5 @@
-//! The parts of OpenSSH's certificates: their types, critical options, extensions and signatures (PROTOCOL.certkeys).
+//! The parts of OpenSSH's certificates: their names, types, critical options, extensions and signatures, and the errors of
+//! each (PROTOCOL.certkeys).
 #![tactic(auto)]
 
 mod cert_key_type;

@@ -1,4 +1,5 @@
-//! SSH public keys: their blobs, their lines and their fingerprints (RFC 4253, section 6.6; sshd(8)).
+//! SSH public keys: their kinds and names, their blobs, lines and fingerprints, and the lines that a source gives one after
+//! another (RFC 4253, section 6.6; sshd(8)).
 #![tactic(auto)]
 
 mod algorithm;

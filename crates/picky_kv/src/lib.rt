@@ -1,4 +1,5 @@
-//! The lines of PuTTY's private key files, typed (PuTTY's manual, Appendix C, "PPK file format").
+//! The lines and blocks of PuTTY's private key files, typed, read and written (PuTTY's manual, Appendix C, "PPK file
+//! format").
 #![tactic(auto)]
 
 mod algorithm;

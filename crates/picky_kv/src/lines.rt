@@ -1,25 +1,23 @@
 //! What a line and a block of a PuTTY private key file are written as.
 
-ghost use Rattle.std.specs.Prelude.{◌≡◌, [], ◌∷◌, length, OnOk};
+ghost use Rattle.std.specs.Prelude.{◌≡◌, [], ◌∷◌, length, OnErr, OnOk};
 ghost use Rattle.std.specs.Str.{IsAscii};
-ghost use Rattle.picky_text.specs.Appended.{AppendsAll};
+ghost use Rattle.picky_text.specs.Appended.{AppendsAll, AppendsFront};
 ghost use Rattle.picky_text.specs.Lines.{text_of};
 ghost use Rattle.picky_text.specs.Rows.{rows_of};
 ghost use Rattle.picky_kv.specs.Output.{pair_line, block_lines};
 
 use crate::literals::SEPARATOR;
-use picky_text::{LineEnd, push_rows};
+use picky_text::{LINE_LEN, LineEnd, push_rows};
 use std::alloc::{AllocError, Global};
-
-/// How many characters a line of a block has.
-pub const LINE_LEN: usize = 64;
 
 /// The most lines that a block can have.
 pub const MAX_LINE_COUNT: usize = 65535;
 
-/// Appends the line of the key and the value. Refuses: want of memory.
+/// Appends the line of the key and the value; on an error, a front of that. Refuses: want of memory.
 pub fn push_line(out: &mut String, key: &str, value: &str, end: LineEnd) -> Result<(), AllocError>
-    ensures { OnOk result (AppendsAll out.old out.new (text_of end (pair_line key.now value.now ∷ []))) }
+    ensures ok { OnOk result (AppendsAll out.old out.new (text_of end (pair_line key.now value.now ∷ []))) }
+    ensures err { OnErr result (AppendsFront out.old out.new (text_of end (pair_line key.now value.now ∷ []))) }
 {
     out.push_str(key)?;
     out.push_str(SEPARATOR)?;
@@ -28,7 +26,8 @@ pub fn push_line(out: &mut String, key: &str, value: &str, end: LineEnd) -> Resu
     Ok(())
 }
 
-/// Appends a block, however long: the line of the key and the count, and the text in lines of 64. Refuses: want of memory.
+/// Appends a block, however long: the line of the key and the count, and the text in lines of 64; on an error, a front of
+/// that. Refuses: want of memory.
 pub fn push_block(
     alloc: Global,
     out: &mut String,
@@ -37,7 +36,8 @@ pub fn push_block(
     end: LineEnd,
 ) -> Result<(), AllocError>
     requires ascii { IsAscii text.now }
-    ensures { OnOk result (AppendsAll out.old out.new (text_of end (block_lines key.now text.now))) }
+    ensures ok { OnOk result (AppendsAll out.old out.new (text_of end (block_lines key.now text.now))) }
+    ensures err { OnErr result (AppendsFront out.old out.new (text_of end (block_lines key.now text.now))) }
 {
     let count = format!(in alloc; "{}", line_count(text))?;
     push_line(out, key, count.as_str(), end)?;

@@ -66,7 +66,7 @@ abbrev pub word_of : {A : Type 0} → LiteralRow A → Field A → (one : A) →
 word_of row field one only = record { row = row; field = field; one = one; only = only }
 
 -- this literal alone stands for the value, and is what is written and expected
-pub record IsWord {A : Type 0} (word : Word A) (literal : List ℕ) : Type 0 where
+pub record IsLiteralOf {A : Type 0} (word : Word A) (literal : List ℕ) : Type 0 where
   pub reads : (text : List ℕ)
       → word.field.meaning text ≡ value_named (λ _. literal) (word.one ∷ []) text
   pub gives : (v : A) → word.field.is_big v ≡ false

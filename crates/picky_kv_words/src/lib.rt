@@ -1,5 +1,5 @@
-//! The fixed words of PuTTY's private key files, typed: the keys of the lines, the version, the
-//! encryption and Argon2's flavour (PuTTY's manual, Appendix C, "PPK file format").
+//! The words and values of PuTTY's private key files, typed: the keys of the lines, the version, the encryption, Argon2's
+//! flavour, comments, base64 and hex (PuTTY's manual, Appendix C, "PPK file format").
 #![tactic(auto)]
 
 mod argon2_keys;

@@ -1,7 +1,7 @@
 //! Types of one literal: each says its two texts, and how it is read and written follows.
 
 ghost use Rattle.std.specs.Prelude.{◌≡◌, ◌^◌, ◌<◌, length};
-ghost use Rattle.picky_kv_words.specs.Literal.{Word, IsWord};
+ghost use Rattle.picky_kv_words.specs.Literal.{Word, IsLiteralOf};
 
 use crate::error::PpkValueError;
 use crate::field::{PpkField, PpkLiteral, PpkSingle, refused};
@@ -32,7 +32,7 @@ pub trait PpkWord: Default + Drop {
 
     /// The literal, and the type's name.
     fn texts() -> WordTexts
-        ensures literal { IsWord word result.literal.now }
+        ensures literal { IsLiteralOf word result.literal.now }
         ensures name { result.name.now ≡ word.row.name }
         ensures short { (length result.literal.now < 2 ^ 32) × (length result.name.now < 2 ^ 32) };
 }

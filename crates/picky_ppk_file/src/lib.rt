@@ -1,5 +1,6 @@
 //! PuTTY's private key files, line by line (PuTTY's manual, Appendix C, "PPK file format"): which fields a text has, and
-//! which text is written for them. What a MAC or a sealed block holds is judged by the crates above.
+//! which text is written for them; and PuTTY's public key files (RFC 4716). What a MAC or a sealed block holds is judged by
+//! the crates above.
 #![tactic(auto)]
 
 mod file;

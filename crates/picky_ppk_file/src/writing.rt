@@ -17,13 +17,13 @@ ghost use Rattle.picky_ppk_file.specs.Written.{sealing_lines, fits_block, writte
 
 use crate::file::{PpkFile, PpkSealing};
 use picky_kv::PpkLiteral;
-use picky_kv::lines::{LINE_LEN, MAX_LINE_COUNT, push_block, push_line};
+use picky_kv::lines::{MAX_LINE_COUNT, push_block, push_line};
 use picky_kv::literals::{
     ARGON2_MEMORY, ARGON2_PARALLELISM, ARGON2_PASSES, ARGON2_SALT, COMMENT, ENCRYPTION,
     KEY_DERIVATION, PRIVATE_LINES, PRIVATE_MAC, PUBLIC_LINES,
 };
 use picky_ppk_parts::{Argon2Params, PpkVersion, PuttyError};
-use picky_text::{LineEnd, encode};
+use picky_text::{LINE_LEN, LineEnd, encode};
 use picky_wire::{MAX_LEN, Text};
 use std::alloc::{AllocError, Global};
 

@@ -10,12 +10,13 @@ use Rattle.picky_wire_base.specs.carried.Outcome.{map_err_ok}
 use Rattle.picky_wire_base.specs.View.{Sees, why_in}
 use Rattle.picky_sshkey_blob.specs.declared.key.SshBasePrivateKey.{SshBasePrivateKey}
 use Rattle.picky_sshkey_blob.specs.declared.view.PrivateView.{PrivateView}
-use Rattle.picky_sshkey_blob.specs.declared.view.Stopped.{Stopped}
+use Rattle.picky_wire_base.specs.declared.stopped.Stopped.{Stopped}
 use Rattle.picky_sshkey_blob.specs.Key.{IsPrivateKey}
 use Rattle.picky_sshkey_blob.specs.Blob.{secret, secret_of}
 use Rattle.picky_sshkey_blob.specs.BlobRefusal.{private_error, read_secret, refused_place}
 use Rattle.picky_sshkey_blob.specs.carried.Blob.{secret_spells}
-use Rattle.picky_sshkey_blob.specs.View.{key_seen, SeesAt, answer_of}
+use Rattle.picky_wire_base.specs.View.{SeesAt}
+use Rattle.picky_sshkey_blob.specs.View.{key_seen, answer_of}
 use Rattle.picky_sshkey_blob.proofs.KeyLaws.{spelled_is_key}
 
 -- What is read in front is spelled there.
@@ -44,7 +45,7 @@ read_is_key bytes key rest each read =
     spelled_is_key key fits.0 (bytes_in_front fits.0 rest (subst IsBytes fits.2 each)) fits.1
 
 -- A view answers as the reader does.
-pub view_reads : (bytes : List ℕ) (from : ℕ) (r : Result (PrivateView × ℕ) Stopped)
+pub view_reads : (bytes : List ℕ) (from : ℕ) (r : Result (PrivateView × ℕ) (Stopped ℕ))
     → SeesAt key_seen secret bytes from r → read_secret (drop from bytes) ≡ answer_of bytes r
 unfolding read_secret
 view_reads bytes from (Ok (view, next)) sees = ap (map_err private_error) sees

@@ -23,13 +23,14 @@ use Rattle.picky_keys.specs.Key.{IsText}
 use Rattle.picky_keys.specs.Blob.{key_type, ed_key}
 use Rattle.picky_keys.proofs.KeyLaws.{text_keeps}
 use Rattle.picky_sshkey_blob.specs.declared.view.PrivateView.{PrivateView}
-use Rattle.picky_sshkey_blob.specs.declared.view.Stopped.{Stopped}
+use Rattle.picky_wire_base.specs.declared.stopped.Stopped.{Stopped}
 use Rattle.picky_sshkey_blob.specs.Key.{IsPrivateKey}
 use Rattle.picky_sshkey_blob.specs.Copy.{before_copy}
 use Rattle.picky_sshkey_blob.specs.carried.Before.{before_complete}
 use Rattle.picky_sshkey_blob.specs.Blob.{ed_secret}
 use Rattle.picky_sshkey_blob.specs.Blob.{private_key_fields, secret}
-use Rattle.picky_sshkey_blob.specs.View.{key_seen, PartsLie, SeenAt, NamesText, IsRefusal}
+use Rattle.picky_wire_base.specs.View.{SeenAt}
+use Rattle.picky_sshkey_blob.specs.View.{key_seen, PartsLie, NamesText, IsRefusal}
 use Rattle.picky_sshkey_blob.proofs.KeyLaws.{spelled_is_key}
 use Rattle.picky_sshkey_blob.proofs.NoNameLemmas.{fields_no_name}
 use Rattle.picky_sshkey_blob.proofs.RefusedLemmas.{RefusesAs, and_then_err, narrow_refuses}
@@ -62,7 +63,7 @@ at_place i (Err e) why place is =
 -- a view that is stuck at such a field is stopped there
 stopped_at : {X A : Type 0} (shows : X → A) (lies : X → Type 0) (layout : Grammar Reason A) (i from : ℕ) (blob : List ℕ)
     (stuck : Stuck) → RefusesAs (IsField i) layout.read → Seen shows lies why_in layout blob from (Err stuck)
-    → SeenAt shows lies layout blob from (Err (record { field = i; stuck = stuck }))
+    → SeenAt shows lies layout blob from (Err (record { place = i; stuck = stuck }))
 stopped_at shows lies layout i from blob stuck place seen = record {
   sees = at_place i (layout.read (drop from blob)) (why_of stuck) (place (drop from blob)) seen.sees;
   placed = seen.placed;
@@ -71,13 +72,13 @@ stopped_at shows lies layout i from blob stuck place seen = record {
 -- the name is field 0
 pub kind_stopped : (from : ℕ) (blob : List ℕ) (stuck : Stuck)
     → Seen {X = KeyKind} (λ kind. kind) (λ _. ⊤) why_in key_type blob from (Err stuck)
-    → SeenAt {X = KeyKind} (λ kind. kind) (λ _. ⊤) key_type blob from (Err (record { field = 0; stuck = stuck }))
+    → SeenAt {X = KeyKind} (λ kind. kind) (λ _. ⊤) key_type blob from (Err (record { place = 0; stuck = stuck }))
 kind_stopped from blob stuck seen = stopped_at {X = KeyKind} (λ kind. kind) (λ _. ⊤) key_type 0 from blob stuck key_type_place seen
 
 -- and a public key of Ed25519 is field 1
 pub ed_key_stopped : (from : ℕ) (blob : List ℕ) (stuck : Stuck)
     → Seen part_bytes (Lies blob (end_of (ed_key 1) blob from)) why_in (ed_key 1) blob from (Err stuck)
-    → SeenAt part_bytes (Lies blob (end_of (ed_key 1) blob from)) (ed_key 1) blob from (Err (record { field = 1; stuck = stuck }))
+    → SeenAt part_bytes (Lies blob (end_of (ed_key 1) blob from)) (ed_key 1) blob from (Err (record { place = 1; stuck = stuck }))
 ed_key_stopped from blob stuck seen =
     stopped_at part_bytes (Lies blob (end_of (ed_key 1) blob from)) (ed_key 1) 1 from blob stuck ed_key_is_first seen
 
@@ -112,7 +113,7 @@ secret_lies blob public end both part lies long place is copy len =
 
 -- the secret is what stands before the copy
 pub secret_seen : (from next : ℕ) (blob public : List ℕ) (both part : Part)
-    → SeenAt part_bytes (Lies blob (end_of string blob from)) (at 2 string) blob from (Ok (both, next))
+    → SeenAt {P = ℕ} part_bytes (Lies blob (end_of string blob from)) (at 2 string) blob from (Ok (both, next))
     → 32 ≤ length both.bytes.now → part.at ≡ both.at → part.bytes.now ≡ take 32 both.bytes.now
     → drop 32 both.bytes.now ≡ public → length public ≡ 32
     → SeenAt part_bytes (Lies blob (end_of string blob from - 32)) (ed_secret public) blob from (Ok (part, next))
@@ -170,7 +171,7 @@ stuck_names_text bytes i stucks.Length each refused = tt
 stuck_names_text bytes i (stucks.Number n) each refused = tt
 
 -- what is seen in bytes is a key
-pub seen_is_key : (bytes : List ℕ) (from : ℕ) (r : Result (PrivateView × ℕ) Stopped) → IsBytes bytes
+pub seen_is_key : (bytes : List ℕ) (from : ℕ) (r : Result (PrivateView × ℕ) (Stopped ℕ)) → IsBytes bytes
     → SeenAt key_seen (PartsLie bytes (end_of key_type bytes from)) secret bytes from r
     → IfOk r (λ found. IsPrivateKey (key_seen found.0))
 seen_is_key bytes from (Ok (view, next)) each seen =
@@ -180,10 +181,10 @@ seen_is_key bytes from (Ok (view, next)) each seen =
 seen_is_key bytes from (Err stopped) each seen = tt
 
 -- what stops a view has a name that is text, where it has one
-pub seen_is_refusal : (bytes : List ℕ) (from : ℕ) (r : Result (PrivateView × ℕ) Stopped) → IsBytes bytes
+pub seen_is_refusal : (bytes : List ℕ) (from : ℕ) (r : Result (PrivateView × ℕ) (Stopped ℕ)) → IsBytes bytes
     → SeenAt key_seen (PartsLie bytes (end_of key_type bytes from)) secret bytes from r → IfErr r IsRefusal
 seen_is_refusal bytes from (Ok found) each seen = tt
 seen_is_refusal bytes from (Err stopped) each seen =
-    stuck_names_text (drop from bytes) stopped.field stopped.stuck (back_bytes from bytes each) seen.sees
+    stuck_names_text (drop from bytes) stopped.place stopped.stuck (back_bytes from bytes each) seen.sees
 
 pub ruleset seen_keeps = (seen_is_key, seen_is_refusal)

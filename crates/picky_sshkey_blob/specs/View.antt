@@ -8,7 +8,7 @@ use Rattle.picky_wire_base.specs.Numbers.{byte}
 use Rattle.picky_wire_base.specs.Mpint.{mpint}
 use Rattle.picky_wire_base.specs.declared.view.Stuck.{Stuck}
 use Rattle.picky_wire_base.specs.declared.view.Stuck.TheVariants as stucks
-use Rattle.picky_wire_base.specs.View.{Lies, Places, end_of, stuck_shown, why_of}
+use Rattle.picky_wire_base.specs.View.{Lies, Places, end_of, stuck_shown, why_of, reason_of}
 use Rattle.picky_keys.specs.Key.{IsText}
 use Rattle.picky_keys.specs.Blob.{ed_key}
 use Rattle.picky_sshkey_blob.specs.declared.key.SshBasePrivateKey.{SshBasePrivateKey}
@@ -17,7 +17,7 @@ use Rattle.picky_sshkey_blob.specs.declared.error.SshPrivateKeyError.{SshPrivate
 use Rattle.picky_sshkey_blob.specs.BlobRefusal.{private_error}
 use Rattle.picky_sshkey_blob.specs.declared.view.PrivateView.{PrivateView}
 use Rattle.picky_sshkey_blob.specs.declared.view.PrivateView.TheVariants as views
-use Rattle.picky_sshkey_blob.specs.declared.view.Stopped.{Stopped}
+use Rattle.picky_wire_base.specs.declared.stopped.Stopped.{Stopped}
 
 -- the key that the parts make
 abbrev pub key_seen : PrivateView → SshBasePrivateKey
@@ -71,38 +71,15 @@ view_shown (views.SkEd25519 key application flags handle) =
 
 -- ---- a field that doesn't fit
 
--- the layout's reason: the field, and what is wrong there
-abbrev pub reason_of : Stopped → Reason
-reason_of stopped = (stopped.field, why_of stopped.stuck)
-
--- what a stop shows
-abbrev pub stopped_shown : Stopped → ℕ × Why × ℕ
-stopped_shown stopped = (stopped.field, (stuck_shown stopped.stuck).0, (stuck_shown stopped.stuck).1)
-
--- what is wrong there, without the field
-abbrev pub stuck_of : Stopped → Stuck
-stuck_of stopped = stopped.stuck
-
--- the layout reads what is shown before what stands at the next place, or refuses with that very reason
-abbrev pub SeesAt : {X A : Type 0} → (X → A) → Grammar Reason A → List ℕ → ℕ → Result (X × ℕ) Stopped → Type 0
-SeesAt shows layout blob from (Ok (x, next)) = layout.read (drop from blob) ≡ Ok (shows x, drop next blob)
-SeesAt shows layout blob from (Err stopped) = layout.read (drop from blob) ≡ Err (reason_of stopped)
-
--- what a call that reads a buffer at a place answers, and the field at which it stops
-pub record SeenAt {X A : Type 0} (shows : X → A) (lies : X → Type 0) (layout : Grammar Reason A)
-    (blob : List ℕ) (from : ℕ) (result : Result (X × ℕ) Stopped) : Type 0 where
-  pub sees : SeesAt shows layout blob from result
-  pub placed : Places lies blob (end_of layout blob from) (map_err stuck_of result)
-
 -- a name that is refused is text
 abbrev pub NamesText : Stuck → Type 0
 NamesText (stucks.Name name) = IsText name.bytes.now
 NamesText stuck = Unit {0}
 
-abbrev pub IsRefusal : Stopped → Type 0
+abbrev pub IsRefusal : Stopped ℕ → Type 0
 IsRefusal stopped = NamesText stopped.stuck
 
 -- what the reader answers where a view answers this
-abbrev pub answer_of : List ℕ → Result (PrivateView × ℕ) Stopped → Result (SshBasePrivateKey × List ℕ) SshPrivateKeyError
+abbrev pub answer_of : List ℕ → Result (PrivateView × ℕ) (Stopped ℕ) → Result (SshBasePrivateKey × List ℕ) SshPrivateKeyError
 answer_of blob (Ok (view, next)) = Ok (key_seen view, drop next blob)
 answer_of blob (Err stopped) = Err (private_error (reason_of stopped))

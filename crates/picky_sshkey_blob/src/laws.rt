@@ -10,16 +10,18 @@ ghost use Rattle.picky_wire_base.specs.Equality.{IsEquality, IsEqualityOf};
 ghost use Rattle.picky_keys.specs.Key.{IsKey};
 ghost use Rattle.picky_sshkey_blob.specs.declared.key.SshBasePrivateKey.{SshBasePrivateKey as BaseKey};
 ghost use Rattle.picky_sshkey_blob.specs.declared.view.PrivateView.{PrivateView as View};
-ghost use Rattle.picky_sshkey_blob.specs.declared.view.Stopped.{Stopped as Stop};
+ghost use Rattle.picky_wire_base.specs.declared.stopped.Stopped.{Stopped as Stop};
 ghost use Rattle.picky_sshkey_blob.specs.Key.{IsPrivateKey, public_part};
 ghost use Rattle.picky_sshkey_blob.specs.Blob.{secret, secret_of};
 ghost use Rattle.picky_sshkey_blob.specs.BlobRefusal.{private_error, read_secret, refused_place};
 ghost use Rattle.picky_sshkey_blob.specs.SecretSpelled.{SecretSpelled};
-ghost use Rattle.picky_sshkey_blob.specs.View.{SeesAt, key_seen, view_shown, stopped_shown, answer_of};
+ghost use Rattle.picky_wire_base.specs.View.{SeesAt, stopped_shown};
+ghost use Rattle.picky_sshkey_blob.specs.View.{key_seen, view_shown, answer_of};
 
 use crate::error::SshPrivateKeyError;
 use crate::key::SshBasePrivateKey;
-use crate::view::{PrivateView, Stopped};
+use crate::view::PrivateView;
+use picky_wire::Stopped;
 
 /// A blob that is written is read back, and exactly what follows it is left.
 #[tactic(auto, using(crate::proofs::LawLemmas::secret_laws))]
@@ -42,7 +44,7 @@ pub fn secret_is_read_where_it_is_spelled()
 /// `at` is of `private_at`; `read` of `PrivateView::read`, and with `stuck_at` `stuck`.
 #[tactic(auto, using(crate::proofs::LawLemmas::secret_laws))]
 pub fn view_is_the_reader()
-    ensures at { (bytes : List ℕ) (from : ℕ) (r : Result (View × ℕ) Stop)
+    ensures at { (bytes : List ℕ) (from : ℕ) (r : Result (View × ℕ) (Stop ℕ))
         → SeesAt key_seen secret bytes from r → read_secret (drop from bytes) ≡ answer_of bytes r }
     ensures read { (bytes : List ℕ) (view : View) (next : ℕ)
         → Sees key_seen why_in secret bytes 0 (Ok (view, next)) → read_secret bytes ≡ Ok (key_seen view, drop next bytes) }
@@ -61,5 +63,5 @@ pub fn equality_is_of_contents()
     ensures key { IsEquality ⟦<SshBasePrivateKey as PartialEq>⟧.eq }
     ensures error { IsEquality ⟦<SshPrivateKeyError as PartialEq>⟧.eq }
     ensures view { IsEqualityOf view_shown ⟦<PrivateView<'static> as PartialEq>⟧.eq }
-    ensures stopped { IsEqualityOf stopped_shown ⟦<Stopped<'static> as PartialEq>⟧.eq }
+    ensures stopped { IsEqualityOf stopped_shown ⟦<Stopped<'static, usize> as PartialEq>⟧.eq }
 {}

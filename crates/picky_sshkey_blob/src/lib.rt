@@ -1,4 +1,5 @@
-//! The blobs of SSH private keys: read, seen in a buffer and written (OpenSSH's PROTOCOL.key and PROTOCOL.u2f).
+//! The blobs of SSH private keys: read, seen in a buffer and written; and the armour of a private key file (OpenSSH's
+//! PROTOCOL.key and PROTOCOL.u2f; RFC 7468).
 #![tactic(auto)]
 
 mod blob;
@@ -21,5 +22,5 @@ pub use pem::{Pem, parse_pem, pem_text, pem_text_len};
 pub use pem_error::PemError;
 pub use pieces::secret_pieces;
 pub use refuse::private_view_refusal;
-pub use view::{PrivateView, Stopped};
+pub use view::PrivateView;
 pub use view_read::private_at;

@@ -2,15 +2,15 @@
 
 ghost use Rattle.std.specs.Prelude.{◌≡◌, ◌⊎◌};
 ghost use Rattle.picky_sshkey_blob.specs.BlobRefusal.{private_error};
-ghost use Rattle.picky_sshkey_blob.specs.View.{reason_of, IsRefusal};
+ghost use Rattle.picky_wire_base.specs.View.{reason_of};
+ghost use Rattle.picky_sshkey_blob.specs.View.{IsRefusal};
 
 use crate::error::SshPrivateKeyError;
-use crate::view::Stopped;
-use picky_wire::{IoKind, NoMemory, Stuck};
+use picky_wire::{IoKind, NoMemory, Stopped, Stuck};
 use std::alloc::Global;
 
 /// The error of the reader where a view is stopped, with a copy of a refused name, or `NoMemory`.
-pub fn private_view_refusal(alloc: Global, stopped: &Stopped<'_>) -> SshPrivateKeyError
+pub fn private_view_refusal(alloc: Global, stopped: &Stopped<'_, usize>) -> SshPrivateKeyError
     requires { IsRefusal stopped.now }
     ensures { (result ≡ private_error (reason_of stopped.now)) ⊎ (result ≡ SshPrivateKeyError.NoMemory) }
 {
@@ -21,7 +21,7 @@ pub fn private_view_refusal(alloc: Global, stopped: &Stopped<'_>) -> SshPrivateK
             Ok(name) => SshPrivateKeyError::UnsupportedKeyType(name),
             Err(NoMemory) => SshPrivateKeyError::NoMemory,
         },
-        Stuck::Length if stopped.field == 2 => SshPrivateKeyError::InvalidKeyFormat,
+        Stuck::Length if stopped.place == 2 => SshPrivateKeyError::InvalidKeyFormat,
         Stuck::Length | Stuck::Number(_) => SshPrivateKeyError::KeyError,
     }
 }

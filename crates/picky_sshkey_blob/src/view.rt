@@ -48,13 +48,6 @@ pub enum PrivateView<'a> {
     },
 }
 
-/// The number of the field at which a blob is stuck, and why. The name's number is 0.
-#[derive(Clone, Copy, Debug, PartialEq, Eq)]
-pub struct Stopped<'a> {
-    pub field: usize,
-    pub stuck: Stuck<'a>,
-}
-
 impl<'a> PrivateView<'a> {
     /// The view of the blob that the bytes begin with, and how many bytes it takes.
     ///
@@ -77,7 +70,7 @@ impl<'a> PrivateView<'a> {
     {
         match private_at(blob, 0) {
             Ok(_) => None,
-            Err(stopped) => Some(stopped.field),
+            Err(stopped) => Some(stopped.place),
         }
     }
 

@@ -8,11 +8,10 @@ ghost use Rattle.picky_wire_base.specs.Mpint.{mpint};
 ghost use Rattle.picky_wire_base.specs.View.{Lies, end_of, part_bytes};
 ghost use Rattle.picky_keys.specs.Blob.{key_type, ed_key};
 ghost use Rattle.picky_sshkey_blob.specs.Blob.{ed_secret};
-ghost use Rattle.picky_sshkey_blob.specs.View.{SeenAt};
+ghost use Rattle.picky_wire_base.specs.View.{SeenAt};
 
-use crate::view::Stopped;
 use picky_keys::{KeyKind, ed_key_at, kind_at};
-use picky_wire::{Part, Stuck, byte_at, mpint_at, string_at, text_at};
+use picky_wire::{Part, Stopped, Stuck, string_in};
 
 /// How long the secret of Ed25519 is.
 const SECRET_LEN: usize = 32;
@@ -20,76 +19,23 @@ const SECRET_LEN: usize = 32;
 /// The name of a key type, which is field 0, as the kind that it stands for.
 /// Refuses, in order: `Short`, `NotUtf8`, `Name`.
 #[tactic(auto, using(crate::proofs::ViewLemmas::kind_stopped))]
-pub fn kind_in<'a>(blob: &'a [u8], from: usize) -> Result<(KeyKind, usize), Stopped<'a>>
+pub fn kind_in<'a>(blob: &'a [u8], from: usize) -> Result<(KeyKind, usize), Stopped<'a, usize>>
     ensures { SeenAt (λ kind. kind) (λ _. ⊤) key_type blob.now from result }
 {
     match kind_at(blob, from) {
         Ok(found) => Ok(found),
-        Err(stuck) => Err(Stopped { field: 0, stuck }),
-    }
-}
-
-/// A number. Refuses at the field: `Short`.
-pub fn mpint_in<'a>(
-    blob: &'a [u8],
-    from: usize,
-    field: usize,
-) -> Result<(Part<'a>, usize), Stopped<'a>>
-    requires { length blob.now < 2 ^ 32 }
-    ensures { SeenAt part_bytes (Lies blob.now (end_of mpint blob.now from)) (at field mpint) blob.now from result }
-{
-    match mpint_at(blob, from) {
-        Ok(found) => Ok(found),
-        Err(stuck) => Err(Stopped { field, stuck }),
-    }
-}
-
-/// A string's bytes. Refuses at the field: `Short`.
-pub fn string_in<'a>(
-    blob: &'a [u8],
-    from: usize,
-    field: usize,
-) -> Result<(Part<'a>, usize), Stopped<'a>>
-    ensures { SeenAt part_bytes (Lies blob.now (end_of string blob.now from)) (at field string) blob.now from result }
-{
-    match string_at(blob, from) {
-        Ok(found) => Ok(found),
-        Err(stuck) => Err(Stopped { field, stuck }),
-    }
-}
-
-/// A string's bytes, which are UTF-8. Refuses at the field, in order: `Short`, `NotUtf8`.
-pub fn text_in<'a>(
-    blob: &'a [u8],
-    from: usize,
-    field: usize,
-) -> Result<(Part<'a>, usize), Stopped<'a>>
-    ensures { SeenAt part_bytes (Lies blob.now (end_of text blob.now from)) (at field text) blob.now from result }
-{
-    match text_at(blob, from) {
-        Ok(found) => Ok(found),
-        Err(stuck) => Err(Stopped { field, stuck }),
-    }
-}
-
-/// The flags of a hardware key, one byte. Refuses at the field: `Short`.
-pub fn flags_in<'a>(blob: &'a [u8], from: usize, field: usize) -> Result<(u8, usize), Stopped<'a>>
-    ensures { SeenAt (λ n. n) (λ _. ⊤) (at field byte) blob.now from result }
-{
-    match byte_at(blob, from) {
-        Ok(found) => Ok(found),
-        Err(stuck) => Err(Stopped { field, stuck }),
+        Err(stuck) => Err(Stopped { place: 0, stuck }),
     }
 }
 
 /// A public key of Ed25519, which is field 1 of each layout that has one. Refuses, in order: `Short`, `Length`.
 #[tactic(auto, using(crate::proofs::ViewLemmas::ed_key_stopped))]
-pub fn ed_key_in<'a>(blob: &'a [u8], from: usize) -> Result<(Part<'a>, usize), Stopped<'a>>
+pub fn ed_key_in<'a>(blob: &'a [u8], from: usize) -> Result<(Part<'a>, usize), Stopped<'a, usize>>
     ensures { SeenAt part_bytes (Lies blob.now (end_of (ed_key 1) blob.now from)) (ed_key 1) blob.now from result }
 {
     match ed_key_at(blob, from) {
         Ok(found) => Ok(found),
-        Err(stuck) => Err(Stopped { field: 1, stuck }),
+        Err(stuck) => Err(Stopped { place: 1, stuck }),
     }
 }
 
@@ -100,21 +46,21 @@ pub fn ed_secret_in<'a>(
     blob: &'a [u8],
     from: usize,
     public: &[u8],
-) -> Result<(Part<'a>, usize), Stopped<'a>>
+) -> Result<(Part<'a>, usize), Stopped<'a, usize>>
     requires { length public.now ≡ 32 }
     ensures { SeenAt part_bytes (Lies blob.now (end_of string blob.now from - 32)) (ed_secret public.now) blob.now from result }
 {
     let (both, next) = string_in(blob, from, 2)?;
     if both.bytes.len() < SECRET_LEN {
         return Err(Stopped {
-            field: 2,
+            place: 2,
             stuck: Stuck::Length,
         });
     }
     let (secret, copy) = both.bytes.split_at(SECRET_LEN);
     if copy != public {
         return Err(Stopped {
-            field: 2,
+            place: 2,
             stuck: Stuck::Length,
         });
     }

@@ -5,19 +5,22 @@ ghost use Rattle.picky_wire_base.specs.View.{end_of};
 ghost use Rattle.picky_keys.specs.Blob.{key_type};
 ghost use Rattle.picky_sshkey_blob.specs.Key.{IsPrivateKey};
 ghost use Rattle.picky_sshkey_blob.specs.Blob.{rsa_fields, ec_fields, ed_fields, sk_ecdsa_fields, sk_ed_fields, private_key_fields, secret as secret_layout};
-ghost use Rattle.picky_sshkey_blob.specs.View.{key_seen, PartsLie, SeenAt, IsRefusal};
+ghost use Rattle.picky_wire_base.specs.View.{SeenAt};
+ghost use Rattle.picky_sshkey_blob.specs.View.{key_seen, PartsLie, IsRefusal};
 
-use crate::view::{PrivateView, Stopped};
-use crate::view_fields::{
-    ed_key_in, ed_secret_in, flags_in, kind_in, mpint_in, string_in, text_in,
-};
+use crate::view::PrivateView;
+use crate::view_fields::{ed_key_in, ed_secret_in, kind_in};
 use picky_keys::{EcCurve, KeyKind};
+use picky_wire::{Stopped, byte_in, mpint_in, string_in, text_in};
 
 /// The view of the private key's blob that stands at a place, and the place after it.
 ///
 /// OpenSSH's PROTOCOL.key. Refuses, in order, by field: `Short`, `NotUtf8`, `Name`, `Length`.
 #[tactic(auto, using(crate::proofs::ViewLemmas::seen_keeps))]
-pub fn private_at<'a>(blob: &'a [u8], from: usize) -> Result<(PrivateView<'a>, usize), Stopped<'a>>
+pub fn private_at<'a>(
+    blob: &'a [u8],
+    from: usize,
+) -> Result<(PrivateView<'a>, usize), Stopped<'a, usize>>
     requires { length blob.now < 2 ^ 32 }
     ensures seen { SeenAt key_seen (PartsLie blob.now (end_of key_type blob.now from)) secret_layout blob.now from result }
     ensures is_key { IfOk result (λ found. IsPrivateKey (key_seen found.0)) }
@@ -27,7 +30,7 @@ pub fn private_at<'a>(blob: &'a [u8], from: usize) -> Result<(PrivateView<'a>, u
 }
 
 #[tactic(auto, unfolding(crate::specs::Blob::secret))]
-fn key_at<'a>(blob: &'a [u8], from: usize) -> Result<(PrivateView<'a>, usize), Stopped<'a>>
+fn key_at<'a>(blob: &'a [u8], from: usize) -> Result<(PrivateView<'a>, usize), Stopped<'a, usize>>
     requires { length blob.now < 2 ^ 32 }
     ensures { SeenAt key_seen (PartsLie blob.now (end_of key_type blob.now from)) secret_layout blob.now from result }
 {
@@ -39,7 +42,7 @@ fn fields_at<'a>(
     blob: &'a [u8],
     from: usize,
     kind: KeyKind,
-) -> Result<(PrivateView<'a>, usize), Stopped<'a>>
+) -> Result<(PrivateView<'a>, usize), Stopped<'a, usize>>
     requires { length blob.now < 2 ^ 32 }
     ensures { SeenAt key_seen (PartsLie blob.now from) (private_key_fields kind) blob.now from result }
 {
@@ -53,7 +56,7 @@ fn fields_at<'a>(
 }
 
 #[tactic(auto, unfolding(crate::specs::Blob::rsa_fields))]
-fn rsa_at<'a>(blob: &'a [u8], from: usize) -> Result<(PrivateView<'a>, usize), Stopped<'a>>
+fn rsa_at<'a>(blob: &'a [u8], from: usize) -> Result<(PrivateView<'a>, usize), Stopped<'a, usize>>
     requires { length blob.now < 2 ^ 32 }
     ensures { SeenAt key_seen (PartsLie blob.now from) rsa_fields blob.now from result }
 {
@@ -81,7 +84,7 @@ fn ec_at<'a>(
     blob: &'a [u8],
     from: usize,
     curve: EcCurve,
-) -> Result<(PrivateView<'a>, usize), Stopped<'a>>
+) -> Result<(PrivateView<'a>, usize), Stopped<'a, usize>>
     requires { length blob.now < 2 ^ 32 }
     ensures { SeenAt key_seen (PartsLie blob.now from) (ec_fields curve) blob.now from result }
 {
@@ -99,7 +102,7 @@ fn ec_at<'a>(
 }
 
 #[tactic(auto, unfolding(crate::specs::Blob::ed_fields))]
-fn ed_at<'a>(blob: &'a [u8], from: usize) -> Result<(PrivateView<'a>, usize), Stopped<'a>>
+fn ed_at<'a>(blob: &'a [u8], from: usize) -> Result<(PrivateView<'a>, usize), Stopped<'a, usize>>
     ensures { SeenAt key_seen (PartsLie blob.now from) ed_fields blob.now from result }
 {
     let (public, next) = ed_key_in(blob, from)?;
@@ -108,13 +111,16 @@ fn ed_at<'a>(blob: &'a [u8], from: usize) -> Result<(PrivateView<'a>, usize), St
 }
 
 #[tactic(auto, unfolding(crate::specs::Blob::sk_ecdsa_fields))]
-fn sk_ecdsa_at<'a>(blob: &'a [u8], from: usize) -> Result<(PrivateView<'a>, usize), Stopped<'a>>
+fn sk_ecdsa_at<'a>(
+    blob: &'a [u8],
+    from: usize,
+) -> Result<(PrivateView<'a>, usize), Stopped<'a, usize>>
     ensures { SeenAt key_seen (PartsLie blob.now from) sk_ecdsa_fields blob.now from result }
 {
     let (_, next) = text_in(blob, from, 1)?;
     let (point, next) = string_in(blob, next, 2)?;
     let (application, next) = text_in(blob, next, 3)?;
-    let (flags, next) = flags_in(blob, next, 4)?;
+    let (flags, next) = byte_in(blob, next, 4)?;
     let (handle, next) = string_in(blob, next, 5)?;
     let (_, next) = string_in(blob, next, 6)?;
     Ok((
@@ -129,12 +135,12 @@ fn sk_ecdsa_at<'a>(blob: &'a [u8], from: usize) -> Result<(PrivateView<'a>, usiz
 }
 
 #[tactic(auto, unfolding(crate::specs::Blob::sk_ed_fields))]
-fn sk_ed_at<'a>(blob: &'a [u8], from: usize) -> Result<(PrivateView<'a>, usize), Stopped<'a>>
+fn sk_ed_at<'a>(blob: &'a [u8], from: usize) -> Result<(PrivateView<'a>, usize), Stopped<'a, usize>>
     ensures { SeenAt key_seen (PartsLie blob.now from) sk_ed_fields blob.now from result }
 {
     let (key, next) = ed_key_in(blob, from)?;
     let (application, next) = text_in(blob, next, 2)?;
-    let (flags, next) = flags_in(blob, next, 3)?;
+    let (flags, next) = byte_in(blob, next, 3)?;
     let (handle, next) = string_in(blob, next, 4)?;
     let (_, next) = string_in(blob, next, 5)?;
     Ok((

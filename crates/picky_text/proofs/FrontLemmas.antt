@@ -51,3 +51,12 @@ pub writing_failed : {T E : Type 0} {old now left all : List ℕ} (answer : Resu
 writing_failed (Ok x) writing = tt
 writing_failed {old} {now} {left} {all} (Err e) writing =
     front_of old now left all writing.grown writing.same
+
+-- so is what was written of all, whatever is left
+pub front_is_written : {T E : Type 0} {now all : List ℕ} (answer : Result T E) (old written left : List ℕ)
+    → now ≡ old ++ written → all ≡ written ++ left → OnErr answer ((n : ℕ) × (now ≡ old ++ take n all))
+front_is_written {now} {all} answer old written left is cut =
+    writing_failed {left = left} answer (record {
+      grown = omega (arith, ap length is, length-append old written);
+      same = ap (λ l. l ++ left) is ∙ append_assoc old written left ∙ ap (λ l. old ++ l) (sym cut);
+    })

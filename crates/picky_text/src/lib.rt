@@ -11,5 +11,5 @@ mod words;
 pub use base64_text::{Base64Error, decode, encode};
 pub use lines::{LineEnd, LineReader};
 pub use quote::{push_quoted, unquoted};
-pub use rows::push_rows;
+pub use rows::{LINE_LEN, push_rows};
 pub use words::{rest_of_line, rest_of_text, split_word};

@@ -9,6 +9,9 @@ ghost use Rattle.picky_text.specs.Rows.{rows_of};
 use crate::lines::LineEnd;
 use std::alloc::AllocError;
 
+/// How many characters a full row has.
+pub const LINE_LEN: usize = 64;
+
 /// Appends the rows of the text, each with the line's end; on an error, some front of that. Refuses: want of memory.
 pub fn push_rows(out: &mut String, text: &str, end: LineEnd) -> Result<(), AllocError>
     requires ascii { IsAscii text.now }
@@ -17,12 +20,10 @@ pub fn push_rows(out: &mut String, text: &str, end: LineEnd) -> Result<(), Alloc
 {
     let mut rest = text;
     'rows: while !rest.is_empty() {
-        let (row, more) = rest.split_at(rest.len().min(ROW_LEN));
+        let (row, more) = rest.split_at(rest.len().min(LINE_LEN));
         out.push_str(row)?;
         out.push_str(end.as_str())?;
         rest = more;
     }
     Ok(())
 }
-
-const ROW_LEN: usize = 64;

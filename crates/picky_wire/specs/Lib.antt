@@ -5,6 +5,7 @@ pub mod Takes
 pub mod Puts
 pub mod Unread
 pub mod Flaws
+pub mod OfWire
 pub mod LengthFirst
 pub mod Moment
 pub mod Principals

@@ -1,11 +1,12 @@
 //! Values that have a spelling of their own on the wire.
 
-ghost use Rattle.std.specs.Prelude.{◌≡◌, ◌≢◌, ◌^◌, ◌↔◌, ℕ, List, Option, Some, None, Result, Err, length, min, IsTrue, IfErr, MatchOption};
+ghost use Rattle.std.specs.Prelude.{◌≡◌, ◌^◌, ◌↔◌, ℕ, List, Option, Some, None, Result, Err, length, min, IsTrue, IfErr, MatchOption};
 ghost use Rattle.picky_wire_base.specs.Grammar.{Grammar};
 ghost use Rattle.picky_wire_base.specs.Row.{Solid};
 ghost use Rattle.picky_wire.specs.declared.error.WireError.{WireError};
 ghost use Rattle.picky_wire.specs.declared.error.WireError.TheVariants as errors;
 ghost use Rattle.picky_wire.specs.Count.{Rose};
+ghost use Rattle.picky_wire.specs.OfWire.{IsErrorOfBytes};
 ghost use Rattle.picky_wire.specs.Takes.{Takes, HasCause, causes_of};
 ghost use Rattle.picky_wire.specs.Puts.{Puts};
 
@@ -102,8 +103,7 @@ pub trait SshComplexTypeDecode: Sized {
     }
 
     // no bytes are refused for a fault or for want of memory
-    ghost own: { (bytes : List ℕ) (e : Self.Error) → reads bytes ≡ Err e
-        → (e ≢ Self.Error.of_wire errors.ReadFault) × (e ≢ Self.Error.of_wire errors.NoMemory) };
+    ghost own: { (bytes : List ℕ) (e : Self.Error) → reads bytes ≡ Err e → IsErrorOfBytes Self.Error.of_wire e };
 }
 
 /// A value that is read by a layout, which says where its spelling ends.

@@ -23,9 +23,9 @@ pub use error::{Failed, IoKind, WireError};
 pub use fields::{take_byte, take_bytes, take_mpint, take_text, take_uint32, take_uint64};
 pub use list_codec::{decode_items, decode_list, encode_list};
 pub use picky_wire_base::{
-    Bytes, List, MAX_LEN, Mpint, NoMemory, Part, Piece, SizeError, Stuck, Text, TryClone, Word,
-    both, byte_at, mpint_at, pieces_len, push_pieces, sized_at, string_at, text_at, uint32_at,
-    uint64_at, word_at,
+    Bytes, List, MAX_LEN, Mpint, NoMemory, Part, Piece, SizeError, Stopped, Stuck, Text, TryClone,
+    Word, both, byte_at, byte_in, mpint_at, mpint_in, pieces_len, push_pieces, sized_at, string_at,
+    string_in, text_at, text_in, uint32_at, uint32_in, uint64_at, uint64_in, word_at, word_in,
 };
 pub use piece::{write_piece, write_pieces};
 pub use principals::{decode_principals, encode_principals};

@@ -4,7 +4,7 @@ use Rattle.std.specs.Bool.{Decides}
 use Rattle.std.proofs.Common.{ap, refl}
 use Rattle.picky_wire_base.specs.Outcome.{map_err}
 use Rattle.picky_wire_base.specs.carried.Outcome.{map_err_ok}
-use Rattle.picky_wire_base.specs.Flaw.{Flaw, Flawed, Reason}
+use Rattle.picky_wire_base.specs.Flaw.{Flaw, Flawed, Why}
 use Rattle.picky_wire_base.specs.Grammar.{Grammar}
 use Rattle.picky_wire_base.specs.carried.Combine.{done_sound, done_complete, done_takes, both_sound}
 use Rattle.picky_wire_base.specs.carried.Combine.{both_complete, both_takes, narrow_sound, narrow_complete}
@@ -78,9 +78,9 @@ tag f G = record {
   takes = λ bytes v rest same. G.takes bytes v rest (map_err_ok f (G.read bytes) (v, rest) same);
 }
 
--- a field, with its number in the layout beside what is wrong
-abbrev pub placed : ℕ → Flaw → Reason
-placed i flaw = (i, Flawed flaw)
+-- a field, with its place in the layout beside what is wrong: its number, or the part that it belongs to
+abbrev pub placed : {P : Type 0} → P → Flaw → P × Why
+placed place flaw = (place, Flawed flaw)
 
-abbrev pub at : {A : Type 0} → ℕ → Grammar Flaw A → Grammar Reason A
-at i G = tag (placed i) G
+abbrev pub at : {P A : Type 0} → P → Grammar Flaw A → Grammar (P × Why) A
+at place G = tag (placed place) G

@@ -7,6 +7,7 @@ use Rattle.picky_wire_base.specs.declared.view.Part.{Part}
 use Rattle.picky_wire_base.specs.declared.view.Word.{Word}
 use Rattle.picky_wire_base.specs.declared.view.Stuck.{Stuck}
 use Rattle.picky_wire_base.specs.declared.view.Stuck.TheVariants as stucks
+use Rattle.picky_wire_base.specs.declared.stopped.Stopped.{Stopped}
 
 -- what is wrong with a field, in the words of layouts
 abbrev pub why_of : Stuck → Why
@@ -75,3 +76,28 @@ pub record Seen {X A E : Type 0} (shows : X → A) (lies : X → Type 0) (why : 
     (layout : Grammar E A) (blob : List ℕ) (from : ℕ) (result : Result (X × ℕ) Stuck) : Type 0 where
   pub sees : Sees shows why layout blob from result
   pub placed : Places lies blob (end_of layout blob from) result
+
+-- ---- with the place of the field in its layout
+
+-- the layout's reason: the place, and what is wrong there
+abbrev pub reason_of : {P : Type 0} → Stopped P → P × Why
+reason_of stopped = (stopped.place, why_of stopped.stuck)
+
+-- what is wrong there, without the place
+abbrev pub stuck_of : {P : Type 0} → Stopped P → Stuck
+stuck_of stopped = stopped.stuck
+
+-- what a stop shows
+abbrev pub stopped_shown : {P : Type 0} → Stopped P → P × (Why × ℕ)
+stopped_shown stopped = (stopped.place, stuck_shown stopped.stuck)
+
+-- the layout reads what is shown before what stands at the next place, or refuses with that very reason
+abbrev pub SeesAt : {X A P : Type 0} → (X → A) → Grammar (P × Why) A → List ℕ → ℕ → Result (X × ℕ) (Stopped P) → Type 0
+SeesAt shows layout blob from (Ok (x, next)) = layout.read (drop from blob) ≡ Ok (shows x, drop next blob)
+SeesAt shows layout blob from (Err stopped) = layout.read (drop from blob) ≡ Err (reason_of stopped)
+
+-- what a call that reads a buffer at a place answers, and the place in the layout at which it stops
+pub record SeenAt {X A P : Type 0} (shows : X → A) (lies : X → Type 0) (layout : Grammar (P × Why) A)
+    (blob : List ℕ) (from : ℕ) (result : Result (X × ℕ) (Stopped P)) : Type 0 where
+  pub sees : SeesAt shows layout blob from result
+  pub placed : Places lies blob (end_of layout blob from) (map_err stuck_of result)

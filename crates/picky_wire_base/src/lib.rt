@@ -9,6 +9,7 @@ pub mod laws;
 mod list;
 mod mpint;
 mod piece;
+mod stopped;
 mod view;
 
 pub use bytes::{Bytes, MAX_LEN, Text};
@@ -17,6 +18,7 @@ pub use error::{NoMemory, SizeError};
 pub use list::List;
 pub use mpint::Mpint;
 pub use piece::{Piece, pieces_len, push_pieces};
+pub use stopped::{Stopped, byte_in, mpint_in, string_in, text_in, uint32_in, uint64_in, word_in};
 pub use view::{
     Part, Stuck, Word, byte_at, mpint_at, sized_at, string_at, text_at, uint32_at, uint64_at,
     word_at,

@@ -2,7 +2,8 @@
 use Rattle.std.specs.Prelude.{◌≡◌, ◌≢◌, List, ℕ, Err}
 use Rattle.std.proofs.Common.{refl, sym, subst}
 use Rattle.picky_wire.specs.declared.error.WireError.TheVariants as wire
-use Rattle.picky_keys.specs.carried.SourceLine.{IsErrorOfLine, line_in_front_own}
+use Rattle.picky_wire.specs.OfWire.{IsErrorOfBytes}
+use Rattle.picky_keys.specs.carried.SourceLine.{line_in_front_own}
 use Rattle.picky_cert_parts.specs.declared.error.SshCertificateError.{SshCertificateError}
 use Rattle.picky_cert_parts.specs.CertFromWire.{certificate_error}
 use Rattle.picky_cert.specs.LineRefusal.{line_meaning}
@@ -10,7 +11,7 @@ use Rattle.picky_cert.specs.SourceLine.{source_meaning}
 use Rattle.picky_cert.specs.Want.{WantsMemory}
 use Rattle.picky_cert.specs.carried.LineOwn.{IsErrorOfCertificate, line_own, own_is_no_fault, too_long}
 
-as_line_own : (e : SshCertificateError) → IsErrorOfCertificate e → IsErrorOfLine certificate_error e
+as_line_own : (e : SshCertificateError) → IsErrorOfCertificate e → IsErrorOfBytes certificate_error e
 as_line_own e own =
     (own_is_no_fault e own, λ is. own.no_want (subst WantsMemory (sym is) refl))
 

@@ -8,6 +8,7 @@ use Rattle.picky_text.specs.Base64.{decoded}
 use Rattle.picky_text.specs.Words.{first_word, body_word, line_in_front}
 use Rattle.picky_wire.specs.declared.error.WireError.{WireError}
 use Rattle.picky_wire.specs.declared.error.WireError.TheVariants as wire
+use Rattle.picky_wire.specs.OfWire.{IsErrorOfBytes}
 use Rattle.picky_keys.specs.declared.error.SshPublicKeyError.{SshPublicKeyError}
 use Rattle.picky_keys.specs.declared.error.SshPublicKeyError.TheVariants as errors
 use Rattle.picky_keys.specs.FromWire.{public_key_error}
@@ -17,14 +18,11 @@ use Rattle.picky_keys.specs.LineRefusal.{blob_key, body_key, comment_text, is_ke
 use Rattle.picky_keys.specs.LineRefusal.{is_short_text, line_meaning, words_meaning}
 use Rattle.picky_keys.specs.SourceLine.{read_line, source_meaning}
 
--- the error is the bytes' own
-abbrev pub IsErrorOfLine : {E : Type 0} → (WireError → E) → E → Type 0
-IsErrorOfLine of e = (e ≢ of wire.ReadFault) × (e ≢ of wire.NoMemory)
-
+-- each error is the bytes' own
 abbrev pub RefusesOwn : {E A : Type 0} → (WireError → E) → Result A E → Type 0
-RefusesOwn {E = E} of r = (e : E) → r ≡ Err e → IsErrorOfLine of e
+RefusesOwn {E = E} of r = (e : E) → r ≡ Err e → IsErrorOfBytes of e
 
-own_err : {E A : Type 0} (of : WireError → E) (r : Result A E) (f : E) → r ≡ Err f → IsErrorOfLine of f → RefusesOwn of r
+own_err : {E A : Type 0} (of : WireError → E) (r : Result A E) (f : E) → r ≡ Err f → IsErrorOfBytes of f → RefusesOwn of r
 own_err of r f refused own e is =
     let same : f ≡ e = cc (refused, is) in
     (λ other. own.0 (same ∙ other), λ other. own.1 (same ∙ other))
@@ -37,17 +35,17 @@ pub own_then : {E A B : Type 0} (of : WireError → E) (r : Result A E) (next : 
 own_then of (Ok v) next first second = second v
 own_then of (Err f) next first second = own_err of _ f refl (first f refl)
 
-pub own_if : {E A : Type 0} (of : WireError → E) (b : Bool) (r : Result A E) (f : E) → RefusesOwn of r → IsErrorOfLine of f
+pub own_if : {E A : Type 0} (of : WireError → E) (b : Bool) (r : Result A E) (f : E) → RefusesOwn of r → IsErrorOfBytes of f
     → RefusesOwn of (if b then r else Err f)
 own_if of true r f whole own = whole
 own_if of false r f whole own = own_err of _ f refl own
 
-pub own_or : {E A : Type 0} (of : WireError → E) (o : Option A) (f : E) → IsErrorOfLine of f → RefusesOwn of (ok_or o f)
+pub own_or : {E A : Type 0} (of : WireError → E) (o : Option A) (f : E) → IsErrorOfBytes of f → RefusesOwn of (ok_or o f)
 own_or of (Some v) f own = own_ok of v
 own_or of None f own = own_err of _ f refl own
 
 -- a line in front is refused so, and what it means
-pub line_in_front_own : {E A : Type 0} (of : WireError → E) → IsErrorOfLine of (of wire.TooLong) → (meaning : List ℕ → Result A E)
+pub line_in_front_own : {E A : Type 0} (of : WireError → E) → IsErrorOfBytes of (of wire.TooLong) → (meaning : List ℕ → Result A E)
     → ((line : List ℕ) → RefusesOwn of (meaning line)) → (bytes : List ℕ)
     → RefusesOwn {A = A × List ℕ} of (and_then (read_line of bytes) (λ line. and_then (meaning line.0) (λ v. Ok (v, line.1))))
 unfolding read_line
@@ -58,7 +56,7 @@ line_in_front_own of too_long meaning own bytes =
 
 -- ---- of a public key
 
-too_long : IsErrorOfLine public_key_error errors.TooLong
+too_long : IsErrorOfBytes public_key_error errors.TooLong
 too_long = (λ is. cc is, λ is. cc is)
 
 blob_key_own : (bytes : List ℕ) → RefusesOwn public_key_error (blob_key bytes)

@@ -5,14 +5,14 @@ use Rattle.picky_cert_blob.proofs.PlaceLemmas.{list_items, list_passed, list_sto
 use Rattle.picky_cert_blob.proofs.items.list_at.Goals as goal
 
 pub returns-in-Ok-clause-seen : goal.returns-in-Ok-clause-seen
-returns-in-Ok-clause-seen g c =
-    list_passed g.I.Item.item c.args.part c.args.blob.now c.args.from c.in_ok-block.next c.in_ok-block.block
+returns-in-Ok-clause-seen g c solid =
+    list_passed g.I.Item.item solid c.args.part c.args.blob.now c.args.from c.in_ok-block.next c.in_ok-block.block
     c.in_ok-block.ensures
     (subst (λ b. ArePassed g.I.Item.item b c.in_ok-block.block.at (Ok tt)) c.split_at.ensures.front c.in-Ok.ensures)
 
 pub returns-in-Err-clause-seen : goal.returns-in-Err-clause-seen
-returns-in-Err-clause-seen g c =
-    list_stopped g.I.Item.item c.args.part c.args.blob.now c.args.from c.in_ok-block.next c.in_ok-block.block c.in-Err.stopped
+returns-in-Err-clause-seen g c solid =
+    list_stopped g.I.Item.item solid c.args.part c.args.blob.now c.args.from c.in_ok-block.next c.in_ok-block.block c.in-Err.stopped
     c.in_ok-block.ensures
     (subst (λ b. ArePassed g.I.Item.item b c.in_ok-block.block.at (Err c.in-Err.stopped)) c.split_at.ensures.front c.in-Err.ensures)
 
