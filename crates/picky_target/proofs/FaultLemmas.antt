@@ -1,6 +1,6 @@
 -- No refusal of PuTTY's file that comes before the suite is asked, or after it answered, is the suite's fault.
-use Rattle.std.proofs.Common.{◌≡◌, ◌≢◌, ℕ, ◌+◌, List, Bool, true, false, Result, Ok, Err, length, refl, sym, ◌∙◌, ◌⊎◌, inl, inr}
-use Rattle.std.specs.Prelude.{◌&&◌, ◌++◌, nat_le, codes}
+use Rattle.std.proofs.Common.{◌≡◌, ◌≢◌, ℕ, ◌+◌, List, Bool, true, false, Result, Ok, Err, length, refl, sym, ◌∙◌, ◌⊎◌, inl, inr, arith}
+use Rattle.std.specs.Prelude.{◌&&◌, nat_le, codes}
 use Rattle.picky_wire_base.specs.Outcome.{map_err}
 use Rattle.picky_kv.specs.declared.PpkVersionKey.{PpkVersionKey}
 use Rattle.picky_suite.specs.Asked.{LeavesSuite}
@@ -19,13 +19,12 @@ use Rattle.picky_ppk_file.specs.PuttyRefusal.{is_hardware}
 use Rattle.picky_ppk_file.specs.declared.file.PpkFile.{PpkFile}
 use Rattle.picky_ppk_file.specs.Written.{file_text, fits_block, written}
 use Rattle.picky_ppk.specs.Changed.{file_of_parts, of_base_key}
-use Rattle.picky_ppk.specs.Sealed.{file_to_seal}
 use Rattle.picky_target.specs.declared.error.ConvertError.{ConvertError}
 use Rattle.picky_target.specs.declared.error.ConvertError.TheVariants as errors
 use Rattle.picky_target.specs.declared.target.KeyTarget.TheVariants as targets
 use Rattle.picky_target.specs.Drafts.{salt_len, padding_len, parts_of}
 use Rattle.picky_target.specs.Judged.{derives_under}
-use Rattle.picky_target.specs.inner.File.{text_of_file, judged_text, drawn, measured, plain_of, plain_drafted, plain_written, zeroed}
+use Rattle.picky_target.specs.inner.File.{text_of_file, drawn, measured, plain_of, plain_drafted, plain_written}
 use Rattle.picky_target.specs.inner.Public.{putty_refusal}
 use Rattle.picky_target.proofs.TestLemmas.{refuses, step_refuses}
 use Rattle.picky_target.proofs.FileLemmas.{key_parts_is, hardware_is_refused, tested}
@@ -87,15 +86,9 @@ made_no_fault m version key comment e is =
     step_refuses IsNoPuttyFault (key_parts key) (λ parts. Ok (file_of_parts m version comment parts)) e (parts_no_fault key)
     (λ parts g none. cc none) is
 
-judged_no_fault : (f : PpkFile) (e : ConvertError) → judged_text f ≡ Err e → IsNoFault e
-judged_no_fault f e is =
-    step_refuses {B = Unit {0}} IsNoFault (text_of_file f) (λ _. Ok (tt {0})) e (text_no_fault f) (λ text g none. cc none) is
-
 measured_no_fault : (config : PpkEncryptionConfig) (salt padding : List ℕ) (f : PpkFile) (e : ConvertError)
     → measured config salt padding f ≡ Err e → IsNoFault e
-measured_no_fault config salt padding f e is =
-    refuses IsNoFault (is_short (f.private_bytes ++ padding)) _ errors.TooLong e
-    (λ g more. judged_no_fault (zeroed (file_to_seal config salt padding f)) g more) (λ same. cc same) is
+measured_no_fault config salt padding f e is = grind arith
 
 pub plain_no_fault : (m : Meanings) (version : PpkVersionKey) (config : PpkEncryptionConfig) (key : SshBasePrivateKey)
     (comment salt padding : List ℕ) (e : ConvertError)

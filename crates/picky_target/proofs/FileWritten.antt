@@ -16,14 +16,12 @@ use Rattle.picky_ppk_parts.specs.declared.error.PuttyError.TheVariants as putty
 use Rattle.picky_ppk_parts.specs.Mac.{mac_of}
 use Rattle.picky_ppk_parts.specs.Secret.{secret_bytes}
 use Rattle.picky_ppk_file.specs.declared.file.PpkFile.{PpkFile}
-use Rattle.picky_ppk_file.specs.declared.file.PpkSealing.TheVariants.{Unsealed}
 use Rattle.picky_ppk_file.specs.File.{version_of}
 use Rattle.picky_ppk_file.specs.Written.{file_text, fits_block, written as file_written}
 use Rattle.picky_ppk_file.specs.PuttyRefusal.{is_hardware}
 use Rattle.picky_ppk.specs.Changed.{of_base_key}
-use Rattle.picky_ppk.specs.Fresh.{can_derive_by}
 use Rattle.picky_ppk.specs.Keyed.{keys_under}
-use Rattle.picky_ppk.specs.Mac.{mac_under, own_mac}
+use Rattle.picky_ppk.specs.Mac.{own_mac}
 use Rattle.picky_ppk.specs.Sealed.{encrypted, file_to_seal, sealing_under}
 use Rattle.picky_ppk.proofs.SealedLemmas.{draft_fits}
 use Rattle.picky_key_text.specs.Key.{private_meaning}
@@ -31,14 +29,14 @@ use Rattle.picky_target.specs.declared.error.ConvertError.{ConvertError}
 use Rattle.picky_target.specs.declared.error.ConvertError.TheVariants as errors
 use Rattle.picky_target.specs.declared.target.KeyTarget.TheVariants as targets
 use Rattle.picky_target.specs.Output.{Output}
-use Rattle.picky_target.specs.Drafts.{plain_file, parts_of, salt_len, padding_len, sealed_file, private_bytes}
+use Rattle.picky_target.specs.Drafts.{plain_file, salt_len, padding_len, sealed_file, private_bytes}
 use Rattle.picky_target.specs.Judged.{carries_comment, derives_under, judged_meaning, mac_len, measured_file}
 use Rattle.picky_target.specs.Written.{goes_on, written, writing_asks}
 use Rattle.picky_target.specs.inner.File.{plain_written, Sealable}
 use Rattle.picky_target.specs.inner.File.{sealable, sealed_text, ppk_written, ppk_asks}
 use Rattle.picky_target.specs.inner.File.{is_sealable as has_passed}
 use Rattle.picky_target.proofs.FileLemmas.{key_parts_is, salt_size}
-use Rattle.picky_target.proofs.SizeLemmas.{file_len}
+use Rattle.picky_target.proofs.LengthLemmas.{same_length, sealing_version}
 
 -- ---- lengths
 
@@ -53,19 +51,14 @@ own_mac_len m f = mac_of_len m (version_of f.sealing) _ _
 zeros_len : (version : PpkVersionKey) → length {A = ℕ} (replicate (mac_len version) 0) ≡ mac_len version
 zeros_len version = length-replicate (mac_len version) 0
 
-sealing_version : (version : PpkVersionKey) (config : PpkEncryptionConfig) (salt : List ℕ)
-    → version_of (sealing_under version config salt) ≡ version
-sealing_version V2 config salt = refl
-sealing_version V3 config salt = refl
-
 -- The file that isn't sealed is as long as what is measured.
 pub plain_len : (m : Meanings) (fresh : List ℕ) (version : PpkVersionKey) (config : PpkEncryptionConfig) (key : SshBasePrivateKey)
     (comment : List ℕ)
     → length (file_text (measured_file (record { pass = None; fresh = fresh }) version config key comment))
     ≡ length (file_text (plain_file m version key comment))
 plain_len m fresh version config key comment =
-    file_len (Unsealed version) (parts_of key).algorithm comment (blob_of (public_part key)) (secret_bytes key) (secret_bytes key)
-    _ _ refl (zeros_len version ∙ sym (own_mac_len m _))
+    same_length (plain_file m version key comment) (secret_bytes key) (replicate (mac_len version) 0) refl
+    (zeros_len version ∙ sym (own_mac_len m _))
 
 -- So is the sealed one.
 pub sealed_len : (m : Meanings) (pass fresh : List ℕ) (version : PpkVersionKey) (config : PpkEncryptionConfig)
@@ -77,10 +70,11 @@ sealed_len m pass fresh version config key comment =
     let padding = take (padding_len key) (drop (salt_len version config) fresh) in
     let sealing = sealing_under version config salt in
     let keys = keys_under m sealing pass in
-    let draft = file_to_seal config salt padding (plain_file m version key comment) in
+    let plain = plain_file m version key comment in
+    let draft = file_to_seal config salt padding plain in
     let covered = mac_of_len m (version_of sealing) keys.mac_key _ ∙ ap mac_len (sealing_version version config salt) in
-    file_len sealing (parts_of key).algorithm comment (blob_of (public_part key)) (secret_bytes key ++ padding)
-    (m.cbc_seal keys.key keys.iv (secret_bytes key ++ padding)) (replicate (mac_len version) 0) (mac_under m keys.mac_key draft draft.private_bytes)
+    same_length (sealed_file m (record { pass = Some pass; fresh = fresh }) version config pass plain key)
+    (secret_bytes key ++ padding) (replicate (mac_len version) 0)
     (sym (m.seal_len keys.key keys.iv (secret_bytes key ++ padding))) (zeros_len version ∙ sym covered)
 
 -- ---- what is judged after the kind and the comment
@@ -148,7 +142,7 @@ sealable_is : (m : Meanings) (pass fresh : List ℕ) (version : PpkVersionKey) (
     (key : SshBasePrivateKey) (comment : List ℕ) → is_hardware (public_part key) ≡ false
     → sealable m pass fresh version config key comment
     ≡ and_then (sealed_rest pass fresh version config key comment) (λ _. Ok (to_seal m fresh version config key comment))
-unfolding of_base_key file_written
+unfolding of_base_key
 sealable_is m pass fresh version config key comment plain =
     let blob = blob_of (public_part key) in
     let secret = secret_bytes key in
@@ -165,7 +159,7 @@ sealable_is m pass fresh version config key comment plain =
             | inr long ↦ rw (long, secret_short secret padding long) refl
             | inl short ↦ rw short (elim (cases_Bool (is_short (secret ++ padding))) [
               | inr long ↦ rw long refl
-              | inl short ↦ rw (short, sealing_version version config salt) (elim (cases_Bool (is_short (file_text file))) [
+              | inl short ↦ rw short (elim (cases_Bool (is_short (file_text file))) [
                 | inr long ↦ rw long refl
                 | inl short ↦ rw short (elim (cases_Bool (fits_block blob && fits_block (secret ++ padding))) [
                   | inr many ↦ rw many refl

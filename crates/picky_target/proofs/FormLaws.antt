@@ -1,6 +1,6 @@
 -- Each target's text is read in its own form.
 use Rattle.std.specs.Prelude.{Bool, true, false, if◌then◌else◌, is_some}
-use Rattle.std.proofs.Common.{◌≡◌, ℕ, List, [], ◌∷◌, ◌++◌, refl, ap, ◌∙◌}
+use Rattle.std.proofs.Common.{◌≡◌, ℕ, List, ◌∷◌, ◌++◌, refl, ap, ◌∙◌}
 use Rattle.picky_wire_base.specs.Table.{find_entry}
 use Rattle.picky_text.proofs.WordLaws.{words_at_space}
 use Rattle.picky_keys.proofs.ByteLaws.{name_is_word}

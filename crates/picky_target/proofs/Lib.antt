@@ -1,7 +1,7 @@
 pub mod SearchLemmas
 pub mod TestLemmas
 pub mod EqualityLaws
-pub mod SizeLemmas
+pub mod LengthLemmas
 pub mod EnvelopeLemmas
 pub mod PublicLemmas
 pub mod EnvelopeWritten

@@ -1,3 +1,4 @@
 pub mod Public
 pub mod Envelope
 pub mod File
+pub mod Lengths

@@ -1,6 +1,6 @@
 //! A key written as PuTTY's private key file.
 
-ghost use Rattle.std.specs.Prelude.{◌≡◌, ◌<◌, ◌^◌, IfOk, length, nat_le, replicate, slice_index};
+ghost use Rattle.std.specs.Prelude.{◌≡◌, ◌<◌, ◌^◌, IfOk, length};
 ghost use Rattle.std.specs.Option.{option_copied};
 ghost use Rattle.picky_wire_base.specs.Mpint.{mpint_of};
 ghost use Rattle.picky_kv.specs.declared.PpkVersionKey.TheVariants.{V3};
@@ -13,24 +13,26 @@ ghost use Rattle.picky_ppk_file.specs.File.{version_of};
 ghost use Rattle.picky_ppk_file.specs.PuttyRefusal.{is_hardware as is_hardware_of};
 ghost use Rattle.picky_ppk.specs.Sealed.{file_to_seal, is_sealable, padding_len as missing_len};
 ghost use Rattle.picky_target.specs.Drafts.{padding_len as padding_len_of, plain_file as plain_file_of, salt_len as salt_len_of};
-ghost use Rattle.picky_target.specs.Judged.{mac_len};
-ghost use Rattle.picky_target.specs.inner.File.{drawn, judged_text, measured, plain_drafted, plain_written, sealed_text as sealed_text_of};
+ghost use Rattle.picky_target.specs.inner.File.{drawn, measured, plain_drafted, plain_written, sealed_text as sealed_text_of};
 ghost use Rattle.picky_target.specs.inner.File.{sealed_written, sealed_asks, text_of_file as text_of_file_of, ppk_written, ppk_asks};
 
 use crate::comment::carries_comment;
 use crate::error::ConvertError;
+use crate::lengths::sealed_text_len;
 use crate::public::{no_such_kind, putty_refusal};
 use crate::target::KeyTarget;
-use picky_ppk::{
-    Ppk, PpkEncryptionConfig, PpkFile, PpkVersion, PuttyError, can_derive_by, file_draft,
-};
+use picky_kv::lines::{LINE_LEN, MAX_LINE_COUNT};
+use picky_ppk::{Ppk, PpkEncryptionConfig, PpkVersion, PuttyError, can_derive_by};
 use picky_sshkey::SshBasePrivateKey;
 use picky_suite::Suite;
-use picky_wire::{Bytes, MAX_LEN, Mpint, NoMemory, Text};
+use picky_wire::{MAX_LEN, Mpint, NoMemory, Piece, Text};
 use std::alloc::Global;
 
 /// How many bytes a block of the cipher has.
 const BLOCK_LEN: usize = 16;
+
+/// How many bytes a block of a file holds at most: three in four characters of base64.
+const MAX_BLOCK_LEN: usize = MAX_LINE_COUNT * LINE_LEN / 4 * 3;
 
 /// PuTTY's file of a key and a comment in a version, sealed where there is a passphrase.
 /// Refuses as `write_text` for `Ppk` and a private key.
@@ -247,27 +249,13 @@ fn secret_len(alloc: Global, key: &SshBasePrivateKey) -> Result<usize, NoMemory>
 }
 
 /// How many bytes a number's field has.
-#[tactic(auto, using(crate::proofs::SizeLemmas::number_lengths))]
 fn mpint_len(number: &Mpint) -> usize
     ensures len { result ≡ length (mpint_of number.now) }
     ensures short { result < 2 ^ 33 }
 {
-    let bytes = number.bytes();
-    if is_high(bytes) {
-        bytes.len() + 5
-    } else {
-        bytes.len() + 4
-    }
-}
-
-/// Whether a zero byte stands before a number's bytes, since the first of them is 128 or more.
-fn is_high(bytes: &[u8]) -> bool
-    ensures { result ≡ nat_le 128 (slice_index bytes.now 0) }
-{
-    match bytes.first() {
-        Some(first) => *first >= 128,
-        None => false,
-    }
+    let piece = Piece::mpint(number);
+    let (head, body) = piece.parts();
+    head.len() + body.len()
 }
 
 /// The file before it is sealed, where the sealed one isn't too long, or has too many lines.
@@ -288,7 +276,7 @@ fn plain_file<S: Suite>(
     ensures file { IfOk result (λ ppk. plain_file_of (S.meanings suite.now) version key.now comment ≡ ppk) }
 {
     match Ppk::from_base_key(alloc, suite, version, key, comment) {
-        Ok(ppk) => match measure(alloc, &ppk, config, fresh) {
+        Ok(ppk) => match measure(&ppk, config, fresh) {
             Ok(()) => Ok(ppk),
             Err(e) => {
                 drop(ppk);
@@ -299,76 +287,21 @@ fn plain_file<S: Suite>(
     }
 }
 
-/// Judges the sealed file's lengths and lines, by the file as it is before it is sealed. Refuses, in order: `TooLong`,
+/// Judges the sealed file's lengths and lines, which are known before it is sealed. Refuses, in order: `TooLong`,
 /// `TooManyLines`.
-fn measure(
-    alloc: Global,
-    ppk: &Ppk,
-    config: PpkEncryptionConfig,
-    fresh: &Drawn<'_>,
-) -> Result<(), ConvertError>
+fn measure(ppk: &Ppk, config: PpkEncryptionConfig, fresh: &Drawn<'_>) -> Result<(), ConvertError>
     requires salt { version_of ppk.now.sealing ≡ V3 → length fresh.now.salt.now ≡ config.argon2_salt_size }
     requires padding { length fresh.now.padding.now < 16 }
-    ensures { Gives ConvertError.NoMemory (λ _. tt) result
-        (measured config fresh.now.salt.now fresh.now.padding.now ppk.now) }
+    ensures { result ≡ measured config fresh.now.salt.now fresh.now.padding.now ppk.now }
 {
     let file = ppk.file();
-    if file.private_bytes.as_slice().len() + fresh.padding.len() > MAX_LEN {
+    let public_len = file.public_key.as_slice().len();
+    let private_len = file.private_bytes.as_slice().len() + fresh.padding.len();
+    if private_len > MAX_LEN || sealed_text_len(file, config, fresh.salt, fresh.padding) > MAX_LEN {
         return Err(ConvertError::TooLong);
     }
-    match file_draft(alloc, file, config, fresh.salt, fresh.padding) {
-        Ok(draft) => match with_zero_mac(alloc, draft) {
-            Ok(draft) => {
-                let judged = judge_text(alloc, &draft);
-                drop(draft);
-                judged
-            }
-            Err(NoMemory) => Err(ConvertError::NoMemory),
-        },
-        Err(NoMemory) => Err(ConvertError::NoMemory),
+    if public_len > MAX_BLOCK_LEN || private_len > MAX_BLOCK_LEN {
+        return Err(ConvertError::TooManyLines);
     }
-}
-
-/// The file with zeros for its MAC.
-fn with_zero_mac(alloc: Global, file: PpkFile) -> Result<PpkFile, NoMemory>
-    ensures { IfOk result (λ zeroed. zeroed ≡ record file { mac = replicate (mac_len (version_of file.sealing)) 0 }) }
-{
-    let mac: &[u8] = match file.sealing.version() {
-        PpkVersion::V2 => &[0; 20],
-        PpkVersion::V3 => &[0; 32],
-    };
-    match Bytes::new(alloc, mac) {
-        Ok(mac) => {
-            let PpkFile {
-                sealing,
-                algorithm,
-                comment,
-                public_key,
-                private_bytes,
-                ..
-            } = file;
-            Ok(PpkFile {
-                sealing,
-                algorithm,
-                comment,
-                public_key,
-                private_bytes,
-                mac,
-            })
-        }
-        Err(_) => {
-            drop(file);
-            Err(NoMemory)
-        }
-    }
-}
-
-/// Judges the text of a file. Refuses, in order: `TooLong`, `TooManyLines`.
-fn judge_text(alloc: Global, file: &PpkFile) -> Result<(), ConvertError>
-    ensures { Gives ConvertError.NoMemory (λ _. tt) result (judged_text file.now) }
-{
-    match file.to_string(alloc) {
-        Ok(_) => Ok(()),
-        Err(e) => Err(putty_refusal(e)),
-    }
+    Ok(())
 }

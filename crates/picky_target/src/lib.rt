@@ -6,6 +6,7 @@ mod envelope;
 mod error;
 mod file;
 pub mod laws;
+mod lengths;
 mod public;
 mod target;
 mod writing;

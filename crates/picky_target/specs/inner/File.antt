@@ -1,5 +1,5 @@
 -- What is written of a private key as PuTTY's file, step by step as the code judges it.
-use Rattle.std.specs.Prelude.{◌+◌, ◌++◌, ◌&&◌, Bool, true, false, not, List, ℕ, Option, None, Some, Result, Ok, Err}
+use Rattle.std.specs.Prelude.{◌+◌, ◌&&◌, Bool, true, false, not, List, ℕ, Option, None, Some, Result, Ok, Err}
 use Rattle.std.specs.Prelude.{length, nat_le, replicate, take, drop, if◌then◌else◌}
 use Rattle.picky_wire_base.specs.Outcome.{and_then, map_err}
 use Rattle.picky_kv.specs.declared.PpkVersionKey.{PpkVersionKey}
@@ -12,7 +12,7 @@ use Rattle.picky_ppk_parts.specs.declared.error.PuttyError.TheVariants as putty
 use Rattle.picky_ppk_parts.specs.Unsupported.{no_hardware_keys}
 use Rattle.picky_ppk_file.specs.declared.file.PpkFile.{PpkFile}
 use Rattle.picky_ppk_file.specs.File.{version_of}
-use Rattle.picky_ppk_file.specs.Written.{written as file_written}
+use Rattle.picky_ppk_file.specs.Written.{file_text, fits_block, written as file_written}
 use Rattle.picky_ppk_file.specs.PuttyRefusal.{is_hardware}
 use Rattle.picky_ppk.specs.Changed.{of_base_key}
 use Rattle.picky_ppk.specs.Sealed.{encrypted, file_to_seal}
@@ -45,17 +45,17 @@ drawn pass fresh version config key =
     else Err errors.FreshTooShort)
     else Err (errors.Putty putty.Argon2)
 
--- a text is judged, and not kept
-abbrev pub judged_text : PpkFile → Result (Unit {0}) ConvertError
-judged_text f = and_then (text_of_file f) (λ _. Ok tt)
-
 -- the draft of a file as it is measured: zeros stand for its MAC
-abbrev pub zeroed : PpkFile → PpkFile
-zeroed f = record f { mac = replicate (mac_len (version_of f.sealing)) 0 }
+abbrev pub draft_of : PpkEncryptionConfig → (salt padding : List ℕ) → PpkFile → PpkFile
+draft_of config salt padding f = record (file_to_seal config salt padding f) { mac = replicate (mac_len (version_of f.sealing)) 0 }
 
+-- whether the sealed file has room
 abbrev pub measured : PpkEncryptionConfig → (salt padding : List ℕ) → PpkFile → Result (Unit {0}) ConvertError
 measured config salt padding f =
-    if is_short (f.private_bytes ++ padding) then judged_text (zeroed (file_to_seal config salt padding f)) else Err errors.TooLong
+    let draft = draft_of config salt padding f in
+    if is_short draft.private_bytes && is_short (file_text draft)
+    then (if fits_block draft.public_key && fits_block draft.private_bytes then Ok tt else Err errors.TooManyLines)
+    else Err errors.TooLong
 
 -- the file before it is sealed, where the sealed one has room
 abbrev pub plain_drafted : Meanings → PpkVersionKey → PpkEncryptionConfig → SshBasePrivateKey → (comment salt padding : List ℕ)
