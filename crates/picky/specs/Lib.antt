@@ -39,6 +39,7 @@ pub use Rattle.picky_wire.specs.Known
 pub use Rattle.picky_wire.specs.LengthFirst
 pub use Rattle.picky_wire.specs.Memory as WireMemory
 pub use Rattle.picky_wire.specs.Moment
+pub use Rattle.picky_wire.specs.OfWire
 pub use Rattle.picky_wire.specs.Principals
 pub use Rattle.picky_wire.specs.Puts
 pub use Rattle.picky_wire.specs.Takes

@@ -20,19 +20,7 @@ use Rattle.picky_conversion.specs.To.{CanConvert, Certified, IsConverted}
 
 -- what the options ask, of an issuer
 abbrev pub request_by : CertOptions → Option Key → CertRequest
-request_by options issuer = record {
-  cert_key_type = options.cert_key_type;
-  cert_type = options.cert_type;
-  serial = options.serial;
-  key_id = options.key_id;
-  principals = options.principals;
-  valid_after = options.valid_after;
-  valid_before = options.valid_before;
-  critical_options = options.critical_options;
-  extensions = options.extensions;
-  signature_algo = options.signature_algo;
-  issuer = issuer;
-}
+request_by options issuer = record { options = options; issuer = issuer }
 
 -- ---- the issuer: the key that its text means, where there is one
 

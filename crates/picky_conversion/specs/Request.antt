@@ -18,17 +18,17 @@ issuer_in None = None
 -- the certificate of the key's public part, with the comment
 abbrev pub asked_for : CertRequest → Meaning → SshCertificateBuilder
 asked_for request meaning = record {
-  cert_key_type = request.cert_key_type;
+  cert_key_type = request.options.cert_key_type;
   public_key = Some (public_key meaning);
-  serial = request.serial;
-  cert_type = request.cert_type;
-  key_id = request.key_id;
-  valid_principals = Some request.principals;
-  valid_after = request.valid_after;
-  valid_before = request.valid_before;
-  critical_options = Some request.critical_options;
-  extensions = Some request.extensions;
+  serial = request.options.serial;
+  cert_type = request.options.cert_type;
+  key_id = request.options.key_id;
+  valid_principals = Some request.options.principals;
+  valid_after = request.options.valid_after;
+  valid_before = request.options.valid_before;
+  critical_options = Some request.options.critical_options;
+  extensions = Some request.options.extensions;
   issuer = issuer_in request.issuer;
-  signature_algo = request.signature_algo;
+  signature_algo = request.options.signature_algo;
   comment = Some meaning.comment;
 }

@@ -10,7 +10,7 @@ ghost use Rattle.picky_key_text.specs.Order.{asks};
 ghost use Rattle.picky_cert.specs.Spelled.{signed_of};
 ghost use Rattle.picky_conversion.specs.Certify.{IsReadFault, drafting, hex_line};
 ghost use Rattle.picky_conversion.specs.Convert.{LeavesAskedSuite};
-ghost use Rattle.picky_conversion.specs.Issue.{IsIssuingFault, asks_issuer, issued, issued_bytes, issuer_fault, issuer_read, issuing_asks, request_by as request_by_options};
+ghost use Rattle.picky_conversion.specs.Issue.{IsIssuingFault, asks_issuer, issued, issued_bytes, issuer_fault, issuer_read, issuing_asks};
 ghost use Rattle.picky_conversion.specs.Made.{Answers, AnswersPlain, LeavesSigner, ToSign, is_signed};
 ghost use Rattle.picky_conversion.specs.Outside.{outside};
 
@@ -46,7 +46,7 @@ pub fn issue<S: Suite, G: Signer>(
     let parts = parts_of(input);
     match issuer_of(alloc, suite, parts.issuer, given) {
         Ok(issuer) => {
-            let request = request_by(options, issuer);
+            let request = CertRequest { options, issuer };
             convert(
                 alloc,
                 suite,
@@ -82,7 +82,7 @@ pub fn print_signed<S: Suite>(
     let parts = parts_of(input);
     match issuer_of(alloc, suite, parts.issuer, given) {
         Ok(issuer) => {
-            let request = request_by(options, issuer);
+            let request = CertRequest { options, issuer };
             print_request(alloc, suite, parts.key, request, given)
         }
         Err(e) => {
@@ -144,36 +144,5 @@ fn issuer_of<S: Suite>(
             Err(e) => Err(issuer_refusal(e)),
         },
         None => Ok(None),
-    }
-}
-
-/// What the options ask, of an issuer.
-fn request_by(options: CertOptions, issuer: Option<Key>) -> CertRequest
-    ensures { result ≡ request_by_options options issuer }
-{
-    let CertOptions {
-        cert_key_type,
-        cert_type,
-        serial,
-        key_id,
-        principals,
-        valid_after,
-        valid_before,
-        critical_options,
-        extensions,
-        signature_algo,
-    } = options;
-    CertRequest {
-        cert_key_type,
-        cert_type,
-        serial,
-        key_id,
-        principals,
-        valid_after,
-        valid_before,
-        critical_options,
-        extensions,
-        signature_algo,
-        issuer,
     }
 }

@@ -4,6 +4,7 @@ use crate::runs::{End, ends_by, ends_unsigned};
 use crate::zero_lines::{FRESH, HOST_SIGNED, SUBJECT_LINE, ZERO_HOST};
 use picky_cert::{SshCertKeyType, SshCertType};
 use picky_convert::{CertRequest, Key, Target, convert};
+use picky_issuing::CertOptions;
 use picky_keys::SshBasePublicKey;
 use picky_suite::{MemorySigner, PlainSuite};
 use picky_wire::{List, NoMemory, Timestamp, TryClone};
@@ -53,16 +54,18 @@ fn asks_a_device_once_for_a_certificate_alone(rt: HostRuntime) -> Result<(), Fai
 /// The zero certificate's request.
 fn zero_request(alloc: Global) -> CertRequest {
     CertRequest {
-        cert_key_type: Some(SshCertKeyType::SshEd25519V01),
-        cert_type: Some(SshCertType::Host),
-        serial: None,
-        key_id: None,
-        principals: List::new(alloc),
-        valid_after: Some(Timestamp(0)),
-        valid_before: Some(Timestamp(0)),
-        critical_options: List::new(alloc),
-        extensions: List::new(alloc),
-        signature_algo: None,
+        options: CertOptions {
+            cert_key_type: Some(SshCertKeyType::SshEd25519V01),
+            cert_type: Some(SshCertType::Host),
+            serial: None,
+            key_id: None,
+            principals: List::new(alloc),
+            valid_after: Some(Timestamp(0)),
+            valid_before: Some(Timestamp(0)),
+            critical_options: List::new(alloc),
+            extensions: List::new(alloc),
+            signature_algo: None,
+        },
         issuer: Some(Key::Public(SshBasePublicKey::Ed { key: [0; 32] })),
     }
 }

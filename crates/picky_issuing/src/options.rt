@@ -10,22 +10,53 @@ use crate::option_word::OptionWord;
 use crate::value::{algorithm_of, cert_type_of, number_of};
 use picky_cert_parts::{SshCertKeyType, SshCertType, SshCriticalOption, SshExtension};
 use picky_keys::SignatureAlgorithm;
-use picky_wire::{List, NoMemory, Text, Timestamp, TryClone};
+use picky_wire::{List, NoMemory, Text, Timestamp, TryClone, both};
 use std::alloc::Global;
 
-/// What a command line asks of a certificate. The issuer, the subject's key and its comment are none of its options.
+/// What is asked of a certificate beside its issuer, its subject's key and its comment.
 #[derive(Debug, Drop, PartialEq, Eq)]
 pub struct CertOptions {
+    /// The type of certificates.
     pub cert_key_type: Option<SshCertKeyType>,
+    /// Whether it is a user's or a host's.
     pub cert_type: Option<SshCertType>,
+    /// The serial number; 0 where none is given.
     pub serial: Option<u64>,
+    /// The name by which the issuer logs it; empty where none is given.
     pub key_id: Option<Text>,
+    /// The user or host names that it is for; where none are given, it is for all.
     pub principals: List<Text>,
     pub valid_after: Option<Timestamp>,
     pub valid_before: Option<Timestamp>,
     pub critical_options: List<SshCriticalOption>,
+    /// What it permits; a user's certificate without any gets the five permits.
     pub extensions: List<SshExtension>,
+    /// The algorithm to sign by, where it isn't the type's own.
     pub signature_algo: Option<SignatureAlgorithm>,
+}
+
+impl TryClone for CertOptions {
+    fn try_clone(&self, alloc: Global) -> Result<CertOptions, NoMemory> {
+        let key_id = text_where_given(alloc, &self.key_id);
+        let names = both(key_id, self.principals.try_clone(alloc));
+        let extensions = self.extensions.try_clone(alloc);
+        let items = both(self.critical_options.try_clone(alloc), extensions);
+        match both(names, items) {
+            Ok(((key_id, principals), (critical_options, extensions))) => Ok(CertOptions {
+                cert_key_type: self.cert_key_type,
+                cert_type: self.cert_type,
+                serial: self.serial,
+                key_id,
+                principals,
+                valid_after: self.valid_after,
+                valid_before: self.valid_before,
+                critical_options,
+                extensions,
+                signature_algo: self.signature_algo,
+            }),
+            Err(NoMemory) => Err(NoMemory),
+        }
+    }
 }
 
 impl CertOptions {
@@ -245,6 +276,19 @@ fn with_extension(
             Ok(()) => Ok(Some(options)),
             Err(_) => Err(NoMemory),
         },
+        None => Ok(None),
+    }
+}
+
+/// A copy of the text, where there is one. Refuses: `NoMemory`.
+fn text_where_given(alloc: Global, text: &Option<Text>) -> Result<Option<Text>, NoMemory>
+    ensures { IfOk result (λ copy. copy ≡ text.now) }
+{
+    match text {
+        Some(text) => {
+            let text = text.try_clone(alloc)?;
+            Ok(Some(text))
+        }
         None => Ok(None),
     }
 }

@@ -39,7 +39,7 @@ pub fn make_padding<R: Rng>(message: Bytes, rng: &mut R) -> Result<Bytes, SizeEr
 }
 
 /// How many bytes lack to whole blocks.
-fn lacking_len(len: usize) -> usize
+pub fn lacking_len(len: usize) -> usize
     ensures lacking { result ≡ (16 - len % 16) % 16 }
     ensures short { result < 16 }
 {

@@ -11,8 +11,7 @@ use picky_ppk_parts::{Argon2Params, PpkEncryptionConfig, PpkVersion};
 use picky_wire::{Bytes, NoMemory, TryClone, both};
 use std::alloc::{AllocError, Global};
 
-/// The file as `Ppk::encrypt` seals it, with its private bytes and padding still open, and no MAC. Sealing changes no length,
-/// so its text shows, before a suite is asked, how long the sealed one will be but for the MAC. Refuses: `NoMemory`.
+/// The file as `Ppk::encrypt` seals it, with its private bytes and padding still open, and no MAC. Refuses: `NoMemory`.
 pub fn file_draft(
     alloc: Global,
     file: &PpkFile,

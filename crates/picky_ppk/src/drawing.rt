@@ -1,6 +1,6 @@
 //! Bytes drawn from a generator.
 
-ghost use Rattle.std.specs.Prelude.{◌≡◌, vec_len, IfOk, OnErr};
+ghost use Rattle.std.specs.Prelude.{◌≡◌, ◌<◌, ◌^◌, vec_len, IfOk, OnErr};
 ghost use Rattle.picky_ppk_file.specs.File.{version_of};
 ghost use Rattle.picky_ppk.specs.Sealed.{padding_len};
 ghost use Rattle.picky_ppk.specs.Fresh.{drawn as drawn_of, fresh_for, IsDrawnFrom, salt_len as salt_len_of};
@@ -36,9 +36,10 @@ pub fn fresh<R: Rng>(
     Ok(SaltAndPadding { salt, padding })
 }
 
-/// How long a salt is.
-fn salt_len(version: PpkVersion, config: PpkEncryptionConfig) -> usize
-    ensures { result ≡ salt_len_of version config }
+/// How many bytes a salt has.
+pub fn salt_len(version: PpkVersion, config: PpkEncryptionConfig) -> usize
+    ensures len { result ≡ salt_len_of version config }
+    ensures short { result < 2 ^ 32 }
 {
     match version {
         PpkVersion::V2 => 0,

@@ -14,7 +14,7 @@ mod ppk;
 mod sealing;
 mod wrappers;
 
-pub use draft::file_draft;
+pub use drawing::salt_len;
 pub use picky_ppk_file::{PpkFile, PpkSealing, PuttyPublicKey};
 pub use picky_ppk_parts::{
     Argon2Flavour, Argon2Params, KeyMaterialV2, KeyMaterialV3, MAC_SIZE_V3, PpkEncryptionConfig,

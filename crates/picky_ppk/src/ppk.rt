@@ -12,6 +12,7 @@ ghost use Rattle.picky_ppk.specs.Mac.{CarriesMac, covered as covered_of, own_mac
 ghost use Rattle.picky_ppk.specs.Checked.{checked as checked_of, ppk_meaning};
 ghost use Rattle.picky_ppk.specs.Sealed.{padding_len as padding_len_of};
 
+use crate::aes::lacking_len;
 use picky_kv::PpkLiteral;
 use picky_ppk_file::PpkFile;
 use picky_ppk_parts::{Argon2Params, Mac, PpkKeyAlgorithm, PpkVersion, PuttyError, mac_input};
@@ -111,7 +112,7 @@ impl Ppk {
         ensures len { result ≡ padding_len_of self.now }
         ensures short { result < 16 }
     {
-        (16 - self.file.private_bytes.as_slice().len() % 16) % 16
+        lacking_len(self.file.private_bytes.as_slice().len())
     }
 
     /// The file's fields.

@@ -13,3 +13,4 @@ mod writing;
 pub use file::{PpkFile, PpkSealing};
 pub use picky_ppk_parts::PuttyError;
 pub use putty_public::{PuttyPublicKey, is_hardware, plain_key};
+pub use writing::{MAX_BLOCK_LEN, end_of};

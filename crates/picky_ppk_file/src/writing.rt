@@ -28,7 +28,7 @@ use picky_wire::{MAX_LEN, Text};
 use std::alloc::{AllocError, Global};
 
 /// How many bytes a block holds at most: three in four characters of base64.
-const MAX_BLOCK_LEN: usize = MAX_LINE_COUNT * LINE_LEN / 4 * 3;
+pub const MAX_BLOCK_LEN: usize = MAX_LINE_COUNT * LINE_LEN / 4 * 3;
 
 /// How many bytes the lines have without the comment and what is written of bytes, or more.
 const LINES_ROOM: usize = 512;
@@ -179,7 +179,7 @@ fn push_number(
 }
 
 /// What ends the lines of a version.
-fn end_of(version: PpkVersion) -> LineEnd
+pub fn end_of(version: PpkVersion) -> LineEnd
     ensures { result ≡ end_of_version version }
 {
     match version {

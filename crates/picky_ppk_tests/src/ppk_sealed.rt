@@ -8,7 +8,7 @@ use picky_key_rows::{
 use picky_ppk::aes::make_padding;
 use picky_ppk::{
     Argon2Flavour, Argon2Params, KeyMaterialV2, KeyMaterialV3, Ppk, PpkFile, PpkKeyAlgorithm,
-    PpkVersion, file_draft,
+    PpkVersion,
 };
 use picky_suite::MemorySuite;
 use picky_wire::{Bytes, SizeError, TryClone};
@@ -105,36 +105,11 @@ fn opens_to(alloc: Global, sealed: &Ppk, ppk: &Ppk) -> Result<bool, Fail> {
     gives(sealed.decrypt(alloc, &mut *suite, PASS), ppk)
 }
 
-/// The file's draft has the sealed file's fields, but for its private bytes and its MAC.
-fn is_drafted(alloc: Global, sealed: &Ppk, ppk: &Ppk) -> Result<bool, Fail> {
-    let padding = &PADDING[..ppk.padding_len()];
-    if ppk.file().private_bytes.as_slice().len() > 1000 {
-        return Ok(false);
-    }
-    let draft = kept(file_draft(alloc, ppk.file(), CONFIG, SALT, padding))?;
-    Ok(is_draft(&draft, sealed.file(), ppk.file()))
-}
-
-fn is_draft(draft: &PpkFile, sealed: &PpkFile, open: &PpkFile) -> bool {
-    let private = draft.private_bytes.as_slice();
-    draft.sealing == sealed.sealing
-        && draft.algorithm == sealed.algorithm
-        && draft.comment == sealed.comment
-        && draft.public_key == sealed.public_key
-        && private.len() == sealed.private_bytes.as_slice().len()
-        && private.starts_with(open.private_bytes.as_slice())
-        && draft.mac.as_slice().is_empty()
-}
-
 /// The file of the P-256 key is sealed as the text, and opened again.
 fn seals_as(alloc: Global, version: PpkVersion, text: &str) -> Result<bool, Fail> {
     let ppk = p256_ppk(alloc, version)?;
     let sealed = sealed_of(alloc, &ppk)?;
-    Ok(
-        is_text(sealed.to_string(alloc), text)?
-            && opens_to(alloc, &sealed, &ppk)?
-            && is_drafted(alloc, &sealed, &ppk)?,
-    )
+    Ok(is_text(sealed.to_string(alloc), text)? && opens_to(alloc, &sealed, &ppk)?)
 }
 
 #[test]

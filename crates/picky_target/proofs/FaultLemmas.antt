@@ -22,7 +22,8 @@ use Rattle.picky_ppk.specs.Changed.{file_of_parts, of_base_key}
 use Rattle.picky_target.specs.declared.error.ConvertError.{ConvertError}
 use Rattle.picky_target.specs.declared.error.ConvertError.TheVariants as errors
 use Rattle.picky_target.specs.declared.target.KeyTarget.TheVariants as targets
-use Rattle.picky_target.specs.Drafts.{salt_len, padding_len, parts_of}
+use Rattle.picky_ppk.specs.Fresh.{salt_len}
+use Rattle.picky_target.specs.Drafts.{padding_len, parts_of}
 use Rattle.picky_target.specs.Judged.{derives_under}
 use Rattle.picky_target.specs.inner.File.{text_of_file, drawn, measured, plain_of, plain_drafted, plain_written}
 use Rattle.picky_target.specs.inner.Public.{putty_refusal}

@@ -45,7 +45,8 @@ use Rattle.picky_key_text.specs.Reads.{Means, Reads}
 use Rattle.picky_target.specs.declared.target.KeyTarget.TheVariants as targets
 use Rattle.picky_target.specs.Output.{Output}
 use Rattle.picky_target.specs.Carried.{Carries, Comment, Derivation, DerivesUnder, Fresh, Kind, Length, Lines}
-use Rattle.picky_target.specs.Drafts.{parts_of, plain_file, ppk_file, sealed_file, salt_len, padding_len}
+use Rattle.picky_ppk.specs.Fresh.{salt_len}
+use Rattle.picky_target.specs.Drafts.{parts_of, plain_file, ppk_file, sealed_file, padding_len}
 use Rattle.picky_target.specs.ReadBack.{IsConfig, under}
 use Rattle.picky_target.proofs.ByteLemmas.{drop_bytes, each_is_byte, keys_are_bytes, secret_is_bytes, take_bytes}
 use Rattle.picky_target.proofs.FileLemmas.{key_parts_is}

@@ -24,7 +24,8 @@ use Rattle.picky_ppk_parts.specs.Unsupported.{no_hardware_keys}
 use Rattle.picky_ppk_file.specs.declared.file.PpkFile.{PpkFile}
 use Rattle.picky_ppk_file.specs.PuttyRefusal.{is_hardware}
 use Rattle.picky_ppk.specs.Changed.{file_of_parts, of_base_key}
-use Rattle.picky_target.specs.Drafts.{parts_of, plain_file, salt_len}
+use Rattle.picky_ppk.specs.Fresh.{salt_len}
+use Rattle.picky_target.specs.Drafts.{parts_of, plain_file}
 use Rattle.picky_target.specs.inner.File.{measured, plain_drafted, plain_of}
 use Rattle.picky_target.specs.inner.Public.{putty_refusal}
 

@@ -29,7 +29,8 @@ use Rattle.picky_target.specs.declared.error.ConvertError.{ConvertError}
 use Rattle.picky_target.specs.declared.error.ConvertError.TheVariants as errors
 use Rattle.picky_target.specs.declared.target.KeyTarget.TheVariants as targets
 use Rattle.picky_target.specs.Output.{Output}
-use Rattle.picky_target.specs.Drafts.{plain_file, salt_len, padding_len, sealed_file, private_bytes}
+use Rattle.picky_ppk.specs.Fresh.{salt_len}
+use Rattle.picky_target.specs.Drafts.{plain_file, padding_len, sealed_file, private_bytes}
 use Rattle.picky_target.specs.Judged.{carries_comment, derives_under, judged_meaning, mac_len, measured_file}
 use Rattle.picky_target.specs.Written.{goes_on, written, writing_asks}
 use Rattle.picky_target.specs.inner.File.{plain_written, Sealable}

@@ -21,7 +21,8 @@ use Rattle.picky_key_text.specs.Key.{public_part, public_key}
 use Rattle.picky_target.specs.declared.target.KeyTarget.{KeyTarget}
 use Rattle.picky_target.specs.declared.target.KeyTarget.TheVariants as targets
 use Rattle.picky_target.specs.Output.{Output}
-use Rattle.picky_target.specs.Drafts.{salt_len, padding_len, private_bytes, ppk_file}
+use Rattle.picky_ppk.specs.Fresh.{salt_len}
+use Rattle.picky_target.specs.Drafts.{padding_len, private_bytes, ppk_file}
 use Rattle.picky_target.specs.Texts.{text_for}
 
 -- a private key, a kind of key that the target has, a comment that it has, a passphrase that keys can be derived from, fresh

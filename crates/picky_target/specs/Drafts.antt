@@ -1,7 +1,6 @@
 -- What is written of a private key before a suite is asked: OpenSSH's key, and PuTTY's file with its private bytes still open.
 use Rattle.std.specs.Prelude.{◌++◌, List, ℕ, Option, None, Some, take, drop}
 use Rattle.picky_kv.specs.declared.PpkVersionKey.{PpkVersionKey}
-use Rattle.picky_kv.specs.declared.PpkVersionKey.TheVariants.{V2, V3}
 use Rattle.picky_suite.specs.Meanings.{Meanings}
 use Rattle.picky_keys.specs.Blob.{blob_of}
 use Rattle.picky_keys.specs.Key.{public_key_of}
@@ -15,6 +14,7 @@ use Rattle.picky_ppk_parts.specs.Algorithm.{algorithm_of}
 use Rattle.picky_ppk_parts.specs.Secret.{secret_bytes}
 use Rattle.picky_ppk_file.specs.declared.file.PpkFile.{PpkFile}
 use Rattle.picky_ppk.specs.Changed.{file_of_parts}
+use Rattle.picky_ppk.specs.Fresh.{salt_len}
 use Rattle.picky_ppk.specs.Keyed.{keys_under}
 use Rattle.picky_ppk.specs.Sealed.{file_to_seal, lacking, seal_draft}
 use Rattle.picky_target.specs.Output.{Output}
@@ -24,11 +24,6 @@ abbrev pub openssh_key : Output → SshBasePrivateKey → (comment : List ℕ) �
 openssh_key out key comment = made_of key out.pass comment (take 16 out.fresh)
 
 -- ---- PuTTY's file
-
--- how long the salt is
-abbrev pub salt_len : PpkVersionKey → PpkEncryptionConfig → ℕ
-salt_len V2 config = 0
-salt_len V3 config = config.argon2_salt_size
 
 -- the first fresh bytes are the salt, and the next ones what lacks to whole blocks
 abbrev pub salt_of : Output → PpkVersionKey → PpkEncryptionConfig → List ℕ

@@ -12,7 +12,8 @@ ghost use Rattle.picky_ppk_parts.specs.Secret.{secret_bytes};
 ghost use Rattle.picky_ppk_file.specs.File.{version_of};
 ghost use Rattle.picky_ppk_file.specs.PuttyRefusal.{is_hardware as is_hardware_of};
 ghost use Rattle.picky_ppk.specs.Sealed.{file_to_seal, is_sealable, padding_len as missing_len};
-ghost use Rattle.picky_target.specs.Drafts.{padding_len as padding_len_of, plain_file as plain_file_of, salt_len as salt_len_of};
+ghost use Rattle.picky_ppk.specs.Fresh.{salt_len as salt_len_of};
+ghost use Rattle.picky_target.specs.Drafts.{padding_len as padding_len_of, plain_file as plain_file_of};
 ghost use Rattle.picky_target.specs.inner.File.{drawn, measured, plain_drafted, plain_written, sealed_text as sealed_text_of};
 ghost use Rattle.picky_target.specs.inner.File.{sealed_written, sealed_asks, text_of_file as text_of_file_of, ppk_written, ppk_asks};
 
@@ -21,18 +22,13 @@ use crate::error::ConvertError;
 use crate::lengths::sealed_text_len;
 use crate::public::{no_such_kind, putty_refusal};
 use crate::target::KeyTarget;
-use picky_kv::lines::{LINE_LEN, MAX_LINE_COUNT};
-use picky_ppk::{Ppk, PpkEncryptionConfig, PpkVersion, PuttyError, can_derive_by};
+use picky_ppk::aes::lacking_len;
+use picky_ppk::{Ppk, PpkEncryptionConfig, PpkVersion, PuttyError, can_derive_by, salt_len};
+use picky_ppk_file::MAX_BLOCK_LEN;
 use picky_sshkey::SshBasePrivateKey;
 use picky_suite::Suite;
 use picky_wire::{MAX_LEN, Mpint, NoMemory, Piece, Text};
 use std::alloc::Global;
-
-/// How many bytes a block of the cipher has.
-const BLOCK_LEN: usize = 16;
-
-/// How many bytes a block of a file holds at most: three in four characters of base64.
-const MAX_BLOCK_LEN: usize = MAX_LINE_COUNT * LINE_LEN / 4 * 3;
 
 /// PuTTY's file of a key and a comment in a version, sealed where there is a passphrase.
 /// Refuses as `write_text` for `Ppk` and a private key.
@@ -208,24 +204,13 @@ fn drawn_under<'a>(
     Ok(Drawn { salt, padding })
 }
 
-/// How many fresh bytes the salt takes.
-fn salt_len(version: PpkVersion, config: PpkEncryptionConfig) -> usize
-    ensures len { result ≡ salt_len_of version config }
-    ensures short { result < 2 ^ 32 }
-{
-    match version {
-        PpkVersion::V2 => 0,
-        PpkVersion::V3 => config.argon2_salt_size as usize,
-    }
-}
-
 /// How many fresh bytes the padding takes.
 fn padding_len(alloc: Global, key: &SshBasePrivateKey) -> Result<usize, NoMemory>
     ensures len { IfOk result (λ n. n ≡ padding_len_of key.now) }
     ensures few { IfOk result (λ n. n < 16) }
 {
     let len = secret_len(alloc, key)?;
-    Ok((BLOCK_LEN - len % BLOCK_LEN) % BLOCK_LEN)
+    Ok(lacking_len(len))
 }
 
 /// How many bytes the private bytes have without padding.

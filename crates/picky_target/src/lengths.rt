@@ -5,20 +5,20 @@ ghost use Rattle.std.specs.Fmt.{decimal};
 ghost use Rattle.picky_text.specs.Lines.{text_of};
 ghost use Rattle.picky_kv.specs.declared.PpkVersionKey.TheVariants.{V3};
 ghost use Rattle.picky_ppk_file.specs.File.{version_of};
-ghost use Rattle.picky_ppk_file.specs.Written.{end_of as end_of_version, file_text, sealing_lines};
+ghost use Rattle.picky_ppk_file.specs.Written.{file_text, sealing_lines};
 ghost use Rattle.picky_ppk.specs.Sealed.{sealing_under};
 ghost use Rattle.picky_target.specs.Judged.{mac_len as mac_len_of};
 ghost use Rattle.picky_target.specs.inner.File.{draft_of};
 ghost use Rattle.picky_target.specs.inner.Lengths.{block_len as block_len_of, line_len as line_len_of};
 
-use picky_kv::lines::LINE_LEN;
 use picky_kv::literals::{
     ARGON2_MEMORY, ARGON2_PARALLELISM, ARGON2_PASSES, ARGON2_SALT, COMMENT, ENCRYPTION,
     KEY_DERIVATION, PRIVATE_LINES, PRIVATE_MAC, PUBLIC_LINES, SEPARATOR,
 };
 use picky_kv::{PpkEncryptionValue, PpkLiteral};
 use picky_ppk::{PpkEncryptionConfig, PpkFile, PpkVersion};
-use picky_text::LineEnd;
+use picky_ppk_file::end_of;
+use picky_text::{LINE_LEN, LineEnd};
 
 /// How many bytes the text of a file has once it is sealed by the configuration, the salt and the padding.
 #[tactic(auto, using(crate::proofs::LengthLemmas::sealed_lengths))]
@@ -116,15 +116,5 @@ fn mac_len(version: PpkVersion) -> usize
     match version {
         PpkVersion::V2 => 20,
         PpkVersion::V3 => 32,
-    }
-}
-
-/// What ends the lines of a version.
-fn end_of(version: PpkVersion) -> LineEnd
-    ensures { result ≡ end_of_version version }
-{
-    match version {
-        PpkVersion::V2 => LineEnd::CrLf,
-        PpkVersion::V3 => LineEnd::Lf,
     }
 }

@@ -19,7 +19,8 @@ use Rattle.picky_ppk.specs.Sealed.{encrypted, file_to_seal}
 use Rattle.picky_target.specs.declared.error.ConvertError.{ConvertError}
 use Rattle.picky_target.specs.declared.error.ConvertError.TheVariants as errors
 use Rattle.picky_target.specs.declared.target.KeyTarget.TheVariants as targets
-use Rattle.picky_target.specs.Drafts.{salt_len, padding_len}
+use Rattle.picky_ppk.specs.Fresh.{salt_len}
+use Rattle.picky_target.specs.Drafts.{padding_len}
 use Rattle.picky_target.specs.Output.{Output}
 use Rattle.picky_target.specs.Judged.{carries_comment, derives_under, mac_len}
 use Rattle.picky_target.specs.inner.Public.{putty_refusal}

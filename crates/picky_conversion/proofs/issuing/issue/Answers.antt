@@ -9,10 +9,9 @@ returns-in-Ok-clause-gives g c =
     let o = outside (g.S.Suite.meanings c.args.suite.now) c.args.given in
     let part = c.parts_of-parts.ensures.issuer in
     let key = c.parts_of-parts.ensures.key in
-    let request = c.request_by-request.ensures in
     issue_gives (g.G.Signer.signs c.args.signer.now) (λ text. text) o _ c.args.options c.args.input.now c.in-Ok.issuer _ _ _ _
     c.convert.result (rw part at c.in-Ok.ensures.gives) c.in-Ok.ensures.suite.kept (c.in-Ok.ensures.suite.calm (λ e is fault. cc is))
-    (rw (key, request) at c.convert.ensures.gives)
+    (rw key at c.convert.ensures.gives)
 
 pub returns-in-Ok-clause-suite : goal.returns-in-Ok-clause-suite
 returns-in-Ok-clause-suite g c =
@@ -27,9 +26,8 @@ returns-in-Ok-clause-signer g c =
     let o = outside (g.S.Suite.meanings c.args.suite.now) c.args.given in
     let part = c.parts_of-parts.ensures.issuer in
     let key = c.parts_of-parts.ensures.key in
-    let request = c.request_by-request.ensures in
     issue_signer _ _ o _ c.args.options c.args.input.now c.in-Ok.issuer c.convert.result _ _ (rw part at c.in-Ok.ensures.gives)
-    c.in-Ok.ensures.suite.kept (rw (key, request) at c.convert.ensures.signer)
+    c.in-Ok.ensures.suite.kept (rw key at c.convert.ensures.signer)
 
 pub returns-in-Err-clause-gives : goal.returns-in-Err-clause-gives
 returns-in-Err-clause-gives g c =
