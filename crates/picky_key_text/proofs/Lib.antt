@@ -8,3 +8,4 @@ pub mod Utf8Laws
 pub mod ReadingLaws
 pub mod KeptLaws
 mod SubjectLemmas
+mod EnvelopeLemmas

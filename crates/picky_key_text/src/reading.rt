@@ -10,8 +10,8 @@ ghost use Rattle.picky_wire_base.specs.Gives.{Gives};
 ghost use Rattle.picky_wire_base.specs.Outcome.{and_then, map_err};
 ghost use Rattle.picky_ppk_file.specs.PuttyRefusal.{putty_meaning, to_openssh};
 ghost use Rattle.picky_cert.specs.LineRefusal.{line_meaning as certificate_line};
-ghost use Rattle.picky_key_text.specs.Key.{certificate_meaning, public_meaning as public_meaning_of};
-ghost use Rattle.picky_key_text.specs.Order.{asks, asks_as, envelope_meaning, fault_of, fault_as, reading, reading_as};
+ghost use Rattle.picky_key_text.specs.Key.{certificate_meaning, private_meaning as private_meaning_of, public_meaning as public_meaning_of};
+ghost use Rattle.picky_key_text.specs.Order.{asks, asks_as, fault_of, fault_as, reading, reading_as};
 ghost use Rattle.picky_key_text.specs.Reads.{Reads};
 ghost use Rattle.picky_key_text.specs.inner.Refusals.{certificate_refusal as certificate_refusal_of, envelope_refusal as envelope_refusal_of, putty_refusal as putty_refusal_of, line_refusal as line_refusal_of};
 
@@ -22,8 +22,9 @@ use crate::ppk::ppk_key;
 use picky_cert::{SshCertificate, SshCertificateError};
 use picky_keys::{SshPublicKey, SshPublicKeyError};
 use picky_ppk::{PuttyError, PuttyPublicKey};
-use picky_sshkey::{SshPrivateKey, SshPrivateKeyError};
+use picky_sshkey::{SshBasePrivateKey, SshPrivateKey, SshPrivateKeyError};
 use picky_suite::Suite;
+use picky_wire::Text;
 use std::alloc::Global;
 
 /// The key and the comment that a text means: a private key where it is OpenSSH's or PuTTY's private key, a certificate's
@@ -70,6 +71,7 @@ fn text_is_bytes(_text: &str)
 {}
 
 /// What the text means in a form.
+#[tactic(auto, using(crate::proofs::EnvelopeLemmas::base_means))]
 fn read_as<S: Suite>(
     alloc: Global,
     suite: &mut S,
@@ -84,8 +86,8 @@ fn read_as<S: Suite>(
         suite.old suite.new }
 {
     match form {
-        Form::Envelope => match SshPrivateKey::from_pem_str(alloc, suite, input, pass) {
-            Ok(key) => Ok(private_meaning(key)),
+        Form::Envelope => match SshPrivateKey::base_key_from_pem_str(alloc, suite, input, pass) {
+            Ok((base_key, comment)) => Ok(private_meaning(base_key, comment)),
             Err(e) => Err(envelope_refusal(e)),
         },
         Form::Ppk => match ppk_key(alloc, suite, input, pass) {
@@ -135,21 +137,10 @@ fn certificate_key(alloc: Global, input: &str) -> Result<Meaning, ReadError>
     }
 }
 
-/// The key of an envelope, without what the envelope says.
-fn private_meaning(key: SshPrivateKey) -> Meaning
-    ensures { result ≡ envelope_meaning key }
+/// The key of an envelope and its comment.
+fn private_meaning(base_key: SshBasePrivateKey, comment: Text) -> Meaning
+    ensures { result ≡ private_meaning_of base_key comment }
 {
-    let SshPrivateKey {
-        base_key,
-        comment,
-        kdf,
-        public_key,
-        passphrase,
-        ..
-    } = key;
-    drop(kdf);
-    drop(public_key);
-    drop(passphrase);
     Meaning {
         key: Key::Private(base_key),
         comment,

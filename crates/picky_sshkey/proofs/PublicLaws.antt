@@ -2,20 +2,21 @@
 use Rattle.std.specs.Prelude.{◌≡◌, Bool, true, false, List, [], ◌++◌, ℕ, Result, Ok, Err}
 use Rattle.std.proofs.Common.{◌∙◌, ap, refl, subst, sym}
 use Rattle.std.proofs.lemmas.Slice.Eq.{bytes_eq-Decides}
-use Rattle.picky_wire_base.specs.Flaw.{Reason}
+use Rattle.picky_wire_base.specs.Flaw.{Reason, Why}
 use Rattle.picky_wire_base.specs.Front.{read_front}
 use Rattle.picky_wire_base.specs.Numbers.{IsBytes}
 use Rattle.picky_wire_base.specs.Outcome.{and_then, map_err}
+use Rattle.picky_wire_base.specs.View.{Seen, why_in, why_of}
 use Rattle.picky_wire_base.specs.carried.Outcome.{and_then_ok}
+use Rattle.picky_wire_base.specs.declared.view.Stuck.{Stuck}
 use Rattle.picky_wire_base.proofs.Grammar.{one_front}
 use Rattle.picky_wire_base.proofs.Numbers.{bytes_in_front}
 use Rattle.picky_keys.specs.Blob.{blob, blob_of}
-use Rattle.picky_keys.specs.BlobRefusal.{blob_error, read_blob}
 use Rattle.picky_keys.specs.Key.{IsKey}
-use Rattle.picky_keys.specs.LineRefusal.{blob_key}
+use Rattle.picky_keys.specs.View.{key_seen}
 use Rattle.picky_keys.specs.carried.Blob.{blob_spells}
-use Rattle.picky_keys.specs.declared.error.SshPublicKeyError.{SshPublicKeyError}
 use Rattle.picky_keys.specs.declared.key.SshBasePublicKey.{SshBasePublicKey}
+use Rattle.picky_keys.specs.declared.view.PublicView.{PublicView}
 use Rattle.picky_keys.proofs.KeyLaws.{spelled_is_key}
 use Rattle.picky_sshkey_blob.specs.Key.{IsPrivateKey, public_part}
 use Rattle.picky_sshkey_blob.specs.declared.key.SshBasePrivateKey.{SshBasePrivateKey}
@@ -73,46 +74,32 @@ pub says_public_refused : (outer : List ℕ) (key : SshBasePrivateKey) (r : Reas
 unfolding is_public_part
 says_public_refused outer key r refused = ap (says_public key) refused
 
--- ---- by the public key's own reading
+-- ---- by what is seen
 
--- What is read under other errors is read.
-unmapped : {E F A B : Type 0} (f : E → F) (g : A → B) (r : Result A E) (y : B)
-    → and_then (map_err f r) (λ found. Ok (g found)) ≡ Ok y → and_then r (λ found. Ok (g found)) ≡ Ok y
-unmapped f g (Ok x) y same = cc same
-unmapped f g (Err e) y same = cc same
+-- A key that is seen stands in front.
+front_seen : {lies : PublicView → Type 0} (outer : List ℕ) (view : PublicView) (next : ℕ)
+    → Seen key_seen lies why_in blob outer 0 (Ok (view, next)) → read_front blob outer ≡ Ok (key_seen view)
+front_seen outer view next seen = ap (λ r. and_then r (λ first. Ok first.0)) seen.sees
 
--- What is refused under other errors is refused.
-unmapped_err : {E F A B : Type 0} (f : E → F) (g : A → B) (r : Result A E) (e : F)
-    → and_then (map_err f r) (λ found. Ok (g found)) ≡ Err e
-    → (reason : E) × (and_then r (λ found. Ok (g found)) ≡ Err reason)
-unmapped_err f g (Ok x) e same = cc same
-unmapped_err f g (Err reason) e same = (reason, refl)
+-- What is refused under other reasons is refused.
+no_front : {A : Type 0} (r : Result (A × List ℕ) Reason) (why : Why) → map_err why_in r ≡ Err why
+    → (reason : Reason) × (and_then r (λ first. Ok first.0) ≡ Err reason)
+no_front (Ok found) why is = cc is
+no_front (Err reason) why is = (reason, refl)
 
--- A blob's key is what the layout reads in front.
-pub blob_key_front : (outer : List ℕ) (other : SshBasePublicKey) → blob_key outer ≡ Ok other
-    → read_front blob outer ≡ Ok other
-unfolding blob_key read_blob
-blob_key_front outer other has = unmapped blob_error (λ found. found.0) (blob.read outer) other has
+-- It is the public part exactly where it says so.
+pub says_public_seen : {lies : PublicView → Type 0} (outer : List ℕ) (key : SshBasePrivateKey) (view : PublicView)
+    (next : ℕ) (same : Bool) → IsBytes outer → IsPrivateKey key
+    → Seen key_seen lies why_in blob outer 0 (Ok (view, next)) → (same ≡ true → key_seen view ≡ public_part key)
+    → (same ≡ false → key_seen view ≡ public_part key → ⊥) → same ≡ is_public_part outer key
+says_public_seen outer key view next true each private seen is apart =
+    sym (says_public_same outer key (key_seen view) (front_seen outer view next seen) (is refl))
+says_public_seen outer key view next false each private seen is apart =
+    sym (says_public_other outer key (key_seen view) each private (front_seen outer view next seen) (apart refl))
 
--- Where it has none, the layout reads none.
-pub blob_key_refused : (outer : List ℕ) (e : SshPublicKeyError) → blob_key outer ≡ Err e
-    → (reason : Reason) × (read_front blob outer ≡ Err reason)
-unfolding blob_key read_blob
-blob_key_refused outer e refused = unmapped_err blob_error (λ found. found.0) (blob.read outer) e refused
-
--- The blob's key is the public part, so it says so.
-pub blob_key_same : (outer : List ℕ) (key : SshBasePrivateKey) (other : SshBasePublicKey)
-    → blob_key outer ≡ Ok other → other ≡ public_part key → is_public_part outer key ≡ true
-blob_key_same outer key other has same = says_public_same outer key other (blob_key_front outer other has) same
-
--- It is another, so it doesn't.
-pub blob_key_other : (outer : List ℕ) (key : SshBasePrivateKey) (other : SshBasePublicKey) → IsBytes outer
-    → IsPrivateKey key → blob_key outer ≡ Ok other → (other ≡ public_part key → ⊥) → is_public_part outer key ≡ false
-blob_key_other outer key other each private has apart =
-    says_public_other outer key other each private (blob_key_front outer other has) apart
-
--- There is none, so none says so.
-pub blob_key_none : (outer : List ℕ) (key : SshBasePrivateKey) (e : SshPublicKeyError)
-    → blob_key outer ≡ Err e → is_public_part outer key ≡ false
-blob_key_none outer key e refused =
-    let found = blob_key_refused outer e refused in says_public_refused outer key found.0 found.1
+-- None is seen, so none says so.
+pub says_public_none : {lies : PublicView → Type 0} (outer : List ℕ) (key : SshBasePrivateKey) (stuck : Stuck)
+    → Seen key_seen lies why_in blob outer 0 (Err stuck) → false ≡ is_public_part outer key
+says_public_none outer key stuck seen =
+    let refused = no_front (blob.read outer) (why_of stuck) seen.sees in
+    sym (says_public_refused outer key refused.0 refused.1)

@@ -15,10 +15,6 @@ use Rattle.picky_suite.specs.Meanings.{Meanings}
 use Rattle.picky_sshkey.specs.PrivateRefusal.{closed, content_asks, content_key, envelope_under, key_closed, key_of_block, lock_of, sealed_under}
 use Rattle.picky_sshkey.proofs.RefusalLaws.{Refuses}
 use Rattle.picky_sshkey.proofs.FaultLaws.{IsOwn, block_front_own, envelope_under_own, key_of_block_own, sealed_own}
-use Rattle.picky_sshkey.proofs.PublicLaws.{blob_key_same, blob_key_other, blob_key_none}
-
--- whether the envelope's public key is the private one's
-pub ruleset says_public = (blob_key_same, blob_key_other, blob_key_none)
 
 -- what gives an outcome without faults answers none
 gives_own : {X A : Type 0} (view : X → A) (result : Result X SshPrivateKeyError) (says : Result A SshPrivateKeyError)

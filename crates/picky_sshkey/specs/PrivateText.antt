@@ -6,6 +6,7 @@ use Rattle.picky_sshkey_blob.specs.Pem.{IsPem}
 use Rattle.picky_suite.specs.Meanings.{Meanings}
 use Rattle.picky_suite.specs.Ranges.{BcryptOk, IsWhole}
 use Rattle.picky_keys.specs.Blob.{blob}
+use Rattle.picky_sshkey_blob.specs.declared.key.SshBasePrivateKey.{SshBasePrivateKey}
 use Rattle.picky_sshkey_blob.specs.Key.{public_part}
 use Rattle.picky_sshkey.specs.declared.private_key.SshPrivateKey.{SshPrivateKey}
 use Rattle.picky_sshkey.specs.Cipher.{is_cbc}
@@ -40,6 +41,10 @@ key_in given envelope block = record {
   comment = trim_end block.comment;
   passphrase = given;
 }
+
+-- the key and its comment alone
+abbrev pub base_and_comment : SshPrivateKey → SshBasePrivateKey × List ℕ
+base_and_comment key = (key.base_key, key.comment)
 
 -- the content is an envelope, its block opens and has a key, and the envelope's public key is that key's
 pub record IsPrivateContent (m : Meanings) (given : Option (List ℕ)) (content : List ℕ) (key : SshPrivateKey)

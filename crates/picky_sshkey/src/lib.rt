@@ -5,6 +5,7 @@ mod block;
 mod cipher;
 mod draft;
 mod envelope;
+mod found;
 mod kdf;
 mod kdf_wire;
 mod kept;

@@ -3,7 +3,7 @@
 ghost use Rattle.std.specs.Prelude.{◌≡◌, ◌≢◌, ◌⊎◌, ◌^◌, ◌<◌, true, false, None, Some, Ok, Err, length, not, IfOk, IfErr, IfSome, if◌then◌else◌};
 ghost use Rattle.std.specs.Option.{option_copied};
 ghost use Rattle.picky_wire_base.specs.Front.{read_front};
-ghost use Rattle.picky_wire_base.specs.Outcome.{and_then};
+ghost use Rattle.picky_wire_base.specs.Outcome.{and_then, map_ok};
 ghost use Rattle.picky_suite.specs.Asked.{GivesAsked, LeavesSuite};
 ghost use Rattle.picky_suite.specs.Ranges.{BcryptOk, IsWhole};
 ghost use Rattle.picky_wire.specs.Count.{Rose};
@@ -13,20 +13,22 @@ ghost use Rattle.picky_sshkey.specs.Cipher.{is_cbc};
 ghost use Rattle.picky_sshkey.specs.PrivateRefusal.{content_asks, content_key, envelope_under, key_closed, text_asks, text_key};
 ghost use Rattle.picky_sshkey.specs.PrivateRefusal.{key_of_block as key_of_block_of, lock_of as lock_of_envelope, lock_under as lock_under_of, sealed_under as sealed_under_of};
 ghost use Rattle.picky_sshkey.specs.PrivateBlock.{private_block};
-ghost use Rattle.picky_sshkey.specs.View.{envelope_seen, lock_seen, lock_shown};
+ghost use Rattle.picky_sshkey.specs.PrivateText.{base_and_comment};
+ghost use Rattle.picky_sshkey.specs.View.{envelope_seen, found_seen, lock_seen, lock_shown};
 ghost use Rattle.picky_sshkey.specs.inner.Short.{IsShortEnvelope};
 
 use crate::block::block_in;
 use crate::cipher::Cipher;
 use crate::envelope::{EnvelopeView, envelope_in};
+use crate::found::FoundKey;
 use crate::kdf::{BCRYPT, NONE};
 use crate::kept::name_text;
-use crate::key_of_block::key_of_block;
+use crate::key_of_block::{kept, key_of_block};
 use crate::private_key::SshPrivateKey;
 use crate::sealing::open;
-use picky_sshkey_blob::{Pem, PemError, SshPrivateKeyError, parse_pem};
+use picky_sshkey_blob::{Pem, PemError, SshBasePrivateKey, SshPrivateKeyError, parse_pem};
 use picky_suite::{Suite, bcrypt_ok};
-use picky_wire::{Failed, MAX_LEN, NoMemory};
+use picky_wire::{Failed, MAX_LEN, NoMemory, Text};
 use std::alloc::Global;
 
 /// A cipher, and the passphrase that its key is derived from.
@@ -65,7 +67,6 @@ impl SshPrivateKey {
     /// OpenSSH's PROTOCOL.key. Refuses, in order: `TooLong` for the passphrase; by field of the envelope; where its kdf
     /// isn't `none` `UnsupportedCipher`, `UnsupportedKdf`, `MissingPassphrase`, `HashingError`, `DecryptionError`,
     /// `SuiteFault`; `InvalidCheckNumbers`; by field of the key and comment; `PublicKeyMismatch`.
-    #[tactic(auto, unfolding(crate::specs::PrivateRefusal::content_key, crate::specs::PrivateRefusal::content_asks, crate::specs::PrivateRefusal::closed), using(crate::proofs::ReadingLemmas::plain_gives))]
     pub fn from_pem<S: Suite>(
         alloc: Global,
         suite: &mut S,
@@ -78,15 +79,65 @@ impl SshPrivateKey {
         ensures suite { LeavesSuite S.meanings S.faults SshPrivateKeyError.SuiteFault
             (content_asks (option_copied passphrase.entry) pem.now.content) result suite.old suite.new }
     {
-        let envelope = match short_envelope(pem.content(), passphrase) {
-            Ok(envelope) => envelope,
-            Err(e) => return Err(e),
-        };
-        match lock_of(alloc, &envelope, passphrase) {
-            Ok(Some(lock)) => key_sealed(alloc, suite, &envelope, lock, passphrase),
-            Ok(None) => key_in(alloc, &envelope, envelope.block, passphrase),
+        match key_found(alloc, suite, pem.content(), passphrase) {
+            Ok(found) => match kept(alloc, found) {
+                Ok(key) => Ok(key),
+                Err(NoMemory) => Err(SshPrivateKeyError::NoMemory),
+            },
             Err(e) => Err(e),
         }
+    }
+
+    /// The key and the comment of an envelope's text. All of it is read, as by `from_pem_str`, and nothing else is copied.
+    ///
+    /// OpenSSH's PROTOCOL.key. Refuses as `from_pem_str`.
+    #[tactic(auto, unfolding(crate::specs::PrivateRefusal::text_key, crate::specs::PrivateRefusal::text_asks))]
+    pub fn base_key_from_pem_str<S: Suite>(
+        alloc: Global,
+        suite: &mut S,
+        text: &str,
+        passphrase: Option<&str>,
+    ) -> Result<(SshBasePrivateKey, Text), SshPrivateKeyError>
+        ensures gives { GivesAsked SshPrivateKeyError.NoMemory SshPrivateKeyError.SuiteFault (λ found. found) result
+            (map_ok base_and_comment (text_key (S.meanings suite.old) (option_copied passphrase.entry) text.now))
+            (text_asks (option_copied passphrase.entry) text.now) (Rose (S.faults suite.old) (S.faults suite.new)) }
+        ensures suite { LeavesSuite S.meanings S.faults SshPrivateKeyError.SuiteFault
+            (text_asks (option_copied passphrase.entry) text.now) result suite.old suite.new }
+    {
+        match parse_pem(alloc, text) {
+            Ok(pem) => match key_found(alloc, suite, pem.content(), passphrase) {
+                Ok(found) => Ok((found.base_key, found.comment)),
+                Err(e) => Err(e),
+            },
+            Err(PemError::NoMemory) => Err(SshPrivateKeyError::NoMemory),
+            Err(e) => Err(SshPrivateKeyError::PemError(e)),
+        }
+    }
+}
+
+/// The key of a content. Refuses as `SshPrivateKey::from_pem`.
+#[tactic(auto, unfolding(crate::specs::PrivateRefusal::content_key, crate::specs::PrivateRefusal::content_asks, crate::specs::PrivateRefusal::closed), using(crate::proofs::ReadingLemmas::plain_gives))]
+fn key_found<'a, S: Suite>(
+    alloc: Global,
+    suite: &mut S,
+    content: &'a [u8],
+    pass: Option<&'a str>,
+) -> Result<FoundKey<'a>, SshPrivateKeyError>
+    requires { length content.now < 2 ^ 32 }
+    ensures gives { GivesAsked SshPrivateKeyError.NoMemory SshPrivateKeyError.SuiteFault found_seen result
+        (content_key (S.meanings suite.old) (option_copied pass.entry) content.now)
+        (content_asks (option_copied pass.entry) content.now) (Rose (S.faults suite.old) (S.faults suite.new)) }
+    ensures suite { LeavesSuite S.meanings S.faults SshPrivateKeyError.SuiteFault
+        (content_asks (option_copied pass.entry) content.now) result suite.old suite.new }
+{
+    let envelope = match short_envelope(content, pass) {
+        Ok(envelope) => envelope,
+        Err(e) => return Err(e),
+    };
+    match lock_of(alloc, &envelope, pass) {
+        Ok(Some(lock)) => key_sealed(alloc, suite, &envelope, lock, pass),
+        Ok(None) => key_in(alloc, &envelope, envelope.block, pass),
+        Err(e) => Err(e),
     }
 }
 
@@ -216,18 +267,18 @@ fn unsupported_kdf(alloc: Global, name: &str) -> SshPrivateKeyError
 
 /// The key of a sealed block.
 #[tactic(auto, unfolding(crate::specs::PrivateRefusal::key_closed))]
-fn key_sealed<S: Suite>(
+fn key_sealed<'a, S: Suite>(
     alloc: Global,
     suite: &mut S,
-    envelope: &EnvelopeView<'_>,
+    envelope: &EnvelopeView<'a>,
     lock: Lock<'_>,
-    pass: Option<&str>,
-) -> Result<SshPrivateKey, SshPrivateKeyError>
+    pass: Option<&'a str>,
+) -> Result<FoundKey<'a>, SshPrivateKeyError>
     requires range { BcryptOk (length lock.pass.now) (length envelope.now.option.salt.now) envelope.now.option.rounds }
     requires whole { is_cbc lock.cipher ≡ true → IsWhole envelope.now.block.now }
     requires short { IsShortEnvelope envelope.now }
     requires pass { is_short_text (option_copied pass) ≡ true }
-    ensures gives { GivesAsked SshPrivateKeyError.NoMemory SshPrivateKeyError.SuiteFault (λ key. key) result
+    ensures gives { GivesAsked SshPrivateKeyError.NoMemory SshPrivateKeyError.SuiteFault found_seen result
         (key_closed (S.meanings suite.old) (option_copied pass.entry) (record { envelope = envelope_seen envelope.now; lock = Some (lock_seen lock.entry) }))
         true (Rose (S.faults suite.old) (S.faults suite.new)) }
     ensures suite { LeavesSuite S.meanings S.faults SshPrivateKeyError.SuiteFault true result suite.old suite.new }
@@ -252,16 +303,16 @@ fn key_sealed<S: Suite>(
 
 /// The key of an opened block.
 #[tactic(auto, using(crate::proofs::ReadingLemmas::no_fault))]
-fn key_in(
+fn key_in<'a>(
     alloc: Global,
-    envelope: &EnvelopeView<'_>,
+    envelope: &EnvelopeView<'a>,
     block: &[u8],
-    pass: Option<&str>,
-) -> Result<SshPrivateKey, SshPrivateKeyError>
+    pass: Option<&'a str>,
+) -> Result<FoundKey<'a>, SshPrivateKeyError>
     requires block { length block.now < 2 ^ 32 }
     requires short { IsShortEnvelope envelope.now }
     requires pass { is_short_text (option_copied pass) ≡ true }
-    ensures gives { Gives SshPrivateKeyError.NoMemory (λ key. key) result
+    ensures gives { Gives SshPrivateKeyError.NoMemory found_seen result
         (and_then (read_front private_block block.now) (key_of_block_of (option_copied pass.entry) (envelope_seen envelope.now))) }
     ensures no_fault { result ≢ Err SshPrivateKeyError.SuiteFault }
 {
