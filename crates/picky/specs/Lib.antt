@@ -194,6 +194,7 @@ pub use Rattle.picky_ppk_file.specs.Written as PpkFileWritten
 pub use Rattle.picky_ppk.specs.Accepted
 pub use Rattle.picky_ppk.specs.Changed
 pub use Rattle.picky_ppk.specs.Checked
+pub use Rattle.picky_ppk.specs.ForPutty
 pub use Rattle.picky_ppk.specs.Fresh
 pub use Rattle.picky_ppk.specs.KeyOf
 pub use Rattle.picky_ppk.specs.Keyed
@@ -245,6 +246,8 @@ pub use Rattle.picky_convert.specs.Sample
 pub use Rattle.picky_convert.specs.SampleChain
 pub use Rattle.picky_convert.specs.SampleKeys
 pub use Rattle.picky_convert.specs.SampleTexts
+pub use Rattle.picky_puttyppk.specs.PuttyText
+pub use Rattle.picky_puttyppk.specs.Run as PuttyPpkRun
 pub use Rattle.picky_inventory.specs.BadLine
 pub use Rattle.picky_inventory.specs.Command as InventoryCommand
 pub use Rattle.picky_inventory.specs.InOrder

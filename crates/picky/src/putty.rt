@@ -17,6 +17,9 @@ pub use picky_ppk_parts::{
     KeyParts, Mac, counted_len, key_in_blob, mac_input, mac_key_v2, private_key_of,
 };
 
+// The program that writes one as PuTTY's own do.
+pub use picky_puttyppk::{PuttyPpkStatus, run_puttyppk, text_for_putty};
+
 // The lines of a private key file, and base64 that comes line by line.
 pub use picky_kv::{
     Argon2FlavourValue, Base64PpkValue, BlockDecoder, BlockError, HexPpkValue, KvError,

@@ -7,3 +7,4 @@ pub mod FreshLemmas
 pub mod SealLaws
 pub mod BindLaws
 pub mod AcceptedLaws
+pub mod ForPuttyLaws

@@ -7,5 +7,6 @@ pub mod Sealed
 pub mod Fresh
 pub mod Changed
 pub mod KeyOf
+pub mod ForPutty
 pub mod Wrappers
 pub mod inner

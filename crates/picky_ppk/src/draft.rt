@@ -28,7 +28,7 @@ pub fn file_draft(
         file.comment.try_clone(alloc),
         file.public_key.try_clone(alloc),
     );
-    let private_bytes = padded(alloc, file.private_bytes.as_slice(), padding);
+    let private_bytes = joined(alloc, file.private_bytes.as_slice(), padding);
     match both(both(sealing, texts), private_bytes) {
         Ok(((sealing, (comment, public_key)), private_bytes)) => Ok(PpkFile {
             sealing,
@@ -67,18 +67,18 @@ fn sealing_under(
     }
 }
 
-/// The private bytes with their padding.
-fn padded(alloc: Global, private: &[u8], padding: &[u8]) -> Result<Bytes, NoMemory>
-    requires { is_short (private.now ++ padding.now) ≡ true }
-    ensures { IfOk result (λ bytes. bytes ≡ private.now ++ padding.now) }
+/// The front and then the back. Refuses: `NoMemory`.
+pub fn joined(alloc: Global, front: &[u8], back: &[u8]) -> Result<Bytes, NoMemory>
+    requires { is_short (front.now ++ back.now) ≡ true }
+    ensures { IfOk result (λ bytes. bytes ≡ front.now ++ back.now) }
 {
-    match padded_private_bytes(alloc, private, padding) {
+    match joined_bytes(alloc, front, back) {
         Ok(bytes) => Ok(Bytes::from_vec(bytes)),
         Err(_) => Err(NoMemory),
     }
 }
 
-fn padded_private_bytes(alloc: Global, front: &[u8], back: &[u8]) -> Result<Vec<u8>, AllocError>
+fn joined_bytes(alloc: Global, front: &[u8], back: &[u8]) -> Result<Vec<u8>, AllocError>
     requires { length front.now + length back.now < 2 ^ 32 }
     ensures { IfOk result (λ bytes. bytes.items ≡ front.now ++ back.now) }
 {

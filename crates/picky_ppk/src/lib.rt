@@ -6,6 +6,7 @@ pub mod aes;
 mod changing;
 mod draft;
 mod drawing;
+mod for_putty;
 mod keys;
 pub mod laws;
 mod opening;

@@ -30,3 +30,5 @@ mod putty_comments;
 mod putty_public;
 #[cfg(test)]
 mod putty_refusals;
+#[cfg(test)]
+mod puttyppk_runs;

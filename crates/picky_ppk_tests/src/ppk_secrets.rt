@@ -1,17 +1,21 @@
 //! Ed25519 secrets in PuTTY's private key files, which are numbers there: without their leading zeros, with a zero before a
 //! first byte of 128 or more, and as the 32 bytes that PuTTY writes.
 
-use crate::answers::{kept, refuses};
+use crate::answers::{is_text, kept, refuses};
 use crate::ppk_files::{gives_back, is_kept, is_made_in, is_written_in, ppk_of};
-use picky_key_rows::{HIGH, LOW, SECRET_ROWS, SecretRow, ZERO_TEXT, ZEROS, secret_text_of};
-use picky_ppk::{PpkVersion, PuttyError};
+use picky_key_rows::{
+    HIGH, LOW, PPK_ROWS, PpkRow, SEALED_V2, SEALED_V3, SECRET_ROWS, SecretRow, VERSIONS, ZERO_TEXT,
+    ZEROS, secret_text_of, text_of,
+};
+use picky_ppk::{Ppk, PpkVersion, PuttyError};
 use picky_sshkey::{SshBasePrivateKey, SshPrivateKey};
+use picky_suite::PlainSuite;
 use std::alloc::Global;
 use std::mem::ManuallyDrop;
 use std::test::Fail;
 
 // row(s(bytes(32))), row(s(b"\x80" + bytes(31))), row(s(b"\0" + b"\1" * 31)), row(s(b"\0\0\x80" + bytes(31)))
-static OTHER_SPELLINGS: [SecretRow; 4] = [
+pub static OTHER_SPELLINGS: [SecretRow; 4] = [
     SecretRow {
         name: "zeros as 32 bytes",
         secret: ZEROS,
@@ -115,5 +119,78 @@ fn covers_the_spelling_by_the_mac(rt: HostRuntime) -> Result<(), Fail> {
     assert!(rt; makes(rt.alloc(), ZEROS, PpkVersion::V3, ZERO_TEXT)?);
     assert!(rt; is_told(rt.alloc())?);
     assert!(rt; is_changed(rt.alloc())?);
+    Ok(())
+}
+
+/// The file of the text is written for PuTTY as the wanted one.
+fn is_for_putty(alloc: Global, text: &str, wanted: &str) -> Result<bool, Fail> {
+    let ppk = kept(ppk_of(alloc, text))?;
+    let made = kept(ppk.for_putty(alloc, &PlainSuite::new()))?;
+    is_text(made.to_string(alloc), wanted)
+}
+
+/// The file that the row's key makes is written for PuTTY as the row's own, and so is the row's own.
+fn is_row_for_putty(alloc: Global, row: &SecretRow, version: PpkVersion) -> Result<bool, Fail> {
+    let wanted = kept(secret_text_of(alloc, row, version))?;
+    let key = key_of(alloc, row.secret)?;
+    let suite = PlainSuite::new();
+    let ppk = kept(Ppk::from_openssh_private_key(alloc, &suite, &key))?;
+    let made = kept(ppk.to_version(alloc, &suite, version))?;
+    let text = kept(made.to_string(alloc))?;
+    Ok(
+        is_for_putty(alloc, text.as_str(), wanted.as_str())?
+            && is_for_putty(alloc, wanted.as_str(), wanted.as_str())?,
+    )
+}
+
+#[test]
+fn writes_a_secret_as_putty_does(rt: HostRuntime) -> Result<(), Fail> {
+    // The first three are strings of 32 bytes.
+    for row in &OTHER_SPELLINGS[..3] {
+        for version in VERSIONS {
+            assert!(rt;
+                is_row_for_putty(rt.alloc(), row, version)?,
+                "{}, {version:?}",
+                row.name
+            );
+        }
+    }
+    Ok(())
+}
+
+/// A secret of 34 bytes is one of 32.
+fn is_cut_for_putty(alloc: Global) -> Result<bool, Fail> {
+    let long = kept(secret_text_of(alloc, &OTHER_SPELLINGS[3], PpkVersion::V3))?;
+    let wanted = kept(secret_text_of(alloc, &OTHER_SPELLINGS[1], PpkVersion::V3))?;
+    is_for_putty(alloc, long.as_str(), wanted.as_str())
+}
+
+/// A file of another kind is written as it is.
+fn is_row_as_it_is(alloc: Global, row: &PpkRow, version: PpkVersion) -> Result<bool, Fail> {
+    let text = kept(text_of(alloc, row, version))?;
+    is_for_putty(alloc, text.as_str(), text.as_str())
+}
+
+/// The sealed file is refused.
+fn is_sealed_refused(alloc: Global, text: &str) -> Result<bool, Fail> {
+    let ppk = kept(ppk_of(alloc, text))?;
+    let wanted = ManuallyDrop::new(PuttyError::Encrypted);
+    Ok(refuses(ppk.for_putty(alloc, &PlainSuite::new()), &*wanted))
+}
+
+#[test]
+fn leaves_other_files_as_putty_wrote_them(rt: HostRuntime) -> Result<(), Fail> {
+    for row in &PPK_ROWS {
+        for version in VERSIONS {
+            assert!(rt;
+                is_row_as_it_is(rt.alloc(), row, version)?,
+                "{}, {version:?}",
+                row.name
+            );
+        }
+    }
+    assert!(rt; is_cut_for_putty(rt.alloc())?);
+    assert!(rt; is_sealed_refused(rt.alloc(), SEALED_V2)?);
+    assert!(rt; is_sealed_refused(rt.alloc(), SEALED_V3)?);
     Ok(())
 }

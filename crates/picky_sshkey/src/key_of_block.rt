@@ -69,45 +69,62 @@ fn is_public_part_of(said: &PublicView<'_>, key: &PrivateView<'_>) -> bool
     ensures same { result ≡ true → public_seen said.now ≡ public_part (key_seen key.now) }
     ensures other { result ≡ false → public_seen said.now ≡ public_part (key_seen key.now) → ⊥ }
 {
-    match (key, said) {
-        (
-            PrivateView::Rsa { n, e, .. },
+    match key {
+        PrivateView::Rsa { n, e, .. } => match said {
             PublicView::Rsa {
                 e: said_e,
                 n: said_n,
-            },
-        ) => said_e.bytes == e.bytes && said_n.bytes == n.bytes,
-        (
-            PrivateView::Ec { curve, point, .. },
+            } => said_e.bytes == e.bytes && said_n.bytes == n.bytes,
+            PublicView::Ec { .. }
+            | PublicView::Ed { .. }
+            | PublicView::SkEcdsaSha2NistP256 { .. }
+            | PublicView::SkEd25519 { .. } => false,
+        },
+        PrivateView::Ec { curve, point, .. } => match said {
             PublicView::Ec {
                 curve: said_curve,
                 point: said_point,
-            },
-        ) => *said_curve == *curve && said_point.bytes == point.bytes,
-        (PrivateView::Ed { public, .. }, PublicView::Ed { key }) => key.bytes == public.bytes,
-        (
-            PrivateView::SkEcdsaSha2NistP256 {
-                point,
-                application,
-                ..
-            },
+            } => *said_curve == *curve && said_point.bytes == point.bytes,
+            PublicView::Rsa { .. }
+            | PublicView::Ed { .. }
+            | PublicView::SkEcdsaSha2NistP256 { .. }
+            | PublicView::SkEd25519 { .. } => false,
+        },
+        PrivateView::Ed { public, .. } => match said {
+            PublicView::Ed { key } => key.bytes == public.bytes,
+            PublicView::Rsa { .. }
+            | PublicView::Ec { .. }
+            | PublicView::SkEcdsaSha2NistP256 { .. }
+            | PublicView::SkEd25519 { .. } => false,
+        },
+        PrivateView::SkEcdsaSha2NistP256 {
+            point,
+            application,
+            ..
+        } => match said {
             PublicView::SkEcdsaSha2NistP256 {
                 point: said_point,
                 application: said_application,
-            },
-        ) => said_point.bytes == point.bytes && said_application.bytes == application.bytes,
-        (
-            PrivateView::SkEd25519 {
-                key,
-                application,
-                ..
-            },
+            } => said_point.bytes == point.bytes && said_application.bytes == application.bytes,
+            PublicView::Rsa { .. }
+            | PublicView::Ec { .. }
+            | PublicView::Ed { .. }
+            | PublicView::SkEd25519 { .. } => false,
+        },
+        PrivateView::SkEd25519 {
+            key,
+            application,
+            ..
+        } => match said {
             PublicView::SkEd25519 {
                 key: said_key,
                 application: said_application,
-            },
-        ) => said_key.bytes == key.bytes && said_application.bytes == application.bytes,
-        _ => false,
+            } => said_key.bytes == key.bytes && said_application.bytes == application.bytes,
+            PublicView::Rsa { .. }
+            | PublicView::Ec { .. }
+            | PublicView::Ed { .. }
+            | PublicView::SkEcdsaSha2NistP256 { .. } => false,
+        },
     }
 }
 

@@ -1,0 +1,3 @@
+pub mod PuttyText
+pub mod Run
+pub mod inner
