@@ -1,0 +1,135 @@
+-- What the calls below answer, as what a call here answers.
+use Rattle.std.proofs.Common.{◌≡◌, ◌⊎◌, ◌∙◌, Bool, true, false, ℕ, List, Option, None, Result, Ok, Err, ap, sym, subst, inl, inr, refl}
+use Rattle.std.specs.Str.{is_utf8}
+use Rattle.picky_wire_base.specs.Outcome.{and_then, map_err, map_ok}
+use Rattle.picky_suite.specs.Failures.{IsAskedFault}
+use Rattle.picky_suite.specs.Meanings.{Meanings, plain}
+use Rattle.picky_keys.specs.declared.key.SshPublicKey.{SshPublicKey}
+use Rattle.picky_key_text.specs.Key.{public_key as public_key_of}
+use Rattle.picky_key_text.specs.Form.{form_of}
+use Rattle.picky_key_text.specs.Order.{asks, fault_as, fault_of as input_fault, reading}
+use Rattle.picky_key_text.specs.declared.error.ReadError.{ReadError}
+use Rattle.picky_key_text.specs.declared.error.ReadError.TheVariants as input
+use Rattle.picky_key_text.specs.declared.form.Form.{Form}
+use Rattle.picky_key_text.specs.declared.form.Form.TheVariants as forms
+use Rattle.picky_key_text.specs.declared.meaning.Meaning.{Meaning}
+use Rattle.picky_target.specs.Written.{fault_of as output_fault}
+use Rattle.picky_target.specs.declared.error.ConvertError.{ConvertError}
+use Rattle.picky_target.specs.declared.error.ConvertError.TheVariants as errors
+use Rattle.picky_target.specs.declared.target.KeyTarget.{KeyTarget}
+use Rattle.picky_target.specs.declared.target.KeyTarget.TheVariants as targets
+use Rattle.picky_conversion.specs.Certified.{Relation}
+use Rattle.picky_conversion.specs.Convert.{IsFaultOf, conversion, converting_asks}
+use Rattle.picky_conversion.specs.Made.{Answers, IsUnwritten, Made, ToSign, Whole}
+use Rattle.picky_conversion.specs.Outside.{Outside}
+use Rattle.picky_conversion.specs.To.{IsFaultTo, Way, Written, converted}
+use Rattle.picky_conversion.specs.Refusal.{input_refusal}
+use Rattle.picky_conversion.proofs.AnswerLemmas.{opening_asks, sealing_asks}
+use Rattle.picky_c.specs.Calls.{public_key}
+use Rattle.picky_c.specs.Given.{plain_outside, plain_reader}
+use Rattle.picky_c.specs.Refusal.{refusal_of}
+use Rattle.picky_c.specs.declared.error.PickyError.{PickyError}
+use Rattle.picky_c.specs.declared.error.PickyError.TheVariants as calls
+use Rattle.picky_c.proofs.UnaskedLemmas.{unasked}
+
+-- ---- a conversion
+
+-- the suite's fault, in reading and in writing, is the want of a cipher
+input_fault_is : (form : Form) → refusal_of (errors.Input (fault_as form)) ≡ calls.NoCipher
+input_fault_is forms.Envelope = refl
+input_fault_is forms.Ppk = refl
+input_fault_is forms.PuttyPublic = refl
+input_fault_is forms.Certificate = refl
+input_fault_is forms.PublicLine = refl
+
+output_fault_is : (target : KeyTarget) → refusal_of (output_fault target) ≡ calls.NoCipher
+output_fault_is targets.OpenSsh = refl
+output_fault_is (targets.Ppk version config) = refl
+output_fault_is targets.OpenSshPublic = refl
+output_fault_is targets.PuttyPublic = refl
+
+-- no device signs a text
+none_left : (signs : Relation) (says : Result (List ℕ) ConvertError) (made : Made) (rose : Type 0) (e : ConvertError)
+    → map_ok Whole says ≡ Ok made → IsUnwritten signs made rose e → ⊥
+none_left signs (Ok text) (Whole other) rose e same left = left
+none_left signs (Ok text) (ToSign u) rose e same left = cc same
+none_left signs (Err d) made rose e same left = cc same
+
+whole_err : (says : Result (List ℕ) ConvertError) (e : ConvertError) → map_ok Whole says ≡ Err e → says ≡ Err e
+whole_err (Ok text) e same = cc same
+whole_err (Err d) e same = let one : d ≡ e = cc same in ap Err one
+
+converted_refusal : (signs : Relation) (o : Outside) (to : KeyTarget) (from : List ℕ) (e : ConvertError) (rose signer_rose : Type 0)
+    → Answers {X = List ℕ} signs (λ t. t) (map_ok Whole (conversion o to from)) (λ e. IsFaultOf o to from e rose) signer_rose (Err e)
+    → (refusal_of e ≡ calls.NoMemory) ⊎ ((refusal_of e ≡ calls.NoCipher) × IsAskedFault (converting_asks o to from) (Unit {0}))
+    ⊎ (map_err refusal_of (conversion o to from) ≡ Err (refusal_of e))
+converted_refusal signs o to from e rose signer_rose (inl want) = inl (ap refusal_of want)
+converted_refusal signs o to from e rose signer_rose (inr (inl (inl fault))) =
+    inr (inl (ap refusal_of fault.0 ∙ input_fault_is (form_of from), (opening_asks o to from fault.1.0, tt)))
+converted_refusal signs o to from e rose signer_rose (inr (inl (inr fault))) =
+    inr (inl (ap refusal_of fault.0 ∙ output_fault_is to, (sealing_asks o to from fault.1.0, tt)))
+converted_refusal signs o to from e rose signer_rose (inr (inr (inl left))) =
+    absurd (none_left signs (conversion o to from) left.0 signer_rose e left.1 left.2)
+converted_refusal signs o to from e rose signer_rose (inr (inr (inr refused))) =
+    inr (inr (ap (map_err refusal_of) (whole_err (conversion o to from) e refused)))
+
+-- the same, where the meanings and the target are equal to those
+pub conversion_refusal : (signs : Relation) (m : Meanings) (pass_in pass_out : Option (List ℕ)) (fresh : List ℕ) (way : Way) (to : KeyTarget)
+    (from : List ℕ) (e : ConvertError) (g : PickyError) (rose signer_rose : Type 0) → m ≡ plain → way ≡ Written to → g ≡ refusal_of e
+    → Answers {X = List ℕ} signs (λ t. t) (converted (record (plain_outside pass_in pass_out fresh) { meanings = m }) way from)
+    (λ f. IsFaultTo (record (plain_outside pass_in pass_out fresh) { meanings = m }) way from f rose) signer_rose (Err e)
+    → (g ≡ calls.NoMemory)
+    ⊎ ((g ≡ calls.NoCipher) × IsAskedFault (converting_asks (plain_outside pass_in pass_out fresh) to from) (Unit {0}))
+    ⊎ (map_err refusal_of (conversion (plain_outside pass_in pass_out fresh) to from) ≡ Err g)
+conversion_refusal signs m pass_in pass_out fresh way to from e g rose signer_rose means is_way is answers =
+    let o : Outside = plain_outside pass_in pass_out fresh in
+    let same_way = subst (λ w. Answers {X = List ℕ} signs (λ t. t) (converted (record o { meanings = m }) w from)
+    (λ f. IsFaultTo (record o { meanings = m }) w from f rose) signer_rose (Err e)) is_way answers in
+    let same = subst (λ n. Answers {X = List ℕ} signs (λ t. t) (map_ok Whole (conversion (record o { meanings = n }) to from))
+    (λ f. IsFaultOf (record o { meanings = n }) to from f rose) signer_rose (Err e)) means same_way in
+    subst (λ d. (d ≡ calls.NoMemory) ⊎ ((d ≡ calls.NoCipher) × IsAskedFault (converting_asks o to from) (Unit {0}))
+    ⊎ (map_err refusal_of (conversion o to from) ≡ Err d)) (sym is) (converted_refusal signs o to from e rose signer_rose same)
+
+-- ---- a public key
+
+read_refusal : (text : List ℕ) (e : ReadError) (says : Result Meaning ReadError) (rose : Type 0)
+    → (e ≡ input.NoMemory) ⊎ ((e ≡ input_fault text) × IsAskedFault (asks None text) rose) ⊎ (says ≡ Err e)
+    → (refusal_of (input_refusal e) ≡ calls.NoMemory)
+    ⊎ (map_err (λ e. refusal_of (input_refusal e)) says ≡ Err (refusal_of (input_refusal e)))
+read_refusal text e says rose (inl want) = inl (ap (λ e. refusal_of (input_refusal e)) want)
+read_refusal text e says rose (inr (inl fault)) = cc (sym (unasked text) ∙ fault.1.0)
+read_refusal text e says rose (inr (inr refused)) = inr (ap (map_err (λ e. refusal_of (input_refusal e))) refused)
+
+-- what a text comes to that is UTF-8
+abbrev keyed : Result Meaning ReadError → Result SshPublicKey PickyError
+keyed says = and_then (map_err (λ e. refusal_of (input_refusal e)) says) (λ meaning. Ok (public_key_of meaning))
+
+utf8_key : (text : List ℕ) → is_utf8 text ≡ true → public_key text ≡ keyed (reading plain_reader text)
+utf8_key text is = rw is refl
+
+refused_key : (says : Result Meaning ReadError) (g : PickyError) → map_err (λ e. refusal_of (input_refusal e)) says ≡ Err g
+    → keyed says ≡ Err g
+refused_key (Ok meaning) g same = cc same
+refused_key (Err e) g same = let one : refusal_of (input_refusal e) ≡ g = cc same in ap Err one
+
+-- how reading refuses
+abbrev Refuses : Meanings → (text : List ℕ) → ReadError → Type 0 → Type 0
+Refuses m text e rose =
+    (e ≡ input.NoMemory) ⊎ ((e ≡ input_fault text) × IsAskedFault (asks None text) rose)
+    ⊎ (reading (record plain_reader { meanings = m }) text ≡ Err e)
+
+key_refused : (text : List ℕ) (g : PickyError) → is_utf8 text ≡ true
+    → (g ≡ calls.NoMemory) ⊎ (map_err (λ e. refusal_of (input_refusal e)) (reading plain_reader text) ≡ Err g)
+    → (g ≡ calls.NoMemory) ⊎ (public_key text ≡ Err g)
+key_refused text g is (inl want) = inl want
+key_refused text g is (inr refused) = inr (utf8_key text is ∙ refused_key (reading plain_reader text) g refused)
+
+pub key_refusal : (m : Meanings) (bytes text : List ℕ) (e : ReadError) (f : ConvertError) (g : PickyError) (rose : Type 0) → m ≡ plain
+    → text ≡ bytes → is_utf8 bytes ≡ true → f ≡ input_refusal e → g ≡ refusal_of f → Refuses m text e rose
+    → (g ≡ calls.NoMemory) ⊎ (public_key bytes ≡ Err g)
+key_refusal m bytes text e f g rose means same is input_is is_g refuses =
+    let here = subst (λ t. Refuses plain t e rose) same (subst (λ n. Refuses n text e rose) means refuses) in
+    let is_refusal : g ≡ refusal_of (input_refusal e) = is_g ∙ ap refusal_of input_is in
+    let refused = read_refusal bytes e (reading plain_reader bytes) rose here in
+    key_refused bytes g is (subst (λ d. (d ≡ calls.NoMemory)
+    ⊎ (map_err (λ e. refusal_of (input_refusal e)) (reading plain_reader bytes) ≡ Err d)) (sym is_refusal) refused)

@@ -1,0 +1,33 @@
+-- What a call answers, and what it leaves in the caller's buffer.
+use Rattle.std.specs.Prelude.{◌≡◌, ◌<◌, ◌≤◌, ◌+◌, ◌++◌, ◌∷◌, List, ℕ, Bool, length, drop, Result, Ok, Err, IfOk}
+use Rattle.picky_suite.specs.Asked.{GivesAsked}
+use Rattle.picky_c.specs.declared.answer.PickyAnswer.{PickyAnswer}
+use Rattle.picky_c.specs.declared.error.PickyError.{PickyError}
+use Rattle.picky_c.specs.declared.error.PickyError.TheVariants as errors
+use Rattle.picky_c.specs.Number.{error_number}
+
+-- the bytes stand at the front of the buffer and a zero behind them, where it has room for both; else it is as it was
+pub record Hands (bytes : List ℕ) (answer : PickyAnswer) (old new : List ℕ) : Type 0 where
+  pub len : answer.len ≡ length bytes
+  pub written : length bytes < length old → (answer.error ≡ 0) × (new ≡ bytes ++ (0 ∷ drop (length bytes + 1) old))
+  pub too_small : length old ≤ length bytes → (answer.error ≡ error_number errors.BufferTooSmall) × (new ≡ old)
+
+-- the reason's number is answered, and the buffer is as it was
+pub record Refuses (e : PickyError) (answer : PickyAnswer) (old new : List ℕ) : Type 0 where
+  pub number : answer.error ≡ error_number e
+  pub len : answer.len ≡ 0
+  pub unchanged : new ≡ old
+
+-- what is come to is handed out
+abbrev pub Comes : Result (List ℕ) PickyError → PickyAnswer → (old new : List ℕ) → Type 0
+Comes (Ok bytes) answer old new = Hands bytes answer old new
+Comes (Err e) answer old new = Refuses e answer old new
+
+-- what is handed out is what the definition says, of which this holds; in its place want of memory may come, or want of a
+-- cipher, where one is asked for
+pub record Answers (says : Result (List ℕ) PickyError) (asked : Bool) (Means : List ℕ → Type 0) (answer : PickyAnswer)
+    (old new : List ℕ) : Type 0 where
+  pub outcome : Result (List ℕ) PickyError
+  pub handed : Comes outcome answer old new
+  pub gives : GivesAsked errors.NoMemory errors.NoCipher (λ bytes. bytes) outcome says asked (Unit {0})
+  pub means : IfOk outcome Means

@@ -1,0 +1,47 @@
+//! What a call answers, and what it leaves in the caller's buffer.
+
+ghost use Rattle.std.specs.Prelude.{◌≡◌};
+ghost use Rattle.picky_wire_base.specs.Outcome.{map_ok};
+ghost use Rattle.picky_c.specs.Answer.{Comes, Hands};
+
+use crate::error::PickyError;
+use crate::number::number_of;
+
+/// What a call answers.
+#[repr(C)]
+#[derive(Clone, Copy)]
+pub struct PickyAnswer {
+    /// 0, or the number of the reason why nothing was written.
+    pub error: u32,
+    /// How many bytes were asked for, where there are such.
+    pub len: usize,
+}
+
+/// Hands out what a call comes to.
+pub fn hand(outcome: Result<Vec<u8>, PickyError>, out: &mut [u8]) -> PickyAnswer
+    ensures { Comes (map_ok (λ bytes. bytes.items) outcome) result out.old out.new }
+{
+    match outcome {
+        Ok(bytes) => hand_out(bytes.as_slice(), out),
+        Err(e) => {
+            let error = number_of(&e);
+            drop(e);
+            PickyAnswer { error, len: 0 }
+        }
+    }
+}
+
+/// Puts the bytes at the front of the buffer, and a zero behind them, where it has room for both.
+fn hand_out(bytes: &[u8], out: &mut [u8]) -> PickyAnswer
+    ensures { Hands bytes.now result out.old out.new }
+{
+    let len = bytes.len();
+    if len >= out.len() {
+        let error = number_of(&PickyError::BufferTooSmall);
+        return PickyAnswer { error, len };
+    }
+    let (front, back) = out.split_at_mut(len);
+    front.copy_from_slice(bytes);
+    back[0] = 0;
+    PickyAnswer { error: 0, len }
+}

@@ -1,0 +1,85 @@
+//! What C calls.
+//!
+//! A slice is a pointer and a length to C, and a `Global` is nothing. What holds of them here a caller in C has to see to.
+
+ghost use Rattle.std.specs.Prelude.{◌≡◌, false};
+ghost use Rattle.picky_c.specs.Answer.{Answers};
+ghost use Rattle.picky_c.specs.Calls.{IsConverted, IsFingerprint, IsPart, converted as converted_of, converting_is_asked, fingerprint as fingerprint_of, public_part};
+ghost use Rattle.picky_c.specs.Name.{IsNamed, error_name};
+
+use crate::answer::{PickyAnswer, hand};
+use crate::conversion::converted;
+use crate::given::PickyBytes;
+use crate::name::{PickyName, name_of};
+use crate::public::{fingerprint, part as part_of_text};
+use std::alloc::Global;
+
+/// The text of the target with a number for what a key text means.
+///
+/// Refuses, in order: `NoSuchTarget`, `TextNotUtf8`, `PassNotUtf8`, as `picky_conversion::convert`, and `BufferTooSmall`;
+/// `NoCipher` where something is to be opened or sealed.
+#[unsafe(no_mangle)]
+pub extern "C" fn picky_convert(
+    alloc: Global,
+    text: PickyBytes<'_>,
+    target: u32,
+    pass_in: PickyBytes<'_>,
+    pass_out: PickyBytes<'_>,
+    fresh: PickyBytes<'_>,
+    out: &mut [u8],
+) -> PickyAnswer
+    ensures { Answers
+        (converted_of target text.entry.bytes.now pass_in.entry.bytes.now pass_out.entry.bytes.now fresh.entry.bytes.now)
+        (converting_is_asked target text.entry.bytes.now pass_in.entry.bytes.now pass_out.entry.bytes.now fresh.entry.bytes.now)
+        (IsConverted target text.entry.bytes.now pass_in.entry.bytes.now pass_out.entry.bytes.now fresh.entry.bytes.now)
+        result out.old out.new }
+{
+    let outcome = converted(
+        alloc,
+        text.bytes,
+        target,
+        pass_in.bytes,
+        pass_out.bytes,
+        fresh.bytes,
+    );
+    hand(outcome, out)
+}
+
+/// The SHA-256 fingerprint of the key that a text means, as `ssh-keygen -l` prints it.
+///
+/// Refuses, in order: `TextNotUtf8`, as `picky_key_text::read_text` without a passphrase, and `BufferTooSmall`.
+#[unsafe(no_mangle)]
+pub extern "C" fn picky_fingerprint(
+    alloc: Global,
+    text: PickyBytes<'_>,
+    out: &mut [u8],
+) -> PickyAnswer
+    ensures { Answers (fingerprint_of text.entry.bytes.now) false (IsFingerprint text.entry.bytes.now) result out.old out.new }
+{
+    let outcome = fingerprint(alloc, text.bytes);
+    hand(outcome, out)
+}
+
+/// The part with a number of the public key that a text means: its type's name, its blob or the comment.
+///
+/// Refuses, in order: `NoSuchPart`, and as `picky_fingerprint`.
+#[unsafe(no_mangle)]
+pub extern "C" fn picky_read_public(
+    alloc: Global,
+    text: PickyBytes<'_>,
+    part: u32,
+    out: &mut [u8],
+) -> PickyAnswer
+    ensures { Answers (public_part text.entry.bytes.now part) false (IsPart text.entry.bytes.now part) result out.old out.new }
+{
+    let outcome = part_of_text(alloc, text.bytes, part);
+    hand(outcome, out)
+}
+
+/// The name of the number that a call answers, and zeros behind it; a number that none answers has none.
+#[unsafe(no_mangle)]
+pub extern "C" fn picky_error_name(error: u32) -> PickyName
+    ensures { IsNamed (error_name error) result.text }
+{
+    name_of(error)
+}

@@ -1,0 +1,49 @@
+//! What a caller gives: bytes, and texts among them.
+
+ghost use Rattle.std.specs.Prelude.{◌≡◌, true, false, MatchOption};
+ghost use Rattle.std.specs.Option.{option_copied};
+ghost use Rattle.std.specs.Str.{IsUtf8, is_utf8};
+ghost use Rattle.picky_c.specs.Given.{pass_in};
+
+use std::str;
+
+/// Bytes that the caller keeps.
+#[repr(C)]
+#[derive(Clone, Copy)]
+pub struct PickyBytes<'a> {
+    pub bytes: &'a [u8],
+}
+
+/// The bytes as a text, where they are UTF-8.
+#[tactic(auto, using(picky_wire_base::proofs::TextLemmas::is_no_text, crate::proofs::GivenLemmas::is_text))]
+pub fn as_text(bytes: &[u8]) -> Option<&str>
+    ensures { MatchOption result (is_utf8 bytes.now ≡ false) (λ text. (text.now ≡ bytes.now) × (is_utf8 bytes.now ≡ true)) }
+{
+    match of_utf8(bytes) {
+        Some(text) => Some(text),
+        None => None,
+    }
+}
+
+/// The same. What a caller in C gives as no bytes may point nowhere, and then no text is made of it.
+#[tactic(auto, using(crate::proofs::GivenLemmas::nothing_is_text))]
+fn of_utf8(bytes: &[u8]) -> Option<&str>
+    ensures { MatchOption result (IsUtf8 bytes.now → ⊥) (λ text. (text.now ≡ bytes.now) × IsUtf8 bytes.now) }
+{
+    match bytes {
+        [] => Some(""),
+        bytes => str::from_utf8(bytes).ok(),
+    }
+}
+
+/// The bytes as a passphrase, where they are UTF-8; no bytes are none.
+pub fn as_pass(bytes: &[u8]) -> Option<Option<&str>>
+    ensures { MatchOption result (is_utf8 bytes.now ≡ false)
+        (λ pass. (option_copied pass ≡ pass_in bytes.now) × (is_utf8 bytes.now ≡ true)) }
+{
+    match as_text(bytes) {
+        Some(text) if text.is_empty() => Some(None),
+        Some(text) => Some(Some(text)),
+        None => None,
+    }
+}

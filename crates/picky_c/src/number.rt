@@ -1,0 +1,157 @@
+//! The number of each reason why a call hands out no bytes.
+//!
+//! Those of one kind of text stand in a hundred, in the order of its errors.
+
+ghost use Rattle.std.specs.Prelude.{◌≡◌, ◌<◌};
+ghost use Rattle.picky_c.specs.Number.{certificate_number as certificate_number_of, error_number, private_number as private_number_of, public_number as public_number_of, putty_number as putty_number_of, read_number as read_number_of, refused_number};
+
+use crate::error::PickyError;
+use picky_cert::SshCertificateError;
+use picky_key_text::ReadError;
+use picky_keys::SshPublicKeyError;
+use picky_ppk::PuttyError;
+use picky_sshkey::SshPrivateKeyError;
+use picky_target::ConvertError;
+
+/// The number of a reason.
+pub fn number_of(e: &PickyError) -> u32
+    ensures { result ≡ error_number e.now }
+{
+    match e {
+        PickyError::BufferTooSmall => 1,
+        PickyError::NoMemory => 2,
+        PickyError::TextNotUtf8 => 3,
+        PickyError::PassNotUtf8 => 4,
+        PickyError::NoSuchTarget => 5,
+        PickyError::NoSuchPart => 6,
+        PickyError::NoCipher => 7,
+        PickyError::Refused(e) => convert_number(e),
+    }
+}
+
+/// That of a conversion's refusal; what is refused of a certificate that is asked for has the number of no answer.
+fn convert_number(e: &ConvertError) -> u32
+    ensures { result ≡ refused_number e.now }
+{
+    match e {
+        ConvertError::Input(e) => read_number(e),
+        ConvertError::Issuer(_) | ConvertError::Request(_) => 99,
+        ConvertError::NoPrivateKey => 8,
+        ConvertError::CommentNotCarried => 9,
+        ConvertError::Private(e) => 500 + private_number(e),
+        ConvertError::Putty(e) => 600 + putty_number(e),
+        ConvertError::FreshTooShort => 10,
+        ConvertError::TooLong => 11,
+        ConvertError::TooManyLines => 12,
+        ConvertError::NoMemory => 2,
+    }
+}
+
+/// That of a key text which means nothing.
+fn read_number(e: &ReadError) -> u32
+    ensures { result ≡ read_number_of e.now }
+{
+    match e {
+        ReadError::Private(e) => 100 + private_number(e),
+        ReadError::Public(e) => 200 + public_number(e),
+        ReadError::Certificate(e) => 300 + certificate_number(e),
+        ReadError::Putty(e) => 400 + putty_number(e),
+        ReadError::NoMemory => 2,
+    }
+}
+
+/// The place of an OpenSSH private key's error in its hundred.
+fn private_number(e: &SshPrivateKeyError) -> u32
+    ensures number { result ≡ private_number_of e.now }
+    ensures place { result < 100 }
+{
+    match e {
+        SshPrivateKeyError::FromUtf8Error => 0,
+        SshPrivateKeyError::IoError(_) => 1,
+        SshPrivateKeyError::UnsupportedKeyType(_) => 2,
+        SshPrivateKeyError::UnsupportedCipher(_) => 3,
+        SshPrivateKeyError::UnsupportedKdf(_) => 4,
+        SshPrivateKeyError::InvalidAuthMagicHeader => 5,
+        SshPrivateKeyError::InvalidKeysAmount(_) => 6,
+        SshPrivateKeyError::InvalidCheckNumbers(_, _) => 7,
+        SshPrivateKeyError::InvalidKeyFormat => 8,
+        SshPrivateKeyError::DecryptionError => 9,
+        SshPrivateKeyError::HashingError => 10,
+        SshPrivateKeyError::MissingPassphrase => 11,
+        SshPrivateKeyError::KeyError => 12,
+        SshPrivateKeyError::PemError(_) => 13,
+        SshPrivateKeyError::SuiteFault => 14,
+        SshPrivateKeyError::TooLong => 15,
+        SshPrivateKeyError::NoMemory => 16,
+        SshPrivateKeyError::PublicKeyMismatch => 17,
+    }
+}
+
+/// That of a public key line's.
+fn public_number(e: &SshPublicKeyError) -> u32
+    ensures number { result ≡ public_number_of e.now }
+    ensures place { result < 100 }
+{
+    match e {
+        SshPublicKeyError::IoError(_) => 0,
+        SshPublicKeyError::InvalidUtf8 => 1,
+        SshPublicKeyError::Base64DecodeError => 2,
+        SshPublicKeyError::UnknownKeyType => 3,
+        SshPublicKeyError::KeyError => 4,
+        SshPublicKeyError::TooLong => 5,
+        SshPublicKeyError::NoMemory => 6,
+    }
+}
+
+/// That of a certificate's.
+fn certificate_number(e: &SshCertificateError) -> u32
+    ensures number { result ≡ certificate_number_of e.now }
+    ensures place { result < 100 }
+{
+    match e {
+        SshCertificateError::CertificateProcessingError(_) => 0,
+        SshCertificateError::UnsupportedCertificateType(_) => 1,
+        SshCertificateError::SshCriticalOptionError(_) => 2,
+        SshCertificateError::SshExtensionError(_) => 3,
+        SshCertificateError::InvalidUtf8 => 4,
+        SshCertificateError::Base64DecodeError => 5,
+        SshCertificateError::InvalidCertificateType(_) => 6,
+        SshCertificateError::InvalidCertificateKeyType(_) => 7,
+        SshCertificateError::InvalidPublicKey(_) => 8,
+        SshCertificateError::KeyError => 9,
+        SshCertificateError::SubjectMismatch => 10,
+        SshCertificateError::SshSignatureError(_) => 11,
+        SshCertificateError::TooLong => 12,
+        SshCertificateError::NoMemory => 13,
+    }
+}
+
+/// That of a PuTTY text's.
+fn putty_number(e: &PuttyError) -> u32
+    ensures number { result ≡ putty_number_of e.now }
+    ensures place { result < 100 }
+{
+    match e {
+        PuttyError::EndOfInput => 0,
+        PuttyError::InvalidInput { .. } => 1,
+        PuttyError::InvalidKeyValueFormat => 2,
+        PuttyError::Aes => 3,
+        PuttyError::Argon2 => 4,
+        PuttyError::MacValidation => 5,
+        PuttyError::PublicAndPrivateKeyMismatch => 6,
+        PuttyError::InvalidPrivateKeyData => 7,
+        PuttyError::InvalidPublicKeyData => 8,
+        PuttyError::InvalidPublicKeyContainer => 9,
+        PuttyError::InvalidPublicKeyComment => 10,
+        PuttyError::AlreadyDecrypted => 11,
+        PuttyError::AlreadyEncrypted => 12,
+        PuttyError::Encrypted => 13,
+        PuttyError::NotSupported { .. } => 14,
+        PuttyError::SshPublicKey(_) => 15,
+        PuttyError::IoError(_) => 16,
+        PuttyError::SuiteFault => 17,
+        PuttyError::TooLong => 18,
+        PuttyError::TooManyLines => 19,
+        PuttyError::NoMemory => 20,
+    }
+}

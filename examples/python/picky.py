@@ -1,0 +1,109 @@
+#!/usr/bin/env python3
+"""picky from Python, by ctypes: a module, and a program that converts a key.
+
+    make && ./picky.py ppk3 < key
+
+The program's words are "openssh", "ppk2", "ppk3", "ssh-pub" and "putty-pub", as keyconv's, and "fingerprint", which prints the
+SHA-256 fingerprint alone. It refuses as keyconv does, with status 1 and a line on standard error.
+"""
+import ctypes
+import sys
+from pathlib import Path
+
+TARGETS = {"openssh": 1, "ppk2": 2, "ppk3": 3, "ssh-pub": 4, "putty-pub": 5}
+PARTS = {"type": 1, "blob": 2, "comment": 3}
+OK, BUFFER_TOO_SMALL = 0, 1
+
+
+class Bytes(ctypes.Structure):
+    _fields_ = [("at", ctypes.c_char_p), ("len", ctypes.c_size_t)]
+
+    def __init__(self, data):
+        super().__init__(data, len(data))
+        self.kept = data
+
+
+class Answer(ctypes.Structure):
+    _fields_ = [("error", ctypes.c_uint32), ("len", ctypes.c_size_t)]
+
+
+class Name(ctypes.Structure):
+    _fields_ = [("text", ctypes.c_char * 48)]
+
+
+class PickyError(Exception):
+    """A refusal, by its number and its name."""
+
+    def __init__(self, number, name):
+        super().__init__(name)
+        self.number = number
+
+
+def load(path=Path(__file__).with_name("libpicky.so")):
+    """The library, with the types of its calls."""
+    library = ctypes.CDLL(str(path))
+    out = [ctypes.c_char_p, ctypes.c_size_t]
+    for call, given in (
+        (library.picky_convert, [Bytes, ctypes.c_uint32, Bytes, Bytes, Bytes]),
+        (library.picky_fingerprint, [Bytes]),
+        (library.picky_read_public, [Bytes, ctypes.c_uint32]),
+    ):
+        call.argtypes, call.restype = given + out, Answer
+    library.picky_error_name.argtypes, library.picky_error_name.restype = [ctypes.c_uint32], Name
+    return library
+
+
+library = load()
+
+
+def error_name(number):
+    """The name of an error's number; "" where it has none."""
+    return library.picky_error_name(number).text.decode()
+
+
+def handed_out(call, *given):
+    """What a call hands out: asked for with no room first, which tells how much it takes."""
+    room = 0
+    while True:
+        out = ctypes.create_string_buffer(max(room, 1))
+        answer = call(*given, ctypes.cast(out, ctypes.c_char_p), room)
+        if answer.error == OK:
+            return out.raw[: answer.len]
+        if answer.error != BUFFER_TOO_SMALL:
+            raise PickyError(answer.error, error_name(answer.error))
+        room = answer.len + 1
+
+
+def convert(text, target, pass_in=b"", pass_out=b"", fresh=b""):
+    """The text of a target for the key and the comment that a text means."""
+    return handed_out(library.picky_convert, Bytes(text), target, Bytes(pass_in), Bytes(pass_out), Bytes(fresh))
+
+
+def fingerprint(text):
+    """The SHA-256 fingerprint of the key that a text means."""
+    return handed_out(library.picky_fingerprint, Bytes(text)).decode()
+
+
+def read_public(text, part):
+    """A part of the public key that a text means."""
+    return handed_out(library.picky_read_public, Bytes(text), part)
+
+
+def main(words):
+    if len(words) != 1 or words[0] not in {*TARGETS, "fingerprint"}:
+        print("usage: picky.py openssh|ppk2|ppk3|ssh-pub|putty-pub|fingerprint < KEY", file=sys.stderr)
+        return 2
+    text = sys.stdin.buffer.read()
+    try:
+        if words[0] == "fingerprint":
+            print(fingerprint(text))
+        else:
+            sys.stdout.buffer.write(convert(text, TARGETS[words[0]]))
+    except PickyError as refusal:
+        print(f"picky.py: {refusal}", file=sys.stderr)
+        return 1
+    return 0
+
+
+if __name__ == "__main__":
+    sys.exit(main(sys.argv[1:]))

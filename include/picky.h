@@ -1,0 +1,229 @@
+/*
+ * picky from C: SSH keys converted, fingerprinted and taken apart. Every call is proved. Link libpicky.a, which ./install-c makes.
+ *
+ * A key text is UTF-8, in one of five forms, told by how it begins: an OpenSSH private key, a PuTTY private key file, a PuTTY
+ * public key, a certificate's line or a public key line (docs/FORMATS.md, "Key text"). A call reads it and hands out bytes:
+ *
+ *     char out[64];
+ *     picky_answer answer = picky_fingerprint((picky_bytes){line, strlen(line)}, out, sizeof out);
+ *     puts(answer.error == PICKY_OK ? out : picky_error_name(answer.error).text);
+ *
+ * What a call does with `out`, of `out_len` bytes:
+ *
+ *   PICKY_OK                 `len` bytes are handed out: they stand at the front of `out`, with a zero byte behind them. What
+ *                            follows is as it was.
+ *   PICKY_BUFFER_TOO_SMALL   there are `len` bytes to hand out, and `out_len` is `len` or less: `out` is as it was. Ask again
+ *                            with a buffer of `len` + 1 bytes; the answer is the same then, but for want of memory.
+ *   any other error          there are no bytes, for the first reason in the order that the call states: `len` is 0, and `out`
+ *                            is as it was.
+ *
+ * What is given determines the answer, but that PICKY_NO_MEMORY may come in its place, and PICKY_NO_CIPHER where something is
+ * to be encrypted or decrypted.
+ *
+ * The calls keep nothing, have no state and take no callback. They may run in any number of threads at once.
+ *
+ * ---- What is proved, and of which caller
+ *
+ * The contracts of crates/picky_c/src/exports.rt say the above and what stands at each call, and are proved for every text,
+ * number and length: whatever the bytes, a call ends, reads and writes nothing else, and frees what it allocates. No proof
+ * sees a caller in C. It has to see to this:
+ *
+ *   - A pointer isn't NULL, and points to as many bytes as its length says, fewer than 2^63. They can be read, and those of
+ *     `out` written. For no bytes give "" and 0. (NULL and 0 work too: check/c tries them, and no proof speaks of NULL.)
+ *   - `out` overlaps nothing else that the call is given, and until the call returns nobody else reads or writes it, or writes
+ *     what the call reads.
+ *   - malloc, realloc and free are one allocator, which aligns as C wants it. The calls use these three and memmove, memcpy,
+ *     memset and memcmp, and no other function of the C library.
+ *   - The stack has room: 64 KiB are enough (check/c measures it). A call isn't made in a signal handler, nor in a forked child
+ *     of a process with threads.
+ *   - This header fits the library. It is written by hand; check/c holds its numbers, names and sizes against the code.
+ *
+ * Not proved: how long a call takes and how much memory; that what is handed out is wiped from memory that was freed (it
+ * isn't); and what PROVED.md lists under "What is neither proved nor tested".
+ */
+#ifndef PICKY_H
+#define PICKY_H
+
+#include <stddef.h>
+#include <stdint.h>
+
+#ifdef __cplusplus
+extern "C" {
+#endif
+
+/* Bytes that the caller keeps. */
+typedef struct picky_bytes {
+    const void *at;
+    size_t len;
+} picky_bytes;
+
+/* What a call answers: 0, or the number of the reason why nothing was written; and how many bytes there are to hand out. */
+typedef struct picky_answer {
+    uint32_t error;
+    size_t len;
+} picky_answer;
+
+/* A name, with zeros behind it. */
+typedef struct picky_name {
+    char text[48];
+} picky_name;
+
+/* What a key text is converted to. */
+enum {
+    PICKY_OPENSSH = 1,        /* the private key and the comment as OpenSSH has them; its lines end in LF */
+    PICKY_PPK2 = 2,           /* the same as a PuTTY private key file of version 2; lines end in CR LF */
+    PICKY_PPK3 = 3,           /* the same of version 3; lines end in LF */
+    PICKY_OPENSSH_PUBLIC = 4, /* the public key and the comment as one line, which ends in CR LF */
+    PICKY_PUTTY_PUBLIC = 5    /* the same as PuTTYgen saves it; lines end in CR LF */
+};
+
+/* The parts of a public key. */
+enum {
+    PICKY_TYPE_NAME = 1, /* the name of its type, as "ssh-ed25519" */
+    PICKY_BLOB = 2,      /* its blob, as bytes (RFC 4253, section 6.6) */
+    PICKY_COMMENT = 3    /* the comment beside it; it may be empty */
+};
+
+/*
+ * The key and the comment that a text means, as the text of a target: the one text that spells them (of a public target: the
+ * public part), which means them again when it is read.
+ *
+ * The text is read under `pass_in` and written under `pass_out`, with the fresh bytes as salt and padding; a passphrase of no
+ * bytes is none. This library has no cipher. So what isn't encrypted is read whatever the passphrase, and what is, or is to be,
+ * is PICKY_NO_CIPHER.
+ *
+ * Reasons, in order: PICKY_NO_SUCH_TARGET; PICKY_TEXT_NOT_UTF8; PICKY_PASS_NOT_UTF8; PICKY_INPUT_..; PICKY_NO_PRIVATE_KEY;
+ * PICKY_OUTPUT_PUTTY + PICKY_PUTTY_NOT_SUPPORTED; PICKY_COMMENT_NOT_CARRIED; PICKY_OUTPUT_..; PICKY_FRESH_TOO_SHORT;
+ * PICKY_TOO_LONG; PICKY_TOO_MANY_LINES; PICKY_BUFFER_TOO_SMALL.
+ */
+picky_answer picky_convert(picky_bytes text, uint32_t target, picky_bytes pass_in, picky_bytes pass_out, picky_bytes fresh,
+                           void *out, size_t out_len);
+
+/*
+ * The SHA-256 fingerprint of the key that a text means, as `ssh-keygen -l` prints it: "SHA256:" and 43 characters.
+ *
+ * Reasons, in order: PICKY_TEXT_NOT_UTF8; PICKY_INPUT_..; PICKY_BUFFER_TOO_SMALL.
+ */
+picky_answer picky_fingerprint(picky_bytes text, void *out, size_t out_len);
+
+/*
+ * A part of the public key that a text means; of a certificate, of its subject's.
+ *
+ * Reasons, in order: PICKY_NO_SUCH_PART; PICKY_TEXT_NOT_UTF8; PICKY_INPUT_..; PICKY_BUFFER_TOO_SMALL.
+ */
+picky_answer picky_read_public(picky_bytes text, uint32_t part, void *out, size_t out_len);
+
+/*
+ * The name of an error, as "BufferTooSmall" or "input.putty.MacValidation"; of a number that isn't listed here, "". A refusal
+ * has the name that keyconv prints behind "refused: ".
+ */
+picky_name picky_error_name(uint32_t error);
+
+/* Errors. */
+enum {
+    PICKY_OK = 0,
+    PICKY_BUFFER_TOO_SMALL = 1,    /* `out` has no room for `len` bytes and a zero */
+    PICKY_NO_MEMORY = 2,           /* memory ran out */
+    PICKY_TEXT_NOT_UTF8 = 3,       /* the key text isn't UTF-8 */
+    PICKY_PASS_NOT_UTF8 = 4,       /* a passphrase isn't UTF-8 */
+    PICKY_NO_SUCH_TARGET = 5,      /* the number names no target */
+    PICKY_NO_SUCH_PART = 6,        /* the number names no part */
+    PICKY_NO_CIPHER = 7,           /* to read or to write this takes a cipher */
+    PICKY_NO_PRIVATE_KEY = 8,      /* the target keeps the secret, and the key is a public one */
+    PICKY_COMMENT_NOT_CARRIED = 9, /* the target can't hold the comment */
+    PICKY_FRESH_TOO_SHORT = 10,    /* to encrypt takes more fresh bytes */
+    PICKY_TOO_LONG = 11,           /* what is to be written has 2^32 bytes or more */
+    PICKY_TOO_MANY_LINES = 12      /* a block of PuTTY's file has 65,536 lines or more */
+};
+
+/* The hundreds of errors. A number in one of them is the sum of the hundred and of an error of its kind, below. */
+enum {
+    PICKY_INPUT_PRIVATE = 100,  /* as an OpenSSH private key, the text means none: and one of PICKY_PRIVATE_.. */
+    PICKY_INPUT_PUBLIC = 200,   /* as a public key line, the text means none: PICKY_PUBLIC_.. */
+    PICKY_INPUT_CERT = 300,     /* as a certificate's line, the text means none: PICKY_CERT_.. */
+    PICKY_INPUT_PUTTY = 400,    /* as PuTTY's private or public key, the text means none: PICKY_PUTTY_.. */
+    PICKY_OUTPUT_PRIVATE = 500, /* the key can't be encrypted as an OpenSSH private key: PICKY_PRIVATE_.. */
+    PICKY_OUTPUT_PUTTY = 600    /* PuTTY has no such key, or it can't be encrypted as its file: PICKY_PUTTY_.. */
+};
+
+/* Of OpenSSH private keys. */
+enum {
+    PICKY_PRIVATE_FROM_UTF8_ERROR = 0,           /* a string that must be UTF-8 isn't */
+    PICKY_PRIVATE_IO_ERROR = 1,                  /* the bytes are cut inside a field */
+    PICKY_PRIVATE_UNSUPPORTED_KEY_TYPE = 2,      /* a key type that isn't read here */
+    PICKY_PRIVATE_UNSUPPORTED_CIPHER = 3,        /* a cipher that isn't read here */
+    PICKY_PRIVATE_UNSUPPORTED_KDF = 4,           /* a key derivation that isn't read here */
+    PICKY_PRIVATE_INVALID_AUTH_MAGIC_HEADER = 5, /* the bytes begin with none that mark a private key */
+    PICKY_PRIVATE_INVALID_KEYS_AMOUNT = 6,       /* there isn't one key */
+    PICKY_PRIVATE_INVALID_CHECK_NUMBERS = 7,     /* the two check numbers differ */
+    PICKY_PRIVATE_INVALID_KEY_FORMAT = 8,        /* the parts of the key don't agree, or don't have the form of its kind */
+    PICKY_PRIVATE_DECRYPTION_ERROR = 9,          /* the key is not decrypted */
+    PICKY_PRIVATE_HASHING_ERROR = 10,            /* no key is derived from the passphrase */
+    PICKY_PRIVATE_MISSING_PASSPHRASE = 11,       /* the key is encrypted, and there is no passphrase */
+    PICKY_PRIVATE_KEY_ERROR = 12,                /* an Ed25519 public key isn't 32 bytes */
+    PICKY_PRIVATE_PEM_ERROR = 13,                /* the text is no PEM */
+    PICKY_PRIVATE_SUITE_FAULT = 14,              /* never: it is PICKY_NO_CIPHER */
+    PICKY_PRIVATE_TOO_LONG = 15,                 /* there are 2^32 bytes or more */
+    PICKY_PRIVATE_NO_MEMORY = 16,                /* never: it is PICKY_NO_MEMORY */
+    PICKY_PRIVATE_PUBLIC_KEY_MISMATCH = 17       /* the public key before the private one is another */
+};
+
+/* Of public key lines. */
+enum {
+    PICKY_PUBLIC_IO_ERROR = 0,            /* the blob is cut inside a field */
+    PICKY_PUBLIC_INVALID_UTF8 = 1,        /* a string that must be UTF-8 isn't */
+    PICKY_PUBLIC_BASE64_DECODE_ERROR = 2, /* the second word is no base64 */
+    PICKY_PUBLIC_UNKNOWN_KEY_TYPE = 3,    /* the first word, or the name in the blob, names no key type that is read here */
+    PICKY_PUBLIC_KEY_ERROR = 4,           /* an Ed25519 key isn't 32 bytes */
+    PICKY_PUBLIC_TOO_LONG = 5,            /* there are 2^32 bytes or more */
+    PICKY_PUBLIC_NO_MEMORY = 6            /* never: it is PICKY_NO_MEMORY */
+};
+
+/* Of certificates' lines. */
+enum {
+    PICKY_CERT_CERTIFICATE_PROCESSING_ERROR = 0, /* the bytes end inside a field */
+    PICKY_CERT_UNSUPPORTED_CERTIFICATE_TYPE = 1, /* a certificate for a DSS key */
+    PICKY_CERT_SSH_CRITICAL_OPTION_ERROR = 2,    /* a critical option is refused */
+    PICKY_CERT_SSH_EXTENSION_ERROR = 3,          /* an extension is refused */
+    PICKY_CERT_INVALID_UTF8 = 4,                 /* a string that must be UTF-8 isn't */
+    PICKY_CERT_BASE64_DECODE_ERROR = 5,          /* the second word is no base64 */
+    PICKY_CERT_INVALID_CERTIFICATE_TYPE = 6,     /* it is neither a user's nor a host's */
+    PICKY_CERT_INVALID_CERTIFICATE_KEY_TYPE = 7, /* the name names no type of certificate */
+    PICKY_CERT_INVALID_PUBLIC_KEY = 8,           /* the issuer's key is refused */
+    PICKY_CERT_KEY_ERROR = 9,                    /* an Ed25519 key isn't 32 bytes */
+    PICKY_CERT_SUBJECT_MISMATCH = 10,            /* never: reading doesn't give it */
+    PICKY_CERT_SSH_SIGNATURE_ERROR = 11,         /* the signature is refused; none is verified */
+    PICKY_CERT_TOO_LONG = 12,                    /* there are 2^32 bytes or more */
+    PICKY_CERT_NO_MEMORY = 13                    /* never: it is PICKY_NO_MEMORY */
+};
+
+/* Of PuTTY's files. */
+enum {
+    PICKY_PUTTY_END_OF_INPUT = 0,                    /* a line is missing */
+    PICKY_PUTTY_INVALID_INPUT = 1,                   /* a line's key or value, a count or a block is none that is known there */
+    PICKY_PUTTY_INVALID_KEY_VALUE_FORMAT = 2,        /* a line has no ": " */
+    PICKY_PUTTY_AES = 3,                             /* an encrypted block is no multiple of 16 bytes */
+    PICKY_PUTTY_ARGON2 = 4,                          /* Argon2 can't be run with these numbers */
+    PICKY_PUTTY_MAC_VALIDATION = 5,                  /* the MAC is another than the one of the fields */
+    PICKY_PUTTY_PUBLIC_AND_PRIVATE_KEY_MISMATCH = 6, /* the public blob is of another kind or curve than the algorithm */
+    PICKY_PUTTY_INVALID_PRIVATE_KEY_DATA = 7,        /* an Ed25519 secret has more than 32 bytes */
+    PICKY_PUTTY_INVALID_PUBLIC_KEY_DATA = 8,         /* the body of a public key is no base64 */
+    PICKY_PUTTY_INVALID_PUBLIC_KEY_CONTAINER = 9,    /* the first line is not the header of a public key */
+    PICKY_PUTTY_INVALID_PUBLIC_KEY_COMMENT = 10,     /* the second line is no comment line of a public key */
+    PICKY_PUTTY_ALREADY_DECRYPTED = 11,              /* the file is not encrypted */
+    PICKY_PUTTY_ALREADY_ENCRYPTED = 12,              /* the file is encrypted already */
+    PICKY_PUTTY_ENCRYPTED = 13,                      /* the file is encrypted, and there is no passphrase */
+    PICKY_PUTTY_NOT_SUPPORTED = 14,                  /* PuTTY has no such key */
+    PICKY_PUTTY_SSH_PUBLIC_KEY = 15,                 /* the blob holds no public key */
+    PICKY_PUTTY_IO_ERROR = 16,                       /* a blob is cut */
+    PICKY_PUTTY_SUITE_FAULT = 17,                    /* never: it is PICKY_NO_CIPHER */
+    PICKY_PUTTY_TOO_LONG = 18,                       /* there are 2^32 bytes or more */
+    PICKY_PUTTY_TOO_MANY_LINES = 19,                 /* a block has 65,536 lines or more */
+    PICKY_PUTTY_NO_MEMORY = 20                       /* never: it is PICKY_NO_MEMORY */
+};
+
+#ifdef __cplusplus
+}
+#endif
+
+#endif
