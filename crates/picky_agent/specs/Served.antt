@@ -21,8 +21,8 @@ pub record Scene : Type 0 where
   pub written : List ℕ
   pub sink_faults : ℕ
 
-abbrev pub scene : Kept → (signer_faults : ℕ) → (left : List ℕ) → (source_faults : ℕ) → (written : List ℕ) → (sink_faults : ℕ)
-    → Scene
+abbrev pub scene : Kept → (signer_faults : ℕ) → (left : List ℕ) → (source_faults : ℕ) → (written : List ℕ)
+    → (sink_faults : ℕ) → Scene
 scene kept signer_faults left source_faults written sink_faults = record {
   kept = kept;
   signer_faults = signer_faults;

@@ -1,5 +1,6 @@
 -- The law on the failure: in which cases it comes.
-use Rattle.std.proofs.Common.{◌≡◌, ◌≢◌, ◌≤◌, ◌<◌, ◌^◌, ◌++◌, ◌∙◌, [], ◌∷◌, ℕ, List, length, ap, sym, subst, refl, inl, inr, arith, Option, Some, None}
+use Rattle.std.proofs.Common.{◌≡◌, ◌≢◌, ◌≤◌, ◌<◌, ◌^◌, ◌++◌, ◌∙◌, [], ◌∷◌, ℕ, List, length, ap, sym, subst, refl, inl, inr}
+use Rattle.std.proofs.Common.{arith, Option, Some, None}
 use Rattle.std.specs.Prelude.{◌⊎◌, Bool, true, false, nat_lt, get_or, MatchBool, if◌then◌else◌}
 use Rattle.std.specs.Int.{w32, to_be_bytes}
 use Rattle.std.specs.List.{flat_map}

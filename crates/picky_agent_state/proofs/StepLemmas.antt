@@ -1,5 +1,6 @@
 -- Lemmas on a step: what the rows of the code say of it.
-use Rattle.std.proofs.Common.{◌≡◌, ◌⊎◌, ◌∙◌, ℕ, Bool, false, List, get_or, Result, Ok, Err, Option, Some, None, IfOk, MatchBool, ap, inl, refl, subst, sym}
+use Rattle.std.proofs.Common.{◌≡◌, ◌⊎◌, ◌∙◌, ℕ, Bool, false, List, get_or, Result, Ok, Err, Option, Some, None, IfOk, MatchBool}
+use Rattle.std.proofs.Common.{ap, inl, refl, subst, sym}
 use Rattle.std.proofs.lemmas.Option.{get_or_from_slice_get}
 use Rattle.picky_suite.specs.Signs.{Relation}
 use Rattle.picky_keys.specs.declared.key.SshBasePublicKey.{SshBasePublicKey}

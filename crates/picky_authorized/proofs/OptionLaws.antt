@@ -7,7 +7,8 @@ use Rattle.std.specs.List.{AllByRecursion, after_first, before_first, list_all, 
 use Rattle.std.specs.Option.{option_map}
 use Rattle.picky_text.proofs.ListLaws.{all_append, cut_at_first, uncut}
 use Rattle.picky_authorized.specs.declared.auth_option.AuthOption.{AuthOption}
-use Rattle.picky_authorized.specs.OptionText.{IsClosed, IsOption, escaped, is_equals, is_name, is_name_byte, named, option_in, quoted_text_in, text_in, value_in, value_spelled}
+use Rattle.picky_authorized.specs.OptionText.{IsClosed, IsOption, escaped, is_equals, is_name, is_name_byte, named, option_in}
+use Rattle.picky_authorized.specs.OptionText.{quoted_text_in, text_in, value_in, value_spelled}
 use Rattle.picky_authorized.proofs.ValueLemmas.{behind, text_goes}
 
 -- ---- options of a type

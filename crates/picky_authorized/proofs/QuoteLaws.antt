@@ -1,6 +1,8 @@
 -- The longest front in which each byte of a sort stands between quotes.
-use Rattle.std.proofs.Common.{◌≡◌, ℕ, ◌&&◌, Bool, true, false, not, List, [], ◌∷◌, ◌++◌, length, drop, ◌↔◌, refl, sym, ◌∙◌, ap, inl, inr, subst}
-use Rattle.std.proofs.lemmas.Bool.{and_cases, and_from, and_left, and_parts, and_right, cases_Bool, not-false, not-true, not_from_false, not_from_true}
+use Rattle.std.proofs.Common.{◌≡◌, ℕ, ◌&&◌, Bool, true, false, not, List, [], ◌∷◌, ◌++◌, length, drop, ◌↔◌, refl, sym, ◌∙◌, ap}
+use Rattle.std.proofs.Common.{inl, inr, subst}
+use Rattle.std.proofs.lemmas.Bool.{and_cases, and_from, and_left, and_parts, and_right, cases_Bool, not-false, not-true}
+use Rattle.std.proofs.lemmas.Bool.{not_from_false, not_from_true}
 use Rattle.picky_authorized.specs.Quotes.{IsFront, front_from, front_outside, quoted_after, quoted_behind, rest_outside}
 use Rattle.picky_authorized.proofs.QuoteLemmas.{front_and_rest, rest_begins}
 

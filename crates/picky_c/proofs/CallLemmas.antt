@@ -30,7 +30,7 @@ use Rattle.picky_c.specs.Given.{plain_outside, plain_reader}
 use Rattle.picky_c.specs.Refusal.{refusal_of}
 use Rattle.picky_c.specs.declared.error.PickyError.{PickyError}
 use Rattle.picky_c.specs.declared.error.PickyError.TheVariants as calls
-use Rattle.picky_c.proofs.UnaskedLemmas.{unasked}
+use Rattle.picky_key_text.proofs.UnaskedLaws.{unasked}
 
 -- ---- a conversion
 

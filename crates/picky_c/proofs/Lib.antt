@@ -1,5 +1,4 @@
 pub mod NameLemmas
-pub mod UnaskedLemmas
 pub mod CallLemmas
 pub mod LawLemmas
 pub mod NamedLemmas

@@ -1,5 +1,6 @@
 -- Names are short, and what is written for one.
-use Rattle.std.proofs.Common.{◌≡◌, ◌==◌, ◌≤◌, ◌/◌, ◌%◌, ◌&&◌, ◌++◌, ◌-◌, ◌+◌, ◌∙◌, ap, sym, append_assoc, drop, replicate, List, [], ◌∷◌, ℕ, Bool, true, false, length, get_or, arith, refl, rules, zero, suc}
+use Rattle.std.proofs.Common.{◌≡◌, ◌==◌, ◌≤◌, ◌/◌, ◌%◌, ◌&&◌, ◌++◌, ◌-◌, ◌+◌, ◌∙◌, ap, sym, append_assoc, drop, replicate, List}
+use Rattle.std.proofs.Common.{[], ◌∷◌, ℕ, Bool, true, false, length, get_or, arith, refl, rules, zero, suc}
 use Rattle.std.specs.Prelude.{nat_le, if◌then◌else◌}
 use Rattle.std.proofs.lemmas.List.{drop-drop, drop-replicate, length-append}
 use Rattle.picky_c.specs.Name.{own_names, private_names, public_names, certificate_names, putty_names, leaf_name, names_in, path_to}

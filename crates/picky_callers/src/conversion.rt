@@ -7,6 +7,7 @@ ghost use Rattle.picky.specs.Reads.{Reads};
 ghost use Rattle.picky.specs.declared.convert.Meaning.{Meaning as Meant};
 ghost use Rattle.picky_callers.specs.Alone.{alone, to_putty};
 
+use picky::convert::laws::key_text::no_passphrase_asks_no_suite;
 use picky::convert::{ConvertError, Target, convert};
 use picky::putty::{PpkEncryptionConfig, PpkVersion};
 use picky::ssh::{HandedSigner, PlainSuite};
@@ -23,6 +24,7 @@ pub fn putty_text(alloc: Global, input: &str) -> Result<Text, ConvertError>
     // Else it is refused in `convert`'s order. No suite is asked, since nothing is opened and nothing sealed.
     ensures refused { IfErr result (λ e. (e ≡ ConvertError.NoMemory) ⊎ (conversion alone to_putty input.now ≡ Err e)) }
 {
+    no_passphrase_asks_no_suite();
     let target = Target::Ppk(PpkVersion::V3, PpkEncryptionConfig::default());
     let mut suite = PlainSuite::new();
     let mut signer = HandedSigner::new(None);

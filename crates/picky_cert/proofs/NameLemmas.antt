@@ -17,7 +17,8 @@ use Rattle.picky_keys.specs.KeyNameTables.{key_types}
 use Rattle.picky_keys.specs.declared.curve.EcCurve.{EcCurve}
 use Rattle.picky_keys.specs.declared.kind.KeyKind.{KeyKind}
 use Rattle.picky_keys.specs.declared.kind.KeyKind.TheVariants as kinds
-use Rattle.picky_keys.specs.Blob.{blob, ec_fields, ed_fields, ed_key, public_key_fields, key_type, rsa_fields, sk_ecdsa_fields, sk_ed_fields}
+use Rattle.picky_keys.specs.Blob.{blob, ec_fields, ed_fields, ed_key, public_key_fields, key_type, rsa_fields, sk_ecdsa_fields}
+use Rattle.picky_keys.specs.Blob.{sk_ed_fields}
 use Rattle.picky_cert_parts.specs.CertNames.{cert_key_type_name, is_sk}
 use Rattle.picky_cert_parts.specs.CertNameTables.{cert_key_types, option_types, signature_formats}
 use Rattle.picky_cert_parts.specs.declared.cert_key_type.SshCertKeyType.{SshCertKeyType}

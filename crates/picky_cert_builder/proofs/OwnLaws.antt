@@ -17,7 +17,8 @@ use Rattle.picky_cert_builder.specs.declared.terms.RequestTerms.{RequestTerms}
 use Rattle.picky_cert_builder.specs.Algorithm.{format_of}
 use Rattle.picky_cert_builder.specs.Draft.{certificate_of, requested}
 use Rattle.picky_cert_builder.specs.Request.{terms_of}
-use Rattle.picky_cert_builder.specs.Terms.{algorithm_by, granted, is_made, judged_signature, judged_subject, judged_terms, judged_use, ordered}
+use Rattle.picky_cert_builder.specs.Terms.{algorithm_by, granted, is_made, judged_signature, judged_subject, judged_terms}
+use Rattle.picky_cert_builder.specs.Terms.{judged_use, ordered}
 
 abbrev pub IsOwn : SshCertificateGenerationError → Type 0
 IsOwn e = (e ≢ errors.NoMemory) × (e ≢ errors.SignatureError)

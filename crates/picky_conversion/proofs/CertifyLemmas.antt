@@ -1,5 +1,6 @@
 -- What the conversion to a certificate's line answers, from what reading and signing answer.
-use Rattle.std.proofs.Common.{◌≡◌, ℕ, List, Bool, true, false, Result, Ok, Err, refl, sym, ap, ◌∙◌, subst, ◌⊎◌, inl, inr, ◌≢◌, ◌↔◌, if◌then◌else◌}
+use Rattle.std.proofs.Common.{◌≡◌, ℕ, List, Bool, true, false, Result, Ok, Err, refl, sym, ap, ◌∙◌, subst, ◌⊎◌, inl, inr, ◌≢◌}
+use Rattle.std.proofs.Common.{◌↔◌, if◌then◌else◌}
 use Rattle.std.specs.Prelude.{length, nat_le, take, IfErr}
 use Rattle.picky_wire_base.specs.Outcome.{and_then, map_err, map_ok}
 use Rattle.picky_suite.specs.Asked.{LeavesSuite}

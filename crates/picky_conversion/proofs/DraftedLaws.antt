@@ -21,7 +21,8 @@ use Rattle.picky_target.specs.Carried.{LineCarries}
 use Rattle.picky_target.specs.Judged.{carries_comment}
 use Rattle.picky_target.proofs.PlaceLemmas.{comment_holds, comment_test}
 use Rattle.picky_conversion.specs.declared.request.CertRequest.{CertRequest}
-use Rattle.picky_conversion.specs.Drafted.{IsDrafted, IsLineDrafted, drafted, drafted_of, if_line_fits, line_drafted, nonce_in, request_refusal, unsigned_line}
+use Rattle.picky_conversion.specs.Drafted.{IsDrafted, IsLineDrafted, drafted, drafted_of, if_line_fits, line_drafted, nonce_in}
+use Rattle.picky_conversion.specs.Drafted.{request_refusal, unsigned_line}
 use Rattle.picky_conversion.specs.Request.{asked_for}
 
 -- what passed a test

@@ -1,5 +1,6 @@
 -- What the commands that issue certificates answer: the issuer's text is read, and then the key text.
-use Rattle.std.proofs.Common.{◌≡◌, ℕ, List, [], Bool, false, Option, None, Some, Result, Ok, Err, refl, sym, ap, ◌∙◌, subst, ◌⊎◌, inl, inr, ◌&&◌}
+use Rattle.std.proofs.Common.{◌≡◌, ℕ, List, [], Bool, false, Option, None, Some, Result, Ok, Err, refl, sym, ap, ◌∙◌, subst}
+use Rattle.std.proofs.Common.{◌⊎◌, inl, inr, ◌&&◌}
 use Rattle.picky_wire_base.specs.Outcome.{map_err, map_ok}
 use Rattle.picky_suite.specs.Asked.{LeavesSuite}
 use Rattle.picky_suite.specs.Failures.{IsAskedFault}
@@ -18,7 +19,8 @@ use Rattle.picky_target.specs.declared.error.ConvertError.TheVariants as errors
 use Rattle.picky_conversion.specs.Certified.{Relation}
 use Rattle.picky_conversion.specs.Certify.{IsReadFault, certification, drafting, hex_line}
 use Rattle.picky_conversion.specs.Convert.{LeavesAskedSuite}
-use Rattle.picky_conversion.specs.Issue.{IsIssuingFault, asks_issuer, asks_key, goes_on, issued, issued_bytes, issuer_fault, issuer_read, issuing_asks, request_by, unsigned}
+use Rattle.picky_conversion.specs.Issue.{IsIssuingFault, asks_issuer, asks_key, goes_on, issued, issued_bytes, issuer_fault}
+use Rattle.picky_conversion.specs.Issue.{issuer_read, issuing_asks, request_by, unsigned}
 use Rattle.picky_conversion.specs.Made.{Answers, AnswersPlain, LeavesSigner, Made, ToSign, is_signed}
 use Rattle.picky_conversion.specs.Outside.{Outside, reader}
 use Rattle.picky_conversion.specs.Want.{IsFault}

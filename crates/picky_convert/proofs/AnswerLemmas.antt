@@ -18,7 +18,8 @@ use Rattle.picky_conversion.proofs.IssuedLemmas.{none_left}
 use Rattle.picky_convert.specs.SampleChain.{without_passphrase}
 use Rattle.picky_convert.specs.SampleKeys.{meaning_at}
 use Rattle.picky_convert.specs.SampleTexts.{text_at, unsealed}
-use Rattle.picky_convert.proofs.AskedLemmas.{reading_asks_none, write_asks_none, writing_asks_none}
+use Rattle.picky_key_text.proofs.UnaskedLaws.{unasked}
+use Rattle.picky_convert.proofs.AskedLemmas.{write_asks_none, writing_asks_none}
 use Rattle.picky_convert.proofs.ChainLemmas.{envelope_is_written}
 
 -- ---- what is written first
@@ -49,7 +50,7 @@ pub converted_wants : (signs : Relation) (m : Meanings) (target : KeyTarget) (in
     → Answers signs (λ (text : List ℕ). text) (converted (without_passphrase m) (Written target) input)
     (λ f. IsFaultTo (without_passphrase m) (Written target) input f rose) signer_rose (Err e) → e ≡ errors.NoMemory
 converted_wants signs m target input e rose signer_rose ok (inl want) = want
-converted_wants signs m target input e rose signer_rose ok (inr (inl (inl read))) = cc (read.1.0, reading_asks_none input)
+converted_wants signs m target input e rose signer_rose ok (inr (inl (inl read))) = cc (read.1.0, unasked input)
 converted_wants signs m target input e rose signer_rose ok (inr (inl (inr write))) =
     cc (write.1.0, write_asks_none m target input)
 converted_wants signs m target input e rose signer_rose ok (inr (inr (inl left))) =

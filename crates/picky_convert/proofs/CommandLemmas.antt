@@ -25,7 +25,8 @@ use Rattle.picky_conversion.proofs.IssuedLemmas.{issued_bytes_is, issued_from, i
 use Rattle.picky_conversion.proofs.ToLemmas.{can_convert, converted_is}
 use Rattle.picky_convert.specs.declared.command.Command.{Command}
 use Rattle.picky_convert.specs.declared.command.Command.TheVariants as commands
-use Rattle.picky_convert.specs.Command.{CanAnswer, IsAnswer, IsCommand, Names, alone, answer, command_of_word, fingerprints, sample_size, with_options, with_size}
+use Rattle.picky_convert.specs.Command.{CanAnswer, IsAnswer, IsCommand, Names, alone, answer, command_of_word, fingerprints}
+use Rattle.picky_convert.specs.Command.{sample_size, with_options, with_size}
 use Rattle.picky_convert.specs.Command.{cert, fingerprint, openssh, ppk2, ppk3, putty_pub, sample, ssh_pub, tbs}
 use Rattle.picky_convert.specs.Fingerprint.{fingerprint_text}
 use Rattle.picky_convert.specs.Sample.{sample_text}

@@ -29,7 +29,8 @@ use Rattle.picky_ppk_file.specs.PuttyPublic.{comment_line, comment_start, footer
 use Rattle.picky_ppk_file.specs.declared.file.PpkSealing.TheVariants.{Unsealed}
 use Rattle.picky_ppk_file.specs.Written.{end_of, file_lines, file_text, line_of, rows_under}
 use Rattle.picky_convert.proofs.BlobSizes.{name_size}
-use Rattle.picky_convert.proofs.TextSizes.{base64_size, decimal_size, lines_size, lines_size-append, quote_size, rows_count, rows_size, text_size}
+use Rattle.picky_convert.proofs.TextSizes.{base64_size, decimal_size, lines_size, lines_size-append, quote_size, rows_count}
+use Rattle.picky_convert.proofs.TextSizes.{rows_size, text_size}
 
 -- ---- lines of a file
 

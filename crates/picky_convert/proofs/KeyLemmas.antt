@@ -10,7 +10,8 @@ use Rattle.picky_key_text.specs.Kept.{IsKeptMeaning}
 use Rattle.picky_convert.specs.SampleKeys.{drawn_key, kind_at, meaning_at, numbers_len, secret_len}
 use Rattle.picky_convert.specs.SampleTexts.{is_on_device}
 use Rattle.picky_convert.proofs.CommentLemmas.{comment_is_text}
-use Rattle.picky_convert.proofs.PartLemmas.{application_is, application_size, ed_is, exponent_is, field_is, field_size, number_is, number_size, point_is, point_size}
+use Rattle.picky_convert.proofs.PartLemmas.{application_is, application_size, ed_is, exponent_is, field_is, field_size}
+use Rattle.picky_convert.proofs.PartLemmas.{number_is, number_size, point_is, point_size}
 use Rattle.picky_convert.proofs.SecretSizes.{IsSmallSecret}
 
 numbers_small : (curve : EcCurve) → numbers_len curve ≤ 132

@@ -19,7 +19,8 @@ use Rattle.picky_target.specs.declared.error.ConvertError.{ConvertError}
 use Rattle.picky_target.specs.declared.error.ConvertError.TheVariants as convert
 use Rattle.picky_convert.specs.declared.error.Status.{Status}
 use Rattle.picky_convert.specs.declared.error.Status.TheVariants as statuses
-use Rattle.picky_convert.specs.Report.{certificate_name, input_name, input_path, issuer_path, name, path, private_name, public_name, putty_name, report, request_name, word}
+use Rattle.picky_convert.specs.Report.{certificate_name, input_name, input_path, issuer_path, name, path, private_name}
+use Rattle.picky_convert.specs.Report.{public_name, putty_name, report, request_name, word}
 
 -- ---- a name is short
 

@@ -95,7 +95,8 @@ Refuses signs for_input e = (for_input ≡ Err (statuses.Refused e)) ⊎ ((e ≡
 -- ---- how a run ends
 
 -- the cause of a status for which no text is written
-abbrev pub Stops : Relation → Outside → Command → (input : List ℕ) → (read_rose suite_rose signer_rose : Type 0) → Status → Type 0
+abbrev pub Stops : Relation → Outside → Command → (input : List ℕ) → (read_rose suite_rose signer_rose : Type 0)
+    → Status → Type 0
 Stops signs o command input read_rose suite_rose signer_rose statuses.Done = ⊥
 Stops signs o command input read_rose suite_rose signer_rose statuses.Usage = ⊥
 Stops signs o command input read_rose suite_rose signer_rose statuses.WriteFault = ⊥
@@ -147,8 +148,8 @@ Ends signs o command input tells old new status =
 -- ---- what it leaves
 
 -- the suite and the signer; a fault of no more than one of them was counted
-pub record Devices {S G : Type 0} (meanings : S → Meanings) (suite_faults : S → ℕ) (signs : G → Relation) (signer_faults : G → ℕ)
-    (failed unasked unsigned : Type 0) (old new : S) (before after : G) : Type 0 where
+pub record Devices {S G : Type 0} (meanings : S → Meanings) (suite_faults : S → ℕ) (signs : G → Relation)
+    (signer_faults : G → ℕ) (failed unasked unsigned : Type 0) (old new : S) (before after : G) : Type 0 where
   pub suite : LeavesDevice (meanings new ≡ meanings old) suite_faults failed unasked old new
   pub signer : LeavesDevice ((k : PublicKey) (a : SignatureAlgorithm) (m s : List ℕ) → signs after k a m s ↔ signs before k a m s)
       signer_faults failed unsigned before after

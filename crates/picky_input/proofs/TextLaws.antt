@@ -1,12 +1,14 @@
 -- The text of bytes.
-use Rattle.std.proofs.Common.{◌≡◌, ◌↔◌, ◌<◌, ◌≤◌, ℕ, List, Bool, true, false, length, nat_lt, Ok, Err, refl, sym, ap}
-use Rattle.std.proofs.Common.{if◌then◌else◌}
+use Rattle.std.proofs.Common.{◌≡◌, ◌↔◌, ◌<◌, ◌≤◌, ◌+◌, ℕ, List, [], ◌∷◌, Bool, true, false, length, nat_lt, Ok, Err, refl, sym, ap}
+use Rattle.std.proofs.Common.{if◌then◌else◌, replicate, arith}
+use Rattle.std.proofs.lemmas.List.{length-replicate}
 use Rattle.std.proofs.lemmas.Bool.{le-ltb, lt-ltb, ltb-false, ltb-true}
-use Rattle.std.specs.Str.{IsUtf8, is_utf8}
+use Rattle.std.specs.Str.{IsUtf8, chars, is_utf8}
 use Rattle.std.proofs.lemmas.Str.{IsUtf8-from_is_utf8, is_utf8-from_IsUtf8}
 use Rattle.picky_wire_base.proofs.TextLemmas.{is_no_text as no_utf8}
 use Rattle.picky_input.specs.Input.{input_limit}
-use Rattle.picky_input.specs.SourceText.{IsSourceText, text_of}
+use Rattle.picky_input.specs.SourceText.{IsSourceText, Reads, text_of}
+use Rattle.picky_input.specs.declared.source_text.SourceError.{SourceError}
 use Rattle.picky_input.specs.declared.source_text.SourceError.TheVariants as errors
 
 -- what has a text is few enough and UTF-8, and is that text
@@ -70,3 +72,17 @@ no_text_is bytes (short, other) = rw (le-ltb input_limit (length bytes) short, n
 pub no_text_exactly : (bytes : List ℕ)
     → (text_of bytes ≡ Err errors.InputNotUtf8) ↔ ((length bytes ≤ input_limit) × (IsUtf8 bytes → ⊥))
 no_text_exactly bytes = (is_no_text bytes, no_text_is bytes)
+
+-- each error of a source comes of some bytes
+long_input : (n : ℕ) → input_limit < n → (input : List ℕ) × (text_of input ≡ Err errors.InputTooLong)
+long_input n long = (replicate n 0, (too_long_exactly (replicate n 0)).1 (rw (length-replicate {A = ℕ} n 0) long))
+
+other_input : text_of (255 ∷ []) ≡ Err errors.InputNotUtf8
+unfolding text_of is_utf8 chars
+other_input = refl
+
+pub some_input : (e : SourceError) → (input : List ℕ) × Reads (Err e) input
+some_input errors.ReadFault = ([], tt)
+some_input errors.NoMemory = ([], tt)
+some_input errors.InputTooLong = long_input (input_limit + 1) (omega arith)
+some_input errors.InputNotUtf8 = (255 ∷ [], other_input)

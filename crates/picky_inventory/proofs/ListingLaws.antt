@@ -1,6 +1,7 @@
 -- A list of parts, read one by one.
 use Rattle.std.proofs.Common.{◌≡◌, ◌⊎◌, ◌+◌, ◌<◌, ℕ, zero, suc, true, false, List, [], ◌∷◌, ◌++◌, map, length, take, drop, get_or}
-use Rattle.std.proofs.Common.{Option, Some, slice_get, subst, Result, Ok, Err, refl, sym, ◌∙◌, ap, arith, inl, inr, add-one, drop-cons, take-append-drop}
+use Rattle.std.proofs.Common.{Option, Some, slice_get, subst, Result, Ok, Err, refl, sym, ◌∙◌, ap, arith, inl, inr, add-one}
+use Rattle.std.proofs.Common.{drop-cons, take-append-drop}
 use Rattle.std.proofs.lemmas.Bool.{cases_Bool}
 use Rattle.std.proofs.lemmas.List.{append-nil, get_or-map, length-map, length-take, map-append, take_more}
 use Rattle.std.proofs.lemmas.Option.{slice_get-get_or}

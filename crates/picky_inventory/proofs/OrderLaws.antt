@@ -1,6 +1,7 @@
 -- The laws of `ordered`: it has a list's items, is in strict order, and is the one list that is and has.
 use Rattle.std.proofs.Common.{◌≡◌, ◌≢◌, ◌⊎◌, ◌↔◌, ℕ, zero, suc, ◌<◌, ◌++◌, List, [], ◌∷◌, Contains, IsPermutation, IsSorted}
-use Rattle.std.proofs.Common.{◌+◌, Bool, map, Ordering, Less, Equal, Greater, refl, sym, ◌∙◌, ap, ap₂, subst, inl, inr, arith, length, slice_index_or}
+use Rattle.std.proofs.Common.{◌+◌, Bool, map, Ordering, Less, Equal, Greater, refl, sym, ◌∙◌, ap, ap₂, subst, inl, inr, arith}
+use Rattle.std.proofs.Common.{length, slice_index_or}
 use Rattle.std.proofs.lemmas.Bool.{cases_Bool}
 use Rattle.std.proofs.lemmas.Cmp.{tied_itself}
 use Rattle.std.proofs.lemmas.List.{get_or-map, length-map}

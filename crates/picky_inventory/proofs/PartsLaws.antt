@@ -5,7 +5,8 @@ use Rattle.std.proofs.lemmas.Bool.{false_from_ne_true}
 use Rattle.std.proofs.lemmas.List.{append_assoc, append-nil, length-append, map-append}
 use Rattle.std.specs.Str.Lines.{strip_carriage_return}
 use Rattle.picky_text.specs.Lines.{HasNo}
-use Rattle.picky_issuing.specs.Parts.{mark_word, is_mark, after_line, cut, issuer_of, key_text_of_cut, issuer_part, key_part, IsCut, HasNoMark}
+use Rattle.picky_issuing.specs.Parts.{mark_word, is_mark, after_line, cut, issuer_of, key_text_of_cut, issuer_part, key_part}
+use Rattle.picky_issuing.specs.Parts.{IsCut, HasNoMark}
 use Rattle.picky_issuing.proofs.PartsLemmas.{by_lines, lines_at_lf, one_line_left, is_or_not, stripped_is_mark}
 use Rattle.picky_issuing.proofs.PartsLemmas.{marked_line, marked_end, cut_at_mark, cut_at_end, cut_goes_on, cut_ends}
 use Rattle.picky_issuing.proofs.PartsLaws.{parts_where_marked, parts_where_unmarked}

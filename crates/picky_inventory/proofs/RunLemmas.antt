@@ -1,18 +1,15 @@
 -- What the bytes of a source come to, status by status.
-use Rattle.std.proofs.Common.{◌≡◌, ◌⊎◌, ◌<◌, ◌+◌, ℕ, List, [], ◌∷◌, Option, Some, None, Result, Ok, Err}
-use Rattle.std.proofs.Common.{replicate, refl, sym, ◌∙◌, ap, inl, inr, subst, arith}
-use Rattle.std.proofs.lemmas.List.{length-replicate}
+use Rattle.std.proofs.Common.{◌≡◌, ◌⊎◌, ◌+◌, ℕ, List, [], ◌∷◌, Option, Some, None, Result, Ok, Err}
+use Rattle.std.proofs.Common.{refl, sym, ◌∙◌, ap, inl, inr, subst}
 use Rattle.std.proofs.lemmas.Bool.{cases_Bool}
-use Rattle.std.specs.Str.{chars, is_utf8}
 use Rattle.picky_wire_base.specs.Outcome.{and_then, map_err, map_ok}
 use Rattle.picky_sshkey_blob.specs.declared.error.SshPrivateKeyError.TheVariants as private
 use Rattle.picky_ppk_parts.specs.declared.error.PuttyError.TheVariants as putty
 use Rattle.picky_input.specs.Extent.{ToEnd, Anywhere}
-use Rattle.picky_input.specs.Input.{input_limit}
 use Rattle.picky_input.specs.SourceText.{Reads, text_of}
 use Rattle.picky_input.specs.declared.source_text.SourceError.{SourceError}
 use Rattle.picky_input.specs.declared.source_text.SourceError.TheVariants as source
-use Rattle.picky_input.proofs.TextLaws.{is_source_text, too_long_exactly}
+use Rattle.picky_input.proofs.TextLaws.{is_source_text}
 use Rattle.picky_key_text.specs.Form.{form_of}
 use Rattle.picky_key_text.specs.Order.{fault_as, fault_of, reading}
 use Rattle.picky_key_text.specs.Reader.{Reader}
@@ -176,20 +173,6 @@ source_comes r command input read_rose rose source.InputTooLong status is reads 
     inr (inr (inr (outcome_without r command input source.InputTooLong reads ∙ ap Err (sym is))))
 source_comes r command input read_rose rose source.InputNotUtf8 status is reads count =
     inr (inr (inr (outcome_without r command input source.InputNotUtf8 reads ∙ ap Err (sym is))))
-
--- each error comes of some bytes
-long_input : (n : ℕ) → input_limit < n → (input : List ℕ) × (text_of input ≡ Err source.InputTooLong)
-long_input n long = (replicate n 0, (too_long_exactly (replicate n 0)).1 (rw (length-replicate {A = ℕ} n 0) long))
-
-other_input : text_of (255 ∷ []) ≡ Err source.InputNotUtf8
-unfolding text_of is_utf8 chars
-other_input = refl
-
-pub some_input : (e : SourceError) → (input : List ℕ) × Reads (Err e) input
-some_input source.ReadFault = ([], tt)
-some_input source.NoMemory = ([], tt)
-some_input source.InputTooLong = long_input (input_limit + 1) (omega arith)
-some_input source.InputNotUtf8 = (255 ∷ [], other_input)
 
 -- ---- how far the source is read
 

@@ -1,5 +1,6 @@
 -- A meaning that is read keeps what a meaning keeps.
-use Rattle.std.specs.Prelude.{◌≡◌, ◌<◌, ◌^◌, ◌++◌, ◌∷◌, [], List, ℕ, suc, zero, length, take, drop, replicate, codes, Option, None, Some, Ok}
+use Rattle.std.specs.Prelude.{◌≡◌, ◌<◌, ◌^◌, ◌++◌, ◌∷◌, [], List, ℕ, suc, zero, length, take, drop, replicate, codes, Option}
+use Rattle.std.specs.Prelude.{None, Some, Ok}
 use Rattle.std.specs.Option.{IfSome}
 use Rattle.std.specs.Int.{to_be_bytes, w32}
 use Rattle.std.specs.Str.{IsUtf8}

@@ -6,6 +6,7 @@ pub mod FileRefusalLemmas
 pub mod RefusalLaws
 pub mod Utf8Laws
 pub mod ReadingLaws
+pub mod UnaskedLaws
 pub mod KeptLaws
 mod SubjectLemmas
 mod EnvelopeLemmas

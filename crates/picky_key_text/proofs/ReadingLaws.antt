@@ -29,7 +29,8 @@ use Rattle.picky_key_text.specs.declared.form.Form.TheVariants as forms
 use Rattle.picky_key_text.specs.declared.meaning.Meaning.{Meaning}
 use Rattle.picky_key_text.specs.Form.{form_of}
 use Rattle.picky_key_text.specs.Key.{certificate_meaning, public_key, public_meaning}
-use Rattle.picky_key_text.specs.Order.{envelope_meaning, opened, file_key, file_asks, ppk_key, ppk_asks, reading_as, reading, asks, asks_as, fault_as, fault_of}
+use Rattle.picky_key_text.specs.Order.{envelope_meaning, opened, file_key, file_asks, ppk_key, ppk_asks, reading_as, reading}
+use Rattle.picky_key_text.specs.Order.{asks, asks_as, fault_as, fault_of}
 use Rattle.picky_key_text.specs.Reader.{Reader}
 use Rattle.picky_key_text.specs.Reads.{Means, Reads}
 use Rattle.picky_key_text.proofs.PpkLemmas.{taken_file, ppk_says, ppk_is_read}

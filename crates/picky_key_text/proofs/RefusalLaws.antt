@@ -35,7 +35,8 @@ use Rattle.picky_ppk_parts.specs.Algorithm.{rsa_of, ec_of, ed_of, key_under, sam
 use Rattle.picky_ppk_parts.specs.Counted.{counted}
 use Rattle.picky_ppk_parts.specs.PartsRefusal.{flaw_error, secret_error, key_in_blob, public_key_under, key_with_secret, parts_key}
 use Rattle.picky_ppk_parts.specs.Unsupported.{no_such_algorithm}
-use Rattle.picky_ppk_file.specs.PuttyRefusal.{of_lines, of_blob, of_parts, after_comment, after_header, quoted, body_from, putty_meaning, to_openssh}
+use Rattle.picky_ppk_file.specs.PuttyRefusal.{of_lines, of_blob, of_parts, after_comment, after_header, quoted, body_from}
+use Rattle.picky_ppk_file.specs.PuttyRefusal.{putty_meaning, to_openssh}
 use Rattle.picky_ppk_file.specs.declared.putty_public.PuttyPublicKey.{PuttyPublicKey}
 use Rattle.picky_ppk_file.specs.declared.file.PpkFile.{PpkFile}
 use Rattle.picky_ppk_file.specs.File.{is_sealed}

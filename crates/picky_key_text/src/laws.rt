@@ -1,6 +1,6 @@
 //! The laws of what a key text means, each as the contract of a function that does nothing.
 
-ghost use Rattle.std.specs.Prelude.{◌≡◌, List, ℕ, Ok, Err};
+ghost use Rattle.std.specs.Prelude.{◌≡◌, List, ℕ, None, Ok, Err, false};
 ghost use Rattle.std.specs.Option.{IfSome};
 ghost use Rattle.std.specs.Str.{IsUtf8};
 ghost use Rattle.picky_wire_base.specs.Numbers.{IsBytes};
@@ -8,7 +8,7 @@ ghost use Rattle.picky_wire_base.specs.Equality.{IsEquality};
 ghost use Rattle.picky_key_text.specs.declared.error.ReadError.{ReadError as Refused};
 ghost use Rattle.picky_key_text.specs.declared.meaning.Meaning.{Meaning as Meant};
 ghost use Rattle.picky_key_text.specs.Kept.{IsKeptMeaning};
-ghost use Rattle.picky_key_text.specs.Order.{reading};
+ghost use Rattle.picky_key_text.specs.Order.{asks, reading};
 ghost use Rattle.picky_key_text.specs.Reader.{Reader};
 ghost use Rattle.picky_key_text.specs.Reads.{Reads};
 ghost use Rattle.picky_key_text.specs.Want.{WantsMemory, IsFault};
@@ -32,6 +32,11 @@ pub fn meaning_keeps_its_ranges()
 /// The order of refusals answers no fault of the suite, and at no depth want of memory: these are answers of the calls alone.
 pub fn order_answers_no_fault()
     ensures { (r : Reader) (t : List ℕ) (e : Refused) → reading r t ≡ Err e → (IsFault e → ⊥) × (WantsMemory e → ⊥) }
+{}
+
+/// Without a passphrase no text asks the suite.
+pub fn no_passphrase_asks_no_suite()
+    ensures { (t : List ℕ) → asks None t ≡ false }
 {}
 
 /// Two meanings are equal exactly where their contents are, and so are keys, forms and refusals.

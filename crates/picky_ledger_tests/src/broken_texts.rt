@@ -71,7 +71,6 @@ static SECOND: [&str; 47] = [
     // Another id than the request's.
     "r2 <r1> <n> <c1> host\n",
     "r <r1> <n> <c1> host\n",
-    "R1 <r1> <n> <c1> host\n",
     " <r1> <n> <c1> host\n",
     "r1\t <r1> <n> <c1> host\n",
     // Words that are parted otherwise.

@@ -119,10 +119,9 @@ static TALKS: [Talk; 14] = [
     Talk {
         name: "one id is another's front",
         ledger: "next 2\nr1 <r1> <n> <c1> host\n",
-        requests: "r host - 5 0 ssh-ed25519 B0 host\nr11 host - 5 0 ssh-ed25519 B0 host\n\
-            R1 host - 5 0 ssh-ed25519 B0 host",
+        requests: "r host - 5 0 ssh-ed25519 B0 host\nr11 host - 5 0 ssh-ed25519 B0 host",
         new_ledger: "next 2\nr1 <r1> <n> <c1> host\n",
-        replies: "refused r InvalidTime\nrefused r11 InvalidTime\nrefused R1 InvalidTime\n",
+        replies: "refused r InvalidTime\nrefused r11 InvalidTime\n",
     },
 ];
 

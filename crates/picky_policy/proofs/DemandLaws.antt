@@ -11,7 +11,8 @@ use Rattle.picky_issuing.specs.Steps.{some_then}
 use Rattle.picky_cert_parts.specs.declared.option_type.SshCriticalOptionType.{SshCriticalOptionType}
 use Rattle.picky_cert_parts.specs.declared.option_type.SshCriticalOptionType.TheVariants.{ForceCommand, SourceAddress, VerifyRequired}
 use Rattle.picky_cert_parts.specs.declared.critical_option.SshCriticalOption.{SshCriticalOption}
-use Rattle.picky_policy.specs.Demands.{AreDemands, Demands, HasFlag, HasText, demands_in, flag_demand, flag_in, is_type, one_of, payloads_of, text_demand, text_in}
+use Rattle.picky_policy.specs.Demands.{AreDemands, Demands, HasFlag, HasText, demands_in, flag_demand, flag_in, is_type, one_of}
+use Rattle.picky_policy.specs.Demands.{payloads_of, text_demand, text_in}
 use Rattle.picky_policy.specs.Demands.{text_of_payload, whole}
 use Rattle.picky_policy.specs.inner.Payload.{with_payload}
 

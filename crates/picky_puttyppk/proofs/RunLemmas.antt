@@ -1,17 +1,13 @@
 -- What the bytes of a source come to, status by status.
-use Rattle.std.proofs.Common.{◌≡◌, ◌⊎◌, ◌<◌, ◌+◌, List, [], ◌∷◌, ℕ, Result, Ok, Err, replicate, refl, sym, ◌∙◌, ap, inl, inr}
-use Rattle.std.proofs.Common.{subst, arith}
-use Rattle.std.proofs.lemmas.List.{length-replicate}
+use Rattle.std.proofs.Common.{◌≡◌, ◌⊎◌, List, ℕ, Result, Ok, Err, refl, sym, ◌∙◌, ap, inl, inr, subst}
 use Rattle.std.specs.Prelude.{IfErr, IfOk}
-use Rattle.std.specs.Str.{chars, is_utf8}
 use Rattle.picky_wire_base.specs.Gives.{Gives}
 use Rattle.picky_wire_base.specs.Outcome.{and_then, map_err}
 use Rattle.picky_suite.specs.Meanings.{Meanings}
-use Rattle.picky_input.specs.Input.{input_limit}
 use Rattle.picky_input.specs.SourceText.{Reads, text_of}
 use Rattle.picky_input.specs.declared.source_text.SourceError.{SourceError}
 use Rattle.picky_input.specs.declared.source_text.SourceError.TheVariants as source
-use Rattle.picky_input.proofs.TextLaws.{is_source_text, too_long_exactly}
+use Rattle.picky_input.proofs.TextLaws.{is_source_text}
 use Rattle.picky_puttyppk.specs.declared.status.PuttyPpkStatus.{PuttyPpkStatus}
 use Rattle.picky_puttyppk.specs.declared.status.PuttyPpkStatus.TheVariants as statuses
 use Rattle.picky_puttyppk.specs.PuttyText.{IsOf, text_for_putty}
@@ -52,17 +48,3 @@ source_comes m input read_rose e status is reads count = subst (Fails m input re
     go source.NoMemory reads count = tt
     go source.InputTooLong reads count = outcome_without m input source.InputTooLong reads
     go source.InputNotUtf8 reads count = outcome_without m input source.InputNotUtf8 reads
-
--- each error of a source comes of some bytes
-long_input : (n : ℕ) → input_limit < n → (input : List ℕ) × (text_of input ≡ Err source.InputTooLong)
-long_input n long = (replicate n 0, (too_long_exactly (replicate n 0)).1 (rw (length-replicate {A = ℕ} n 0) long))
-
-other_input : text_of (255 ∷ []) ≡ Err source.InputNotUtf8
-unfolding text_of is_utf8 chars
-other_input = refl
-
-pub some_input : (e : SourceError) → (input : List ℕ) × Reads (Err e) input
-some_input source.ReadFault = ([], tt)
-some_input source.NoMemory = ([], tt)
-some_input source.InputTooLong = long_input (input_limit + 1) (omega arith)
-some_input source.InputNotUtf8 = (255 ∷ [], other_input)

@@ -12,7 +12,8 @@ use Rattle.picky_sshkey.specs.PrivateBlock.{PrivateBlock, private_block}
 use Rattle.picky_wire_base.specs.Outcome.{and_then}
 use Rattle.picky_suite.specs.Asked.{GivesAsked}
 use Rattle.picky_suite.specs.Meanings.{Meanings}
-use Rattle.picky_sshkey.specs.PrivateRefusal.{closed, content_asks, content_key, envelope_under, key_closed, key_of_block, lock_of, sealed_under}
+use Rattle.picky_sshkey.specs.PrivateRefusal.{closed, content_asks, content_key, envelope_under, key_closed, key_of_block}
+use Rattle.picky_sshkey.specs.PrivateRefusal.{lock_of, sealed_under}
 use Rattle.picky_sshkey.proofs.RefusalLaws.{Refuses}
 use Rattle.picky_sshkey.proofs.FaultLaws.{IsOwn, block_front_own, envelope_under_own, key_of_block_own, sealed_own}
 

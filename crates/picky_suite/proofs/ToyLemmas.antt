@@ -1,5 +1,7 @@
 -- Steps of the loops that cipher, block by block and byte by byte.
-use Rattle.std.proofs.Common.{◌≡◌, ◌+◌, ◌*◌, ◌-◌, ◌%◌, ◌<◌, ◌≤◌, ℕ, zero, suc, List, [], ◌∷◌, ◌++◌, length, take, drop, get_or, set, inl, inr, refl, sym, ◌∙◌, ap, arith, bit_xor, length-append, append_assoc, append-nil, take-append-drop}
+use Rattle.std.proofs.Common.{◌≡◌, ◌+◌, ◌*◌, ◌-◌, ◌%◌, ◌<◌, ◌≤◌, ℕ, zero, suc, List, [], ◌∷◌, ◌++◌, length, take, drop, get_or}
+use Rattle.std.proofs.Common.{set, inl, inr, refl, sym, ◌∙◌, ap, arith, bit_xor, length-append, append_assoc, append-nil}
+use Rattle.std.proofs.Common.{take-append-drop}
 use Rattle.std.proofs.lemmas.Bool.{cases_lt}
 use Rattle.std.proofs.lemmas.List.{take_at, drop_at, drop-drop, take_all, drop_all, length-take-le, get_or_append_left, get_or-append_right}
 use Rattle.picky_suite.specs.Toy.{xored, first_block, more_blocks, ciphered, seal_blocks, open_blocks, masks}

@@ -1,5 +1,6 @@
 -- PuTTY's private key file that is written is read back.
-use Rattle.std.proofs.Common.{◌≡◌, ◌∙◌, ◌<◌, ◌≤◌, ◌+◌, ◌^◌, ℕ, List, [], true, false, Option, None, Some, Ok, length, take, drop, refl, ap, sym, subst, arith, inl, inr}
+use Rattle.std.proofs.Common.{◌≡◌, ◌∙◌, ◌<◌, ◌≤◌, ◌+◌, ◌^◌, ℕ, List, [], true, false, Option, None, Some, Ok, length, take}
+use Rattle.std.proofs.Common.{drop, refl, ap, sym, subst, arith, inl, inr}
 use Rattle.std.specs.Prelude.{◌++◌, ◌&&◌}
 use Rattle.std.specs.Option.{IfSome}
 use Rattle.std.specs.Str.{IsUtf8}

@@ -1,5 +1,6 @@
 -- What is written of PuTTY's private key file step by step is what its conditions say.
-use Rattle.std.proofs.Common.{◌≡◌, ◌∙◌, ◌+◌, ◌^◌, ℕ, List, Bool, true, false, Option, None, Some, Result, Ok, Err, length, take, drop, refl, ap, sym, arith, inl, inr}
+use Rattle.std.proofs.Common.{◌≡◌, ◌∙◌, ◌+◌, ◌^◌, ℕ, List, Bool, true, false, Option, None, Some, Result, Ok, Err, length, take}
+use Rattle.std.proofs.Common.{drop, refl, ap, sym, arith, inl, inr}
 use Rattle.std.specs.Prelude.{◌++◌, ◌&&◌, is_some, nat_le, nat_lt, replicate, if◌then◌else◌}
 use Rattle.std.proofs.lemmas.Bool.{cases_Bool, leb-true, le-leb, ltb-true, ltb-false, le-ltb}
 use Rattle.std.proofs.lemmas.List.{length-append, length-take, length-replicate}

@@ -35,9 +35,11 @@ use Rattle.picky_target.specs.declared.target.KeyTarget.TheVariants as targets
 use Rattle.picky_target.specs.Output.{Output}
 use Rattle.picky_target.specs.Drafts.{openssh_key, ppk_file, private_bytes}
 use Rattle.picky_target.specs.Texts.{envelope_text}
-use Rattle.picky_target.specs.Carried.{CarriesComment, Derives, HasFileLines, HasFileRoom, HasKind, HasLines, HasRoom, HasNeededSecret, HasSecretRoom, Holds, Place, need}
+use Rattle.picky_target.specs.Carried.{CarriesComment, Derives, HasFileLines, HasFileRoom, HasKind, HasLines, HasRoom}
+use Rattle.picky_target.specs.Carried.{HasNeededSecret, HasSecretRoom, Holds, Place, need}
 use Rattle.picky_target.specs.Carried.{PrivateKey, Kind, Comment, Derivation, Fresh, Length, Lines}
-use Rattle.picky_target.specs.Judged.{carries_comment, derives, ends_in_cr, file_has_lines, has_kind, has_lf, has_lines, has_room, has_needed_secret, is_trimmed, measured_file, passes, secret_has_room}
+use Rattle.picky_target.specs.Judged.{carries_comment, derives, ends_in_cr, file_has_lines, has_kind, has_lf, has_lines}
+use Rattle.picky_target.specs.Judged.{has_room, has_needed_secret, is_trimmed, measured_file, passes, secret_has_room}
 use Rattle.picky_target.proofs.FileWritten.{plain_len, sealed_len}
 use Rattle.picky_target.proofs.TestLemmas.{not_true, test_from_has_no, no_end_from_test, test_from_no_end}
 

@@ -1,5 +1,6 @@
 -- What each target's writer answers is what is written of a meaning.
-use Rattle.std.proofs.Common.{◌≡◌, inl, inr, ℕ, List, Bool, true, Option, None, Some, Result, Ok, Err, refl, ap, sym, subst, ◌∙◌, length, arith}
+use Rattle.std.proofs.Common.{◌≡◌, inl, inr, ℕ, List, Bool, true, Option, None, Some, Result, Ok, Err, refl, ap, sym, subst}
+use Rattle.std.proofs.Common.{◌∙◌, length, arith}
 use Rattle.std.specs.Prelude.{◌&&◌, nat_le}
 use Rattle.std.proofs.lemmas.Bool.{cases_Bool, le-leb}
 use Rattle.picky_suite.specs.Asked.{GivesAsked, LeavesSuite}

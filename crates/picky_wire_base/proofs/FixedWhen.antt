@@ -17,7 +17,9 @@ use Rattle.picky_wire_base.specs.carried.Table.{key_is_found}
 use Rattle.picky_wire_base.specs.Named.{named}
 use Rattle.picky_wire_base.specs.When.{HoldsString}
 use Rattle.picky_wire_base.proofs.Narrowed.{place_cases, place_flawed_when, place_value_when, allowed_refused, allowed_refuses, same_why}
-use Rattle.picky_wire_base.proofs.When.{byte_array_are_short, byte_array_are_read, byte_array_read_front, uint32_is_short, uint32_is_read, uint32_read_front, string_is_short, text_is_short, text_is_not_utf8, text_only, text_read_string}
+use Rattle.picky_wire_base.proofs.When.{byte_array_are_short, byte_array_are_read, byte_array_read_front, uint32_is_short}
+use Rattle.picky_wire_base.proofs.When.{uint32_is_read, uint32_read_front, string_is_short, text_is_short, text_is_not_utf8}
+use Rattle.picky_wire_base.proofs.When.{text_only, text_read_string}
 
 -- One fact is the other's, and that one a third's.
 through : {A B C : Type 0} → (A → B) × (B → A) → (B → C) × (C → B) → (A → C) × (C → A)

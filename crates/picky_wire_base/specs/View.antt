@@ -92,7 +92,8 @@ abbrev pub stopped_shown : {P : Type 0} → Stopped P → P × (Why × ℕ)
 stopped_shown stopped = (stopped.place, stuck_shown stopped.stuck)
 
 -- the layout reads what is shown before what stands at the next place, or refuses with that very reason
-abbrev pub SeesAt : {X A P : Type 0} → (X → A) → Grammar (P × Why) A → List ℕ → ℕ → Result (X × ℕ) (Stopped P) → Type 0
+abbrev pub SeesAt : {X A P : Type 0} → (X → A) → Grammar (P × Why) A → List ℕ → ℕ
+    → Result (X × ℕ) (Stopped P) → Type 0
 SeesAt shows layout blob from (Ok (x, next)) = layout.read (drop from blob) ≡ Ok (shows x, drop next blob)
 SeesAt shows layout blob from (Err stopped) = layout.read (drop from blob) ≡ Err (reason_of stopped)
 

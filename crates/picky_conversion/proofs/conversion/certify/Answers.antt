@@ -1,6 +1,7 @@
 -- What is answered, from what reading and signing answer.
 use Rattle.picky_conversion.proofs.AnswerLemmas.{refused_leaves, refuses_input}
-use Rattle.picky_conversion.proofs.CertifyLemmas.{certification_refused, certified_gives, certified_leaves, certified_signer, input_refused, refused_made, still}
+use Rattle.picky_conversion.proofs.CertifyLemmas.{certification_refused, certified_gives, certified_leaves, certified_signer}
+use Rattle.picky_conversion.proofs.CertifyLemmas.{input_refused, refused_made, still}
 use Rattle.picky_conversion.proofs.IssueLemmas.{wanting_leaves}
 use Rattle.picky_wire.specs.Count.{Rose}
 use Rattle.picky_conversion.specs.Certify.{IsReadFault, certification}

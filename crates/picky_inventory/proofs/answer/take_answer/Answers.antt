@@ -3,7 +3,8 @@ use Rattle.std.proofs.Common.{◌∙◌, Err, Ok, ap, inl, inr, rules, sym}
 use Rattle.std.specs.Option.{option_copied}
 use Rattle.picky_wire_base.specs.Outcome.{map_ok}
 use Rattle.picky_inventory.specs.Run.{reader}
-use Rattle.picky_inventory.proofs.RunLemmas.{some_input, source_comes, spares_text, text_comes, text_extent}
+use Rattle.picky_input.proofs.TextLaws.{some_input}
+use Rattle.picky_inventory.proofs.RunLemmas.{source_comes, spares_text, text_comes, text_extent}
 use Rattle.picky_inventory.proofs.answer.take_answer.Goals as goal
 
 pub returns-in-Ok-clause-told : goal.returns-in-Ok-clause-told

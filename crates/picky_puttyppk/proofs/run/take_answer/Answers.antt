@@ -1,6 +1,7 @@
 -- The text for PuTTY of the source's text, or why there is no text.
 use Rattle.std.proofs.Common.{Err, Ok, ap, sym, ◌∙◌}
-use Rattle.picky_puttyppk.proofs.RunLemmas.{some_input, source_comes, text_comes}
+use Rattle.picky_input.proofs.TextLaws.{some_input}
+use Rattle.picky_puttyppk.proofs.RunLemmas.{source_comes, text_comes}
 use Rattle.picky_puttyppk.proofs.run.take_answer.Goals as goal
 
 pub returns-in-Ok-clause-told : goal.returns-in-Ok-clause-told

@@ -2,7 +2,8 @@ use Rattle.std.proofs.Common.{inr, refl}
 use Rattle.std.specs.Option.{option_copied}
 use Rattle.picky_target.specs.declared.error.ConvertError.TheVariants as errors
 use Rattle.picky_target.specs.Output.{Output}
-use Rattle.picky_target.proofs.WrittenLemmas.{gives_as, leaves_as, gives_unasked, written_openssh, written_ppk, openssh_wants_private, ppk_wants_private, line_is_written, putty_is_written}
+use Rattle.picky_target.proofs.WrittenLemmas.{gives_as, leaves_as, gives_unasked, written_openssh, written_ppk}
+use Rattle.picky_target.proofs.WrittenLemmas.{openssh_wants_private, ppk_wants_private, line_is_written, putty_is_written}
 use Rattle.picky_target.proofs.writing.write_text.Goals as goal
 
 pub returns-in-Private-clause-gives : goal.returns-in-Private-clause-gives

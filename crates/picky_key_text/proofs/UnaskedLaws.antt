@@ -8,7 +8,8 @@ use Rattle.picky_sshkey_blob.specs.declared.error.SshPrivateKeyError.TheVariants
 use Rattle.picky_sshkey_blob.specs.declared.pem_error.PemError.{PemError}
 use Rattle.picky_sshkey.specs.Envelope.{Envelope}
 use Rattle.picky_sshkey.specs.Opened.{Lock}
-use Rattle.picky_sshkey.specs.PrivateRefusal.{closed, content_asks, envelope_under, is_locked, lock_of, lock_under, pem_asks, sealed_under, text_asks}
+use Rattle.picky_sshkey.specs.PrivateRefusal.{closed, content_asks, envelope_under, is_locked, lock_of, lock_under, pem_asks}
+use Rattle.picky_sshkey.specs.PrivateRefusal.{sealed_under, text_asks}
 use Rattle.picky_sshkey.specs.declared.cipher.Cipher.{Cipher}
 use Rattle.picky_key_text.specs.Form.{form_of}
 use Rattle.picky_key_text.specs.Order.{asks, asks_as, ppk_asks}
