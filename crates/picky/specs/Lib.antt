@@ -29,6 +29,7 @@ pub use Rattle.picky_wire_base.specs.Wire
 pub use Rattle.picky_wire_base.specs.Zeros as WireZeros
 pub use Rattle.picky_text.specs.Appended
 pub use Rattle.picky_text.specs.Base64
+pub use Rattle.picky_text.specs.Behind
 pub use Rattle.picky_text.specs.Lines as TextLines
 pub use Rattle.picky_text.specs.Quote
 pub use Rattle.picky_text.specs.Rows as TextRows

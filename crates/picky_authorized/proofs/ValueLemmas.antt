@@ -1,5 +1,5 @@
 -- A value between its quotes, piece by piece.
-use Rattle.std.proofs.Common.{◌≡◌, ◌≢◌, ℕ, ◌==◌, Bool, true, false, List, [], ◌∷◌, ◌++◌, length, take}
+use Rattle.std.proofs.Common.{◌≡◌, ◌≢◌, ℕ, ◌==◌, true, false, List, [], ◌∷◌, ◌++◌, length, take}
 use Rattle.std.proofs.Common.{Option, Some, None, refl, sym, ◌∙◌, ap, arith, inl, inr, subst}
 use Rattle.std.proofs.lemmas.Bool.{and_left, and_right, cases_Bool, eqb-true, ne_eqb}
 use Rattle.std.proofs.lemmas.List.{append_assoc, length-append, take_all}
@@ -127,19 +127,6 @@ unquoted_none [] other = refl
 unquoted_none (b ∷ bs) other = rw (ne_eqb b 34 (λ same. other bs (ap (λ c. c ∷ bs) same))) refl
 
 -- ---- a name without a value
-
--- where the first place that passes is the end, none passes
-none_passes : (p : ℕ → Bool) (xs : List ℕ) → position_or_len p xs ≡ length xs → list_any p xs ≡ false
-none_passes p [] ends = refl
-none_passes p (x ∷ xs) ends = elim (cases_Bool (p x)) [
-  | inl passes ↦
-      let first : 0 ≡ length (x ∷ xs) = rw passes at ends in
-      absurd (omega (arith, first))
-  | inr fails ↦
-      let later = rw fails at ends in
-      let rest : position_or_len p xs ≡ length xs = omega (arith, later) in
-      rw fails (none_passes p xs rest)
-]
 
 pub bare_option : (text : List ℕ) (o : AuthOption) → position_or_len is_equals text ≡ length text → is_name text ≡ true
     → o ≡ named text None → Some o ≡ option_in text

@@ -38,7 +38,7 @@ use Rattle.picky_cert.specs.declared.certificate.SshCertificate.{SshCertificate}
 use Rattle.picky_cert.specs.Certificate.{said}
 use Rattle.picky_cert.specs.Keeps.{IsCertificate}
 use Rattle.picky_cert.specs.Spelled.{blob_of, signed_of}
-use Rattle.picky_cert.proofs.ByteLemmas.{utf8_is_bytes}
+use Rattle.picky_keys.proofs.ByteLaws.{utf8_is_bytes}
 
 -- ---- numbers
 

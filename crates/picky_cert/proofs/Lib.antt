@@ -1,4 +1,3 @@
-pub mod ByteLemmas
 pub mod KeepLaws
 pub mod LineLemmas
 pub mod LineLaws

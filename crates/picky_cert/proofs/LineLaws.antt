@@ -37,7 +37,7 @@ use Rattle.picky_cert.specs.Line.{IsCertificateLine}
 use Rattle.picky_cert.specs.LineRefusal.{blob_certificate, body_certificate, line_meaning, word_type, words_meaning}
 use Rattle.picky_cert.specs.Want.{IsReadFault, WantsMemory}
 use Rattle.picky_cert.specs.carried.LineOwn.{line_own}
-use Rattle.picky_cert.proofs.ByteLemmas.{utf8_is_bytes}
+use Rattle.picky_keys.proofs.ByteLaws.{utf8_is_bytes}
 use Rattle.picky_cert.proofs.KeepLaws.{cert_piece, spelled_keeps}
 
 -- ---- the name of a type

@@ -1,6 +1,6 @@
 //! A certificate's line, written.
 
-ghost use Rattle.std.specs.Prelude.{◌≡◌, ◌⊎◌, ◌^◌, ◌<◌, ◌≤◌, ◌+◌, ◌*◌, ◌/◌, ◌++◌, true, Err, IfErr, IfOk, OnOk, length, string_bytes};
+ghost use Rattle.std.specs.Prelude.{◌≡◌, ◌⊎◌, ◌^◌, ◌<◌, ◌≤◌, ◌++◌, true, Err, IfErr, IfOk, OnOk, length, string_bytes};
 ghost use Rattle.picky_wire_base.specs.Gives.{Gives};
 ghost use Rattle.picky_wire.specs.Puts.{Puts};
 ghost use Rattle.picky_wire.specs.declared.error.IoKind.TheVariants as io_kinds;
@@ -10,11 +10,11 @@ ghost use Rattle.picky_cert.specs.Spelled.{blob_of, line_of};
 
 use crate::blob_bytes::signed_vec;
 use crate::certificate::SshCertificate;
-use base64::engine::general_purpose::STANDARD;
 use picky_cert_blob::fits_subject;
 use picky_cert_parts::{
     SshCertificateError, SshSignature, SshSignatureError, signature_pieces, written_total,
 };
+use picky_keys::line_of_words;
 use picky_wire::{IoKind, MAX_LEN, Sink, SizeError, Text, push_pieces, write_all};
 use std::alloc::{AllocError, Global};
 
@@ -125,7 +125,7 @@ fn push_signature(out: &mut Vec<u8>, signature: &SshSignature) -> Result<(), Siz
 }
 
 /// The line of a certificate whose bytes these are.
-#[tactic(auto, unfolding(crate::specs::Spelled::line_of, picky_text::specs::Base64::base64_of))]
+#[tactic(auto, unfolding(crate::specs::Spelled::line_of))]
 fn line_of_blob(
     alloc: Global,
     certificate: &SshCertificate,
@@ -133,23 +133,6 @@ fn line_of_blob(
 ) -> Result<String, AllocError>
     ensures { blob.now ≡ blob_of certificate.now → IfOk result (λ line. string_bytes line ≡ line_of certificate.now) }
 {
-    let comment = certificate.comment.as_str();
-    let mut line = String::with_capacity(alloc, line_room(blob.len(), comment.len()))?;
-    line.push_str(certificate.cert_key_type.as_str())?;
-    line.push_str(" ")?;
-    STANDARD.encode_string(blob, &mut line)?;
-    line.push_str(" ")?;
-    line.push_str(comment)?;
-    line.push_str("\r\n")?;
-    Ok(line)
-}
-
-/// Room for a line, so that it doesn't grow while it is written.
-fn line_room(blob_len: usize, comment_len: usize) -> usize
-    ensures { result ≤ blob_len / 3 * 4 + comment_len + 64 }
-{
-    (blob_len / 3)
-        .saturating_mul(4)
-        .saturating_add(comment_len)
-        .saturating_add(64)
+    let (name, comment) = (certificate.cert_key_type.as_str(), certificate.comment.as_str());
+    line_of_words(alloc, name, blob, comment)
 }

@@ -32,17 +32,7 @@ impl SshCertificateBuilder {
             (map_ok (λ u. signed_of u.certificate) (requested self.now nonce.now)) }
     {
         match self.draft(alloc, nonce) {
-            Ok(draft) => {
-                let CertificateDraft {
-                    certificate,
-                    issuer,
-                    message,
-                    ..
-                } = draft;
-                drop(certificate);
-                drop(issuer);
-                Ok(message)
-            }
+            Ok(draft) => Ok(draft.into_message()),
             Err(e) => Err(e),
         }
     }

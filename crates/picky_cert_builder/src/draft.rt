@@ -29,6 +29,23 @@ pub struct CertificateDraft {
     pub message: Bytes,
 }
 
+impl CertificateDraft {
+    /// The bytes that are signed.
+    pub fn into_message(self) -> Bytes
+        ensures { result ≡ self.message }
+    {
+        let CertificateDraft {
+            certificate,
+            issuer,
+            message,
+            ..
+        } = self;
+        drop(certificate);
+        drop(issuer);
+        message
+    }
+}
+
 impl SshCertificateBuilder {
     /// The certificate that is asked for, and what a device signs of it (OpenSSH's PROTOCOL.certkeys).
     ///

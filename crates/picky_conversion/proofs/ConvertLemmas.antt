@@ -1,5 +1,5 @@
 -- A conversion's text is the one that spells what its key text means, and it is read back.
-use Rattle.std.proofs.Common.{◌≡◌, ℕ, List, Option, None, Some, Result, Ok, Err, refl, ap, subst, ◌⊎◌, inl, inr, IfOk, IsOk}
+use Rattle.std.proofs.Common.{◌≡◌, ℕ, List, Option, None, Some, Ok, refl, subst}
 use Rattle.std.specs.Option.{IfSome}
 use Rattle.std.specs.Str.{IsUtf8}
 use Rattle.picky_wire_base.specs.carried.Outcome.{and_then_ok, map_err_ok}
@@ -10,7 +10,6 @@ use Rattle.picky_key_text.specs.declared.meaning.Meaning.{Meaning}
 use Rattle.picky_key_text.specs.Order.{reading}
 use Rattle.picky_key_text.specs.Reader.{Reader}
 use Rattle.picky_key_text.specs.Reads.{Reads}
-use Rattle.picky_target.specs.declared.error.ConvertError.{ConvertError}
 use Rattle.picky_target.specs.declared.error.ConvertError.TheVariants as errors
 use Rattle.picky_target.specs.declared.target.KeyTarget.{KeyTarget}
 use Rattle.picky_target.specs.Carried.{Carries}
@@ -27,7 +26,7 @@ use Rattle.picky_key_text.proofs.KeptLaws.{meaning_is_kept as kept_in}
 use Rattle.picky_target.proofs.JudgedLaws.{judged_carries as carries, carried_is_judged as takes}
 use Rattle.picky_target.proofs.TextLaws.{text_spells as spells, text_only as one}
 use Rattle.picky_target.proofs.ReadBackLaws.{spelled_is_read_back as read_back}
-use Rattle.picky_key_text.proofs.Utf8Laws.{utf8_is_bytes}
+use Rattle.picky_keys.proofs.ByteLaws.{utf8_is_bytes}
 
 pass_is_bytes : (pass : Option (List ℕ)) → IfSome pass IsUtf8 → IfSome pass IsBytes
 pass_is_bytes None given = tt

@@ -38,17 +38,7 @@ pub fn write_signed_bytes(
         (map_ok (λ u. signed_of u.certificate) (drafted request meaning fresh.now)) }
 {
     match draft(alloc, request, meaning, fresh) {
-        Ok(draft) => {
-            let CertificateDraft {
-                certificate,
-                issuer,
-                message,
-                ..
-            } = draft;
-            drop(certificate);
-            drop(issuer);
-            Ok(message)
-        }
+        Ok(draft) => Ok(draft.into_message()),
         Err(e) => Err(e),
     }
 }

@@ -1,6 +1,6 @@
 -- The text of bytes.
 use Rattle.std.proofs.Common.{◌≡◌, ◌↔◌, ◌<◌, ◌≤◌, ◌+◌, ℕ, List, [], ◌∷◌, Bool, true, false, length, nat_lt, Ok, Err, refl, sym, ap}
-use Rattle.std.proofs.Common.{if◌then◌else◌, replicate, arith}
+use Rattle.std.proofs.Common.{◌⊎◌, if◌then◌else◌, replicate, inl, inr, arith}
 use Rattle.std.proofs.lemmas.List.{length-replicate}
 use Rattle.std.proofs.lemmas.Bool.{le-ltb, lt-ltb, ltb-false, ltb-true}
 use Rattle.std.specs.Str.{IsUtf8, chars, is_utf8}
@@ -72,6 +72,18 @@ no_text_is bytes (short, other) = rw (le-ltb input_limit (length bytes) short, n
 pub no_text_exactly : (bytes : List ℕ)
     → (text_of bytes ≡ Err errors.InputNotUtf8) ↔ ((length bytes ≤ input_limit) × (IsUtf8 bytes → ⊥))
 no_text_exactly bytes = (is_no_text bytes, no_text_is bytes)
+
+-- no other refusal is there
+pub text_err : (bytes : List ℕ) (e : SourceError) → text_of bytes ≡ Err e → (e ≡ errors.InputTooLong) ⊎ (e ≡ errors.InputNotUtf8)
+unfolding text_of
+text_err bytes e = go (nat_lt input_limit (length bytes)) (is_utf8 bytes)
+  where
+    go : (long utf8 : Bool)
+        → (if long then Err errors.InputTooLong else if utf8 then Ok bytes else Err errors.InputNotUtf8) ≡ Err e
+        → (e ≡ errors.InputTooLong) ⊎ (e ≡ errors.InputNotUtf8)
+    go true utf8 same = inl (cc same)
+    go false true same = cc same
+    go false false same = inr (cc same)
 
 -- each error of a source comes of some bytes
 long_input : (n : ℕ) → input_limit < n → (input : List ℕ) × (text_of input ≡ Err errors.InputTooLong)

@@ -1,13 +1,13 @@
 -- How a run ends, status by status.
-use Rattle.std.proofs.Common.{◌≡◌, ◌↔◌, ◌⊎◌, ◌<◌, ◌≤◌, ◌++◌, ℕ, List, length, nat_lt, Bool, true, false, Some}
+use Rattle.std.proofs.Common.{◌≡◌, ◌↔◌, ◌<◌, ◌≤◌, ◌++◌, ℕ, List, length, Some}
 use Rattle.std.proofs.Common.{Result, Ok, Err, refl, sym, ◌∙◌, ap, inl, inr, subst, if◌then◌else◌}
-use Rattle.std.specs.Str.{IsUtf8, is_utf8}
+use Rattle.std.specs.Str.{IsUtf8}
 use Rattle.picky_wire_base.specs.Outcome.{and_then, map_err}
 use Rattle.picky_input.specs.Input.{input_limit}
 use Rattle.picky_input.specs.SourceText.{IsSourceText, text_of}
 use Rattle.picky_input.specs.declared.source_text.SourceError.{SourceError}
 use Rattle.picky_input.specs.declared.source_text.SourceError.TheVariants as source
-use Rattle.picky_input.proofs.TextLaws.{is_source_text, no_text_exactly, source_text_is, too_long_exactly}
+use Rattle.picky_input.proofs.TextLaws.{is_source_text, no_text_exactly, source_text_is, text_err, too_long_exactly}
 use Rattle.picky_key_text.specs.Reader.{Reader}
 use Rattle.picky_key_text.specs.declared.error.ReadError.{ReadError}
 use Rattle.picky_inventory.specs.declared.command.Command.{Command}
@@ -23,17 +23,6 @@ use Rattle.picky_inventory.specs.inner.Comes.{Comes}
 use Rattle.picky_inventory.proofs.RunLemmas.{Bad, Cause, Unread, answer_cause, outcome_of, outcome_without}
 
 -- ---- the statuses of an outcome
-
-text_err : (bytes : List ℕ) (e : SourceError) → text_of bytes ≡ Err e → (e ≡ source.InputTooLong) ⊎ (e ≡ source.InputNotUtf8)
-unfolding text_of
-text_err bytes e = go (nat_lt input_limit (length bytes)) (is_utf8 bytes)
-  where
-    go : (long utf8 : Bool)
-        → (if long then Err source.InputTooLong else if utf8 then Ok bytes else Err source.InputNotUtf8) ≡ Err e
-        → (e ≡ source.InputTooLong) ⊎ (e ≡ source.InputNotUtf8)
-    go true utf8 same = inl (cc same)
-    go false true same = cc same
-    go false false same = inr (cc same)
 
 -- why a command writes nothing for the bytes of a source
 data InputCause (r : Reader) (command : Command) (input : List ℕ) (status : InventoryStatus) : Type 0 where

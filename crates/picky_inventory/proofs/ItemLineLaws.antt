@@ -23,7 +23,7 @@ use Rattle.picky_keys.specs.declared.error.SshPublicKeyError.{SshPublicKeyError}
 use Rattle.picky_keys.specs.declared.key.SshBasePublicKey.{SshBasePublicKey}
 use Rattle.picky_keys.proofs.KeyLaws.{spelled_is_key}
 use Rattle.picky_keys.proofs.LineLaws.{blob_is_bytes, blob_key_fits, blob_key_of}
-use Rattle.picky_key_text.proofs.Utf8Laws.{utf8_is_bytes}
+use Rattle.picky_keys.proofs.ByteLaws.{utf8_is_bytes}
 use Rattle.picky_inventory.specs.ItemLine.{onto_cut, cut_at, passes, is_kind, is_spelled, is_canonical, is_text, some_passes, is_blob_word}
 use Rattle.picky_inventory.specs.ItemLine.{is_comment_word, is_nothing, is_comment_end, is_key_end, is_item_line}
 use Rattle.picky_inventory.specs.Items.{Kind, IsPrivate, IsPublic, kind_word, private_word, public_word, Item, IsItem, item_line}

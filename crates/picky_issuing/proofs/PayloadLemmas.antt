@@ -1,26 +1,11 @@
 -- Lemmas on the payloads of critical options and extensions.
-use Rattle.std.proofs.Common.{◌≡◌, ℕ, ◌+◌, ◌^◌, ◌<◌, ◌≤◌, Bool, false, List, [], ◌∷◌, ◌++◌, length, None, refl, ◌∙◌, ap, arith, inl, inr}
+use Rattle.std.proofs.Common.{◌≡◌, ℕ, ◌+◌, ◌^◌, ◌<◌, ◌≤◌, false, List, [], ◌++◌, length, None, refl, ◌∙◌, ap, arith}
 use Rattle.std.specs.Prelude.{nat_lt}
-use Rattle.std.specs.List.{list_any, position_or_len}
-use Rattle.std.proofs.lemmas.Bool.{cases_Bool}
 use Rattle.std.proofs.lemmas.Bool.Decides.{nat_tests}
 use Rattle.std.proofs.lemmas.List.{append-nil}
 use Rattle.picky_wire_base.specs.Wire.{string_of}
 use Rattle.picky_wire_base.proofs.PieceLemmas.{length-string_of}
 use Rattle.picky_issuing.specs.NamedPayload.{if_short}
-
--- where the first place that passes is the end, none passes
-pub none_passes : (p : ℕ → Bool) (xs : List ℕ) → position_or_len p xs ≡ length xs → list_any p xs ≡ false
-none_passes p [] ends = refl
-none_passes p (x ∷ xs) ends = elim (cases_Bool (p x)) [
-  | inl passes ↦
-      let first : 0 ≡ length (x ∷ xs) = rw passes at ends in
-      absurd (omega (arith, first))
-  | inr fails ↦
-      let later = rw fails at ends in
-      let rest : position_or_len p xs ≡ length xs = omega (arith, later) in
-      rw fails (none_passes p xs rest)
-]
 
 -- a text of 2^32 - 4 bytes or more makes too long a string
 pub long_none : (text : List ℕ) → 2 ^ 32 ≤ length text + 4 → if_short (string_of text) ≡ None

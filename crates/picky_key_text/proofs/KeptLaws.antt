@@ -13,7 +13,7 @@ use Rattle.picky_wire_base.specs.carried.Zeros.{zeros_in_front}
 use Rattle.picky_text.specs.Words.{after_body}
 use Rattle.picky_text.proofs.ListLaws.{all_append, all_replicate}
 use Rattle.picky_text.proofs.WordLaws.{rest_of_line_is_text}
-use Rattle.picky_kv.proofs.LineBytes.{EachByte, each_by_place}
+use Rattle.picky_wire_base.proofs.Numbers.{EachByte, each_by_place}
 use Rattle.picky_kv.specs.Field.{Field, field_value}
 use Rattle.picky_kv.specs.ValueFields.{comment_field}
 use Rattle.picky_kv.specs.Values.{is_long, comment_row}
@@ -61,7 +61,8 @@ use Rattle.picky_key_text.specs.PpkText.{IsUnsealed, AreOpened, IsPpkText}
 use Rattle.picky_key_text.specs.Reader.{Reader}
 use Rattle.picky_key_text.specs.Reads.{Means}
 use Rattle.picky_key_text.proofs.ReadingLaws.{reading_says}
-use Rattle.picky_key_text.proofs.Utf8Laws.{utf8_is_bytes, cut_at_ascii, AreUtf8, lines_are_utf8, unquote_is_utf8}
+use Rattle.picky_keys.proofs.ByteLaws.{utf8_is_bytes}
+use Rattle.picky_key_text.proofs.Utf8Laws.{cut_at_ascii, AreUtf8, lines_are_utf8, unquote_is_utf8}
 
 -- ---- a key that stands in bytes
 

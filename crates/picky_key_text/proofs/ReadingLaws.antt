@@ -34,7 +34,7 @@ use Rattle.picky_key_text.specs.Order.{asks, asks_as, fault_as, fault_of}
 use Rattle.picky_key_text.specs.Reader.{Reader}
 use Rattle.picky_key_text.specs.Reads.{Means, Reads}
 use Rattle.picky_key_text.proofs.PpkLemmas.{taken_file, ppk_says, ppk_is_read}
-use Rattle.picky_key_text.proofs.Utf8Laws.{utf8_is_bytes}
+use Rattle.picky_keys.proofs.ByteLaws.{utf8_is_bytes}
 
 -- ---- what is read is said
 

@@ -1,7 +1,7 @@
--- Texts in UTF-8: they are bytes, and their lines, and what stands between ASCII bytes in them, are UTF-8.
-use Rattle.std.proofs.Common.{◌≡◌, ℕ, ◌<◌, ◌+◌, ◌-◌, ◌==◌, ◌&&◌, List, [], ◌∷◌, ◌++◌, true, sym, arith}
+-- Texts in UTF-8: their lines, and what stands between ASCII bytes in them, are UTF-8.
+use Rattle.std.proofs.Common.{◌≡◌, ℕ, ◌<◌, ◌+◌, ◌-◌, ◌==◌, ◌&&◌, List, [], ◌∷◌, ◌++◌, sym, arith}
 use Rattle.std.proofs.Common.{inl, inr, subst, length, slice_index, append_assoc, length-append}
-use Rattle.std.proofs.lemmas.Bool.{cases_Bool, cases_lt, lt-ltb, le-ltb, eqb-true, and_parts}
+use Rattle.std.proofs.lemmas.Bool.{cases_Bool, cases_lt, eqb-true, and_parts}
 use Rattle.std.proofs.lemmas.List.{append-nil, get_or_past}
 use Rattle.std.proofs.lemmas.Str.{IsUtf8-append, IsUtf8-take, IsUtf8-drop}
 use Rattle.std.proofs.lemmas.Str.{IsCharBoundary-before_ascii, IsCharBoundary-after_ascii}
@@ -9,41 +9,8 @@ use Rattle.std.proofs.Math.Seq.{take-append_seam, drop-append-add, get_or-append
 use Rattle.std.specs.List.{AllByRecursion, slice_split, onto_first}
 use Rattle.std.specs.Str.{IsUtf8}
 use Rattle.std.specs.Str.Lines.{lines_of_parts, strip_carriage_return}
-use lib.Utf8.{encode, encodes, scalar, scalars, scalar_cases}
-use Rattle.picky_wire_base.specs.Numbers.{IsBytes}
-use Rattle.picky_kv.proofs.LineBytes.{EachByte, each_by_place}
 use Rattle.picky_text.specs.Lines.{lines}
 use Rattle.picky_text.specs.Quote.{is_special, unquote}
-use Rattle.picky_text.proofs.ListLaws.{all_append}
-
--- ---- bytes
-
-scalar_below : (c : ℕ) → scalar c ≡ true → c < 1114112
-scalar_below c is = elim (scalar_cases c is) [ inl low ↦ omega arith | inr high ↦ high.1 ]
-
-encode_bytes : (c : ℕ) → scalar c ≡ true → EachByte (encode c)
-unfolding encode
-encode_bytes c is =
-    let top = scalar_below c is in
-    elim (cases_lt c 128) [
-      | inl one ↦ rw (lt-ltb c 128 one) (omega arith, tt)
-      | inr two ↦ elim (cases_lt c 2048) [
-        | inl below ↦ rw (le-ltb c 128 two, lt-ltb c 2048 below) (omega arith, (omega arith, tt))
-        | inr three ↦ elim (cases_lt c 65536) [
-          | inl under ↦ rw (le-ltb c 128 two, le-ltb c 2048 three, lt-ltb c 65536 under) (omega arith, (omega arith, (omega arith, tt)))
-          | inr four ↦ rw (le-ltb c 128 two, le-ltb c 2048 three, le-ltb c 65536 four) (omega arith, (omega arith, (omega arith, (omega arith, tt))))
-        ]
-      ]
-    ]
-
-encodes_bytes : (cs : List ℕ) → scalars cs ≡ true → EachByte (encodes cs)
-encodes_bytes [] is = tt
-encodes_bytes (c ∷ cs) is =
-    let parts = and_parts (scalar c) (scalars cs) is in
-    all_append (λ b. b < 256) (encode c) (encodes cs) (encode_bytes c parts.0) (encodes_bytes cs parts.1)
-
-pub utf8_is_bytes : (text : List ℕ) → IsUtf8 text → IsBytes text
-utf8_is_bytes text utf8 = subst IsBytes utf8.1.1 (each_by_place (encodes utf8.0) (encodes_bytes utf8.0 utf8.1.0))
 
 -- ---- cut at an ASCII byte
 

@@ -1,17 +1,18 @@
 -- Which lists are bytes, words and text: fronts, joins, strings, numbers and names.
 use Rattle.std.specs.Prelude.{◌≡◌, Bool, true, false, if◌then◌else◌, List, [], ◌∷◌, ℕ, zero, suc, ◌+◌, ◌-◌}
-use Rattle.std.specs.Prelude.{◌++◌, ◌<◌, nat_lt, length, slice_index, ◌==◌}
+use Rattle.std.specs.Prelude.{◌++◌, ◌<◌, nat_lt, length, slice_index, ◌==◌, IsUtf8}
 use Rattle.std.specs.Int.{w32, to_be_bytes}
 use Rattle.std.specs.List.{list_all, list_any, position_or_len}
 use Rattle.std.proofs.Common.{sym, subst, refl, arith, inl, inr}
-use Rattle.std.proofs.lemmas.Bool.{cases_lt, cases_Bool, ltb-true, eq-eqb}
+use Rattle.std.proofs.lemmas.Bool.{and_parts, cases_lt, cases_Bool, le-ltb, lt-ltb, ltb-true, eq-eqb}
 use Rattle.std.proofs.lemmas.List.{get_or_append_left, get_or-append-add, get_or_past}
 use Rattle.std.proofs.lemmas.List.Sums.{AllPass-from_list_all}
+use lib.Utf8.{encode, encodes, scalar, scalars, scalar_cases}
 use Rattle.picky_wire_base.specs.Wire.{string_of}
 use Rattle.picky_wire_base.specs.Mpint.{mpint_of}
 use Rattle.picky_wire_base.proofs.MpintLaws.{mpint_of_high, mpint_of_low}
 use Rattle.picky_wire_base.specs.Numbers.{IsBytes}
-use Rattle.picky_wire_base.proofs.Numbers.{front_bytes, back_bytes}
+use Rattle.picky_wire_base.proofs.Numbers.{EachByte, back_bytes, each_by_place, front_bytes}
 use Rattle.picky_text.specs.Lines.{HasNo}
 use Rattle.picky_text.specs.Words.{ends_word, first_word, after_word, IsWord}
 use Rattle.picky_keys.specs.declared.curve.EcCurve.{EcCurve}
@@ -121,3 +122,33 @@ unfolding curve_identifier
 identifier_bytes NistP256 = bytes_by_test (curve_identifier NistP256) refl
 identifier_bytes NistP384 = bytes_by_test (curve_identifier NistP384) refl
 identifier_bytes NistP521 = bytes_by_test (curve_identifier NistP521) refl
+
+-- ---- texts in UTF-8 are bytes
+
+scalar_below : (c : ℕ) → scalar c ≡ true → c < 1114112
+scalar_below c is = elim (scalar_cases c is) [ inl low ↦ omega arith | inr high ↦ high.1 ]
+
+encode_bytes : (c : ℕ) → scalar c ≡ true → EachByte (encode c)
+unfolding encode
+encode_bytes c is =
+    let top = scalar_below c is in
+    elim (cases_lt c 128) [
+      | inl one ↦ rw (lt-ltb c 128 one) (omega arith, tt)
+      | inr two ↦ elim (cases_lt c 2048) [
+        | inl below ↦ rw (le-ltb c 128 two, lt-ltb c 2048 below) (omega arith, (omega arith, tt))
+        | inr three ↦ elim (cases_lt c 65536) [
+          | inl under ↦ rw (le-ltb c 128 two, le-ltb c 2048 three, lt-ltb c 65536 under) (omega arith, (omega arith, (omega arith, tt)))
+          | inr four ↦ rw (le-ltb c 128 two, le-ltb c 2048 three, le-ltb c 65536 four)
+              (omega arith, (omega arith, (omega arith, (omega arith, tt))))
+        ]
+      ]
+    ]
+
+encodes_bytes : (cs : List ℕ) → scalars cs ≡ true → IsBytes (encodes cs)
+encodes_bytes [] is = no_bytes
+encodes_bytes (c ∷ cs) is =
+    let parts = and_parts (scalar c) (scalars cs) is in
+    bytes_joined (encode c) (encodes cs) (each_by_place (encode c) (encode_bytes c parts.0)) (encodes_bytes cs parts.1)
+
+pub utf8_is_bytes : (text : List ℕ) → IsUtf8 text → IsBytes text
+utf8_is_bytes text utf8 = subst IsBytes utf8.1.1 (encodes_bytes utf8.0 utf8.1.0)

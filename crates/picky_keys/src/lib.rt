@@ -28,7 +28,7 @@ pub use curve::{EcCurve, EcCurveSshExt, EdAlgorithm, EdAlgorithmSshExt};
 pub use error::SshPublicKeyError;
 pub use key::{SshBasePublicKey, SshPublicKey};
 pub use kind::KeyKind;
-pub use line::names_key_type;
+pub use line::{line_of_words, names_key_type};
 pub use private_key::{Issuer, PrivateKey};
 pub use public_key::{PublicKey, PublicKeyRef};
 pub use source_line::take_line;

@@ -1,8 +1,9 @@
 //! A public key line (sshd(8)), read and written.
 
-ghost use Rattle.std.specs.Prelude.{◌≡◌, ◌≢◌, ◌⊎◌, ◌^◌, ◌<◌, ◌≤◌, ◌+◌, ◌*◌, ◌/◌, Err, IfErr, IfOk, length, not, string_bytes};
+ghost use Rattle.std.specs.Prelude.{◌≡◌, ◌≢◌, ◌⊎◌, ◌^◌, ◌<◌, ◌≤◌, ◌+◌, ◌*◌, ◌/◌, ◌++◌, [], ◌∷◌, Err, IfErr, IfOk, length, not, string_bytes};
 ghost use Rattle.std.specs.Option.{option_copied};
 ghost use Rattle.picky_wire_base.specs.Gives.{Gives};
+ghost use Rattle.picky_text.specs.Base64.{base64_of};
 ghost use Rattle.picky_wire.specs.Puts.{Puts};
 ghost use Rattle.picky_wire.specs.declared.error.IoKind.TheVariants as io_kinds;
 ghost use Rattle.picky_keys.specs.Blob.{blob_of};
@@ -156,7 +157,7 @@ fn key_of_body(alloc: Global, body: &[u8]) -> Result<SshBasePublicKey, SshPublic
 }
 
 /// The line of a key.
-#[tactic(auto, unfolding(crate::specs::Line::line_of, picky_text::specs::Base64::base64_of))]
+#[tactic(auto, unfolding(crate::specs::Line::line_of))]
 fn line_string(alloc: Global, key: &SshPublicKey) -> Result<String, AllocError>
     ensures { IfOk result (λ line. string_bytes line ≡ line_of key.now) }
 {
@@ -164,11 +165,25 @@ fn line_string(alloc: Global, key: &SshPublicKey) -> Result<String, AllocError>
         Ok(blob) => blob,
         Err(NoMemory) => return Err(AllocError),
     };
-    let comment = key.comment.as_str();
+    let (name, comment) = (key.inner_key.kind().name(), key.comment.as_str());
+    line_of_words(alloc, name, blob.as_slice(), comment)
+}
+
+/// A line of these words: the name, the blob in base64 and the comment, with CR LF (sshd(8)).
+#[tactic(auto, unfolding(picky_text::specs::Base64::base64_of))]
+pub fn line_of_words(
+    alloc: Global,
+    name: &str,
+    blob: &[u8],
+    comment: &str,
+) -> Result<String, AllocError>
+    ensures { IfOk result (λ line. string_bytes line
+        ≡ name.now ++ 32 ∷ base64_of blob.now ++ 32 ∷ comment.now ++ 13 ∷ 10 ∷ []) }
+{
     let mut line = String::with_capacity(alloc, line_room(blob.len(), comment.len()))?;
-    line.push_str(key.inner_key.kind().name())?;
+    line.push_str(name)?;
     line.push_str(" ")?;
-    STANDARD.encode_string(blob.as_slice(), &mut line)?;
+    STANDARD.encode_string(blob, &mut line)?;
     line.push_str(" ")?;
     line.push_str(comment)?;
     line.push_str("\r\n")?;

@@ -1,12 +1,13 @@
 -- What is taken of a text, behind the base64 of the bytes so far.
 use Rattle.std.proofs.Common.{◌≡◌, ◌≢◌, ◌<◌, ◌≤◌, ◌+◌, ◌-◌, ◌%◌, ◌^◌, ◌==◌, ◌&&◌, ◌⊎◌, not, ℕ, suc, Bool, true, false}
 use Rattle.std.proofs.Common.{List, [], ◌∷◌, ◌++◌, length, take, drop, slice_index, refl, sym, ap, ◌∙◌, arith, inl, inr}
-use Rattle.std.proofs.Common.{Option, Some, None}
+use Rattle.std.proofs.Common.{None}
 use Rattle.std.specs.Prelude.{nat_lt, if◌then◌else◌, Result, Ok, Err}
 use Rattle.std.proofs.lemmas.Bool.{cases_lt, cases_eq, eq-eqb, ne_eqb}
 use Rattle.std.proofs.lemmas.Bool.Decides.{nat_tests}
 use Rattle.std.proofs.lemmas.List.{length-append, length-take-le, append-nil}
 use Rattle.std.proofs.lemmas.List.{nil_from_length}
+use Rattle.picky_text.proofs.FrontLaws.{option_cases}
 use Rattle.picky_wire_base.specs.Numbers.{IsBytes}
 use Rattle.picky_wire_base.specs.Outcome.{map_ok}
 use Rattle.picky_text.specs.Base64.{base64_of, decoded}
@@ -204,10 +205,6 @@ kept_is n rest tail ok = elim (cases_lt n (2 ^ 32)) [
 ]
 
 -- ---- refusals
-
-pub option_cases : {A : Type 0} (o : Option A) → ((v : A) × (o ≡ Some v)) ⊎ (o ≡ None)
-option_cases (Some v) = inl (v, refl)
-option_cases None = inr refl
 
 -- groups that are no base64, behind whole groups of three
 pub bad_groups : (x g rest : List ℕ) → IsBytes x → IsBytes g → length g % 4 ≡ 0 → length rest < 4

@@ -6,7 +6,8 @@ use Rattle.std.proofs.Common.{ap, arith, inl, inr}
 use Rattle.picky_kv.specs.Lines.{first_joined}
 use Rattle.picky_kv.specs.Parts.{AreJoined}
 use Rattle.picky_kv.proofs.ReadBackLemmas.{first_joined_lines}
-use Rattle.picky_kv.proofs.SeparatorLemmas.{option_cases, some_of, some_parts}
+use Rattle.picky_text.proofs.FrontLaws.{option_cases}
+use Rattle.picky_kv.proofs.SeparatorLemmas.{some_of, some_parts}
 
 pub joined_is : (count : ℕ) (lines : List (List ℕ)) (text : List ℕ) (after : List (List ℕ))
     → first_joined count lines ≡ Some (text, after) → AreJoined count lines text after

@@ -1,17 +1,14 @@
 -- Lines of bytes are bytes, and so are bytes joined.
-use Rattle.std.proofs.Common.{◌<◌, ◌-◌, ℕ, zero, suc, List, [], ◌∷◌, length, slice_index, take, drop, Bool}
-use Rattle.std.proofs.Common.{sym, subst, arith, inl, inr, ◌==◌}
+use Rattle.std.proofs.Common.{◌<◌, ◌-◌, ℕ, suc, List, [], ◌∷◌, length, slice_index, take, drop, Bool}
+use Rattle.std.proofs.Common.{sym, subst, inl, inr, ◌==◌}
 use Rattle.std.specs.List.{AllByRecursion, concat, slice_split, onto_first}
 use Rattle.std.specs.Str.Lines.{lines_of_parts, strip_carriage_return}
 use Rattle.std.proofs.lemmas.Bool.{cases_Bool}
 use Rattle.std.proofs.lemmas.List.{take-append-drop}
 use Rattle.picky_wire_base.specs.Numbers.{IsBytes}
+use Rattle.picky_wire_base.proofs.Numbers.{EachByte, each_by_place}
 use Rattle.picky_text.specs.Lines.{lines}
 use Rattle.picky_text.proofs.ListLaws.{all_append, all_front}
-
--- each is a byte, in turn
-abbrev pub EachByte : List ℕ → Type 0
-EachByte bytes = AllByRecursion (λ b. b < 256) bytes
 
 -- all are bytes
 abbrev pub AreBytes : List (List ℕ) → Type 0
@@ -21,11 +18,6 @@ AreBytes ls = AllByRecursion EachByte ls
 each_in_turn : (bytes : List ℕ) → IsBytes bytes → EachByte bytes
 each_in_turn [] each = tt
 each_in_turn (b ∷ bytes) each = (each 0, each_in_turn bytes (λ i. each (suc i)))
-
-pub each_by_place : (bytes : List ℕ) → EachByte bytes → IsBytes bytes
-each_by_place [] each i = omega arith
-each_by_place (b ∷ bytes) each zero = each.0
-each_by_place (b ∷ bytes) each (suc i) = each_by_place bytes each.1 i
 
 -- the parts between line ends
 first_grows : (b : ℕ) (parts : List (List ℕ)) → b < 256 → AreBytes parts

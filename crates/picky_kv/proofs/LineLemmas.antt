@@ -22,7 +22,8 @@ use Rattle.picky_kv.specs.BlockRefusal.{block_of}
 use Rattle.picky_text.proofs.Base64Laws.{length_base64, base64_nil}
 use Rattle.picky_kv.proofs.GroupLemmas.{bytes_front, bytes_append}
 use Rattle.picky_kv.proofs.GroupLemmas.{groups_are_cut}
-use Rattle.picky_kv.proofs.FrontLemmas.{option_cases, taken_behind, rest_is_kept, groups_bytes}
+use Rattle.picky_text.proofs.FrontLaws.{option_cases}
+use Rattle.picky_kv.proofs.FrontLemmas.{taken_behind, rest_is_kept, groups_bytes}
 
 -- ---- what a text is judged by
 

@@ -1,17 +1,14 @@
 -- A line is cut at its first separator, or has none.
 use Rattle.std.proofs.Common.{◌≡◌, ◌≢◌, ◌↔◌, ℕ, ◌==◌, ◌&&◌, List, [], ◌∷◌, ◌++◌}
-use Rattle.std.proofs.Common.{codes, false, Option, Some, None, ◌⊎◌, refl}
+use Rattle.std.proofs.Common.{codes, false, Option, Some, None, refl}
 use Rattle.std.proofs.Common.{sym}
 use Rattle.std.proofs.Common.{◌∙◌, ap, inl, inr}
 use Rattle.std.proofs.lemmas.Bool.{cases_Bool, and_parts, eqb-true}
 use Rattle.std.proofs.lemmas.List.{append_assoc}
 use Rattle.std.specs.Prelude.{unwrap_or}
+use Rattle.picky_text.proofs.FrontLaws.{option_cases}
 use Rattle.picky_kv.specs.Lines.{key_and_value, prefixed}
 use Rattle.picky_kv.specs.Parts.{HasNoSeparator, AreKeyAndValue}
-
-pub option_cases : {A : Type 0} (o : Option A) → ((x : A) × (o ≡ Some x)) ⊎ (o ≡ None)
-option_cases (Some x) = inl (x, refl)
-option_cases None = inr refl
 
 -- the parts of a pair
 abbrev pub some_of : {A B : Type 0} → A → B → Option (A × B)

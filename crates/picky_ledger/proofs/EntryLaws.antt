@@ -16,7 +16,7 @@ use Rattle.picky_cert.specs.declared.certificate.SshCertificate.{SshCertificate}
 use Rattle.picky_cert.specs.Line.{IsReadBackCertificate}
 use Rattle.picky_cert.specs.LineRefusal.{line_meaning}
 use Rattle.picky_cert.specs.Spelled.{line_of}
-use Rattle.picky_cert.proofs.ByteLemmas.{utf8_is_bytes}
+use Rattle.picky_keys.proofs.ByteLaws.{utf8_is_bytes}
 use Rattle.picky_cert.proofs.CanonicalLaws.{text_is_kept}
 use Rattle.picky_request.specs.Request.{cut_at_space, request_in}
 use Rattle.picky_request.specs.declared.request.CertRequestLine.{CertRequestLine}

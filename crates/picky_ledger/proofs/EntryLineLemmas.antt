@@ -15,7 +15,7 @@ use Rattle.picky_cert.specs.declared.certificate.SshCertificate.{SshCertificate}
 use Rattle.picky_cert.specs.Line.{IsReadBackCertificate}
 use Rattle.picky_cert.specs.Spelled.{blob_of, line_of}
 use Rattle.picky_cert.proofs.ByteLaws.{blob_bytes}
-use Rattle.picky_cert.proofs.ByteLemmas.{utf8_is_bytes}
+use Rattle.picky_keys.proofs.ByteLaws.{utf8_is_bytes}
 use Rattle.picky_cert.proofs.ReadBackLaws.{type_name_is_word}
 use Rattle.picky_request.specs.Request.{cut_at_space, is_space}
 use Rattle.picky_request.proofs.LineLaws.{chosen, goes_on, line_is_one, some_same}

@@ -16,7 +16,7 @@ use Rattle.picky_cert.specs.declared.certificate.SshCertificate.{SshCertificate}
 use Rattle.picky_cert.specs.Certificate.{bare}
 use Rattle.picky_cert.specs.Line.{IsReadBackCertificate}
 use Rattle.picky_cert.specs.Spelled.{line_of}
-use Rattle.picky_cert.proofs.ByteLemmas.{utf8_is_bytes}
+use Rattle.picky_keys.proofs.ByteLaws.{utf8_is_bytes}
 use Rattle.picky_cert_builder.specs.Built.{IsBuilt}
 use Rattle.picky_cert_builder.specs.declared.error.SshCertificateGenerationError.{SshCertificateGenerationError}
 use Rattle.picky_cert_builder.specs.Draft.{IsSigned, Unsigned, certificate_of, requested, signed_with}

@@ -1,7 +1,7 @@
 -- What the bytes of a source come to, status by status.
 use Rattle.std.proofs.Common.{◌≡◌, ◌≢◌, ◌↔◌, ◌⊎◌, ◌<◌, ◌≤◌, ◌^◌, ◌++◌, ◌+◌, ◌∷◌, ℕ, List, [], length}
 use Rattle.std.proofs.Common.{Option, Some, None, IfErr, IfOk, Result, Ok, Err, refl, sym, ◌∙◌, ap, arith, inl, inr, subst}
-use Rattle.std.proofs.Common.{Bool, true, false, nat_lt, replicate, if◌then◌else◌}
+use Rattle.std.proofs.Common.{Bool, true, false, replicate, if◌then◌else◌}
 use Rattle.std.proofs.lemmas.Bool.Decides.{nat_tests}
 use Rattle.std.proofs.lemmas.Result.{IfErr-at_err}
 use Rattle.std.proofs.lemmas.List.{drop_all, length-append, length-replicate}
@@ -13,7 +13,7 @@ use Rattle.picky_input.specs.Input.{input_limit}
 use Rattle.picky_input.specs.SourceText.{Reads, TakesText, text_of}
 use Rattle.picky_input.specs.declared.source_text.SourceError.{SourceError}
 use Rattle.picky_input.specs.declared.source_text.SourceError.TheVariants as source
-use Rattle.picky_input.proofs.TextLaws.{is_source_text, no_text_exactly, too_long_exactly}
+use Rattle.picky_input.proofs.TextLaws.{is_source_text, no_text_exactly, text_err, too_long_exactly}
 use Rattle.picky_wire.specs.Count.{Rose}
 use Rattle.picky_wire_base.specs.declared.error.SizeError.TheVariants as sizes
 use Rattle.picky_keys.specs.LineRefusal.{is_short, line_meaning}
@@ -105,17 +105,6 @@ asked_by_text fresh input text is = ap (λ t. and_then (map_err source_status t)
 asked_without : (fresh input : List ℕ) (e : SourceError) → text_of input ≡ Err e → asked fresh input ≡ Err (source_status e)
 unfolding asked
 asked_without fresh input e is = ap (λ t. and_then (map_err source_status t) (of_text fresh)) is
-
-text_err : (bytes : List ℕ) (e : SourceError) → text_of bytes ≡ Err e → (e ≡ source.InputTooLong) ⊎ (e ≡ source.InputNotUtf8)
-unfolding text_of
-text_err bytes e = go (nat_lt input_limit (length bytes)) (is_utf8 bytes)
-  where
-    go : (long utf8 : Bool)
-        → (if long then Err source.InputTooLong else if utf8 then Ok bytes else Err source.InputNotUtf8) ≡ Err e
-        → (e ≡ source.InputTooLong) ⊎ (e ≡ source.InputNotUtf8)
-    go true utf8 same = inl (cc same)
-    go false true same = cc same
-    go false false same = inr (cc same)
 
 text_refused : (bytes : List ℕ) (e : SourceError) → text_of bytes ≡ Err e → IsReason bytes (source_status e)
 text_refused bytes e is = elim (text_err bytes e is) [

@@ -1,13 +1,13 @@
 -- The offer of a source's bytes, or why they have none.
-use Rattle.std.proofs.Common.{◌≡◌, ◌↔◌, ◌⊎◌, ◌<◌, ◌≤◌, ℕ, List, length, nat_lt, Bool, true, false}
-use Rattle.std.proofs.Common.{Result, Ok, Err, refl, sym, ◌∙◌, ap, inl, inr, if◌then◌else◌}
-use Rattle.std.specs.Str.{IsUtf8, is_utf8}
+use Rattle.std.proofs.Common.{◌≡◌, ◌↔◌, ◌<◌, ◌≤◌, ℕ, List, length}
+use Rattle.std.proofs.Common.{Result, Ok, Err, refl, sym, ◌∙◌, ap, inl, inr}
+use Rattle.std.specs.Str.{IsUtf8}
 use Rattle.picky_wire_base.specs.Outcome.{and_then, map_err}
 use Rattle.picky_input.specs.Input.{input_limit}
 use Rattle.picky_input.specs.SourceText.{IsSourceText, text_of}
 use Rattle.picky_input.specs.declared.source_text.SourceError.{SourceError}
 use Rattle.picky_input.specs.declared.source_text.SourceError.TheVariants as source
-use Rattle.picky_input.proofs.TextLaws.{is_source_text, no_text_exactly, source_text_is, too_long_exactly}
+use Rattle.picky_input.proofs.TextLaws.{is_source_text, no_text_exactly, source_text_is, text_err, too_long_exactly}
 use Rattle.picky_key_text.specs.declared.error.ReadError.{ReadError}
 use Rattle.picky_policy.specs.Offer.{offer_in}
 use Rattle.picky_policy.specs.Run.{bad_offer, offer_part, offered, offered_in, source_status}
@@ -22,17 +22,6 @@ offered_of input text is = ap (λ t. and_then (map_err source_status t) offered_
 pub offered_without : (input : List ℕ) (e : SourceError) → text_of input ≡ Err e → offered input ≡ Err (source_status e)
 unfolding offered
 offered_without input e is = ap (λ t. and_then (map_err source_status t) offered_in) is
-
-text_err : (bytes : List ℕ) (e : SourceError) → text_of bytes ≡ Err e → (e ≡ source.InputTooLong) ⊎ (e ≡ source.InputNotUtf8)
-unfolding text_of
-text_err bytes e = go (nat_lt input_limit (length bytes)) (is_utf8 bytes)
-  where
-    go : (long utf8 : Bool)
-        → (if long then Err source.InputTooLong else if utf8 then Ok bytes else Err source.InputNotUtf8) ≡ Err e
-        → (e ≡ source.InputTooLong) ⊎ (e ≡ source.InputNotUtf8)
-    go true utf8 same = inl (cc same)
-    go false true same = cc same
-    go false false same = inr (cc same)
 
 -- why there is none
 pub data NoOffer (input : List ℕ) (status : PolicyStatus) : Type 0 where

@@ -1,15 +1,16 @@
 -- The laws of a comment line: what is quoted stands between its first and its last quote, and nothing else does.
-use Rattle.std.proofs.Common.{◌≡◌, ℕ, List, [], ◌∷◌, ◌++◌, Option, Some, None, refl, sym, ap, ◌∙◌, inl, inr}
-use Rattle.std.proofs.Common.{◌==◌}
+use Rattle.std.proofs.Common.{◌≡◌, ℕ, List, ◌∷◌, ◌++◌, Option, Some, None, refl, sym, ap, ◌∙◌, inl, inr}
 use Rattle.std.specs.List.{list_any}
 use Rattle.std.specs.Option.{option_and_then}
-use Rattle.std.proofs.lemmas.Bool.{cases_Bool, eq-eqb, eqb-true}
+use Rattle.std.proofs.lemmas.Bool.{cases_Bool}
 use Rattle.std.proofs.lemmas.List.{append_assoc}
+use Rattle.picky_text.specs.Behind.{behind}
 use Rattle.picky_text.specs.Lines.{HasNo}
+use Rattle.picky_text.proofs.FrontLaws.{behind_front, behind_says}
 use Rattle.picky_text.proofs.ListLaws.{cut_at_first}
 use Rattle.picky_keys.proofs.ByteLaws.{no_by_test}
 use Rattle.picky_ppk_file.specs.PuttyPublic.{comment_start}
-use Rattle.picky_ppk_file.specs.PuttyRefusal.{is_quote, between_quotes, behind, quoted}
+use Rattle.picky_ppk_file.specs.PuttyRefusal.{is_quote, between_quotes, quoted}
 use Rattle.picky_ppk_file.proofs.QuoteMarks.{fail_test, no_quote, has_quote, first_quote, last_quote}
 use Rattle.picky_ppk_file.proofs.QuoteMarks.{before_last_quote}
 
@@ -67,20 +68,6 @@ between_quotes_says text between says = elim (cases_Bool (list_any is_quote text
               last = two.none;
             }
       ]
-]
-
--- What follows a front is behind it.
-pub behind_front : (front rest : List ℕ) → behind front (front ++ rest) ≡ Some rest
-behind_front [] rest = refl
-behind_front (c ∷ front) rest = rw (eq-eqb c c refl) (behind_front front rest)
-
--- What is behind a front follows it.
-pub behind_says : (front text rest : List ℕ) → behind front text ≡ Some rest → text ≡ front ++ rest
-behind_says [] text rest says = cc says
-behind_says (c ∷ front) [] rest says = cc says
-behind_says (c ∷ front) (b ∷ text) rest says = elim (cases_Bool (c == b)) [
-  | inl same ↦ let more = behind_says front text rest (rw same at says) in cc (more, eqb-true c b same)
-  | inr other ↦ let nothing : None ≡ Some rest = rw other at says in cc nothing
 ]
 
 -- ---- a comment line

@@ -8,8 +8,10 @@ use Rattle.std.specs.Str.Pattern.{RFindsChar, SplitsAroundMatch, FindsTextPrefix
 use Rattle.picky_text.specs.Lines.{HasNo}
 use Rattle.picky_text.proofs.UnquoteLemmas.{none_from_places}
 use Rattle.picky_ppk_file.specs.PuttyPublic.{comment_start}
-use Rattle.picky_ppk_file.specs.PuttyRefusal.{between_quotes, behind, quoted}
-use Rattle.picky_ppk_file.proofs.CommentLaws.{behind_says, quoted_behind, between_quotes_of, nothing_without_quotes, nothing_with_one_quote}
+use Rattle.picky_ppk_file.specs.PuttyRefusal.{between_quotes, quoted}
+use Rattle.picky_text.specs.Behind.{behind}
+use Rattle.picky_text.proofs.FrontLaws.{behind_says}
+use Rattle.picky_ppk_file.proofs.CommentLaws.{quoted_behind, between_quotes_of, nothing_without_quotes, nothing_with_one_quote}
 
 -- a line that doesn't begin with the key quotes nothing
 pub no_key : (line : List ℕ) → ((rest : List ℕ) → line ≢ comment_start ++ rest) → quoted line ≡ None

@@ -29,7 +29,8 @@ use Rattle.picky_ppk_file.specs.File.{AreParams, IsSealing, IsFile}
 use Rattle.picky_ppk_file.specs.FileText.{SaysArgon2, SaysSealing}
 use Rattle.picky_ppk_file.specs.FileRefusal.{file_meaning}
 use Rattle.picky_ppk_file.proofs.LineSteps.{judged_ok}
-use Rattle.picky_kv.proofs.LineBytes.{EachByte, AreBytes, lines_are_bytes, joined_is_bytes, each_by_place}
+use Rattle.picky_wire_base.proofs.Numbers.{EachByte, each_by_place}
+use Rattle.picky_kv.proofs.LineBytes.{AreBytes, lines_are_bytes, joined_is_bytes}
 use Rattle.picky_ppk_file.proofs.FileLaws.{meaning_is_said}
 
 -- ---- what each text gives

@@ -6,6 +6,7 @@ use Rattle.std.specs.Option.{ok_or}
 use Rattle.std.specs.Str.{bytes_eq}
 use Rattle.picky_wire_base.specs.Outcome.{and_then}
 use Rattle.picky_text.specs.Base64.{decoded}
+use Rattle.picky_text.specs.Behind.{behind}
 use Rattle.picky_text.specs.Lines.{lines}
 use Rattle.picky_text.specs.Quote.{unquote}
 use Rattle.picky_keys.specs.declared.public_key.PublicKey.{PublicKey}
@@ -32,12 +33,6 @@ unfoldable pub between_quotes : List ℕ → Option (List ℕ)
 between_quotes text =
     if list_any is_quote text && list_any is_quote (after_first is_quote text)
     then Some (before_last is_quote (after_first is_quote text)) else None
-
--- what follows a front
-abbrev pub behind : List ℕ → List ℕ → Option (List ℕ)
-behind [] text = Some text
-behind (c ∷ front) [] = None
-behind (c ∷ front) (b ∷ text) = if c == b then behind front text else None
 
 -- the quoted comment in a comment line
 unfoldable pub quoted : List ℕ → Option (List ℕ)

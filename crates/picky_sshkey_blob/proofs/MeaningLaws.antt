@@ -11,7 +11,8 @@ use Rattle.picky_text.proofs.Base64Laws.{base64_is_read_back, base64_is_of_what_
 use Rattle.picky_sshkey_blob.specs.Pem.{header, footer, packed, IsPem}
 use Rattle.picky_sshkey_blob.specs.PemRefusal.{after_header, before_footer, of_body, short_content, pem_content}
 use Rattle.picky_sshkey_blob.specs.declared.pem_error.PemError.TheVariants as errors
-use Rattle.picky_sshkey_blob.proofs.FooterLaws.{behind_says, before_first_footer, before_footer_says}
+use Rattle.picky_text.proofs.FrontLaws.{behind_says}
+use Rattle.picky_sshkey_blob.proofs.FooterLaws.{before_first_footer, before_footer_says}
 use Rattle.picky_sshkey_blob.proofs.PackedLaws.{packed_is_bytes}
 use Rattle.picky_sshkey_blob.proofs.ParseLemmas.{header_read, body_read}
 

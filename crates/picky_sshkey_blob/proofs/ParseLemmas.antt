@@ -5,7 +5,8 @@ use Rattle.std.specs.Str.Pattern.{FindsText, SplitsAroundMatch, FindsTextPrefix,
 use Rattle.picky_sshkey_blob.specs.Pem.{header, footer}
 use Rattle.picky_sshkey_blob.specs.PemRefusal.{after_header, before_footer, of_body, pem_content}
 use Rattle.picky_sshkey_blob.specs.declared.pem_error.PemError.TheVariants as errors
-use Rattle.picky_sshkey_blob.proofs.FooterLaws.{behind_front, behind_none, before_first_footer, before_no_footer}
+use Rattle.picky_text.proofs.FrontLaws.{behind_front, behind_none}
+use Rattle.picky_sshkey_blob.proofs.FooterLaws.{before_first_footer, before_no_footer}
 
 -- ---- the steps
 

@@ -1,18 +1,13 @@
 -- The order in which an armoured text is refused: header, footer, base64, length.
-use Rattle.std.specs.Prelude.{◌==◌, ◌^◌, nat_lt, length, List, [], ◌∷◌, ℕ, Option, Some, None}
+use Rattle.std.specs.Prelude.{◌^◌, nat_lt, length, List, [], ◌∷◌, ℕ, Option, Some, None}
 use Rattle.std.specs.Prelude.{Result, Ok, Err, if◌then◌else◌, is_some, option_map}
 use Rattle.std.specs.Option.{ok_or}
 use Rattle.picky_wire_base.specs.Outcome.{and_then}
 use Rattle.picky_text.specs.Base64.{decoded}
+use Rattle.picky_text.specs.Behind.{behind}
 use Rattle.picky_sshkey_blob.specs.declared.pem_error.PemError.{PemError}
 use Rattle.picky_sshkey_blob.specs.declared.pem_error.PemError.TheVariants as errors
 use Rattle.picky_sshkey_blob.specs.Pem.{header, footer, packed, pem_lines}
-
--- what follows a front
-abbrev pub behind : List ℕ → List ℕ → Option (List ℕ)
-behind [] text = Some text
-behind (c ∷ front) [] = None
-behind (c ∷ front) (b ∷ text) = if c == b then behind front text else None
 
 -- what follows the header
 unfoldable pub after_header : List ℕ → Option (List ℕ)

@@ -20,7 +20,7 @@ use Rattle.picky_ppk_file.specs.declared.file.PpkSealing.{PpkSealing}
 use Rattle.picky_ppk_file.specs.declared.file.PpkSealing.TheVariants.{Unsealed, SealedV2, SealedV3}
 use Rattle.picky_ppk_file.specs.File.{IsSealing}
 use Rattle.picky_ppk.specs.Keyed.{keys_under}
-use Rattle.picky_key_text.proofs.Utf8Laws.{utf8_is_bytes}
+use Rattle.picky_keys.proofs.ByteLaws.{utf8_is_bytes}
 
 -- ---- lists
 

@@ -32,7 +32,7 @@ use Rattle.picky_target.specs.Texts.{envelope_text}
 use Rattle.picky_target.proofs.ByteLemmas.{ascii_is_bytes, pass_is_bytes, take_bytes}
 use Rattle.picky_target.proofs.FormLaws.{envelope_form}
 use Rattle.picky_target.proofs.PlaceLemmas.{envelope_len}
-use Rattle.picky_key_text.proofs.Utf8Laws.{utf8_is_bytes}
+use Rattle.picky_keys.proofs.ByteLaws.{utf8_is_bytes}
 
 -- bcrypt can be run where the passphrase and the salt allow it
 may_derive_of : (pass : Option (List ℕ)) (fresh : List ℕ) (key : SshBasePrivateKey) → Derives targets.OpenSsh pass

@@ -52,7 +52,7 @@ use Rattle.picky_target.specs.ReadBack.{IsConfig, under}
 use Rattle.picky_target.proofs.ByteLemmas.{drop_bytes, each_is_byte, keys_are_bytes, secret_is_bytes, take_bytes}
 use Rattle.picky_target.proofs.FileLemmas.{key_parts_is}
 use Rattle.picky_target.proofs.FormLaws.{file_form}
-use Rattle.picky_key_text.proofs.Utf8Laws.{utf8_is_bytes}
+use Rattle.picky_keys.proofs.ByteLaws.{utf8_is_bytes}
 
 -- ---- the parts
 

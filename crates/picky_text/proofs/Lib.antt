@@ -5,6 +5,7 @@ pub mod RowLemmas
 pub mod UnquoteLemmas
 pub mod LineLemmas
 pub mod Base64Laws
+pub mod FrontLaws
 pub mod LineLaws
 pub mod ListLaws
 pub mod QuoteLaws

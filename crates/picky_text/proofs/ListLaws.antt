@@ -1,8 +1,8 @@
 -- What holds of each element of a list, and of its parts.
 use Rattle.std.proofs.Common.{◌≡◌, ℕ, zero, suc, ◌+◌, Bool, true, false, List, [], ◌∷◌, ◌++◌, replicate}
-use Rattle.std.proofs.Common.{slice_index, refl, ap, arith, inl, inr}
+use Rattle.std.proofs.Common.{length, slice_index, refl, ap, arith, inl, inr}
 use Rattle.std.proofs.lemmas.Bool.{cases_Bool}
-use Rattle.std.specs.List.{AllByRecursion, before_first, after_first, position_or_len}
+use Rattle.std.specs.List.{AllByRecursion, before_first, after_first, list_any, position_or_len}
 
 -- two lists
 pub all_append : {X : Type 0} (P : X → Type 0) (xs ys : List X) → AllByRecursion P xs
@@ -78,3 +78,16 @@ uncut ends (b ∷ line) none =
     let next : 1 + n ≡ suc n = omega arith in
     let past : suc n + 1 ≡ suc (n + 1) = omega arith in
     (rw (none.0, next) (ap (λ l. b ∷ l) more.0), rw (none.0, next, past) more.1)
+
+-- where the first place that passes is the end, none passes
+pub none_passes : (p : ℕ → Bool) (xs : List ℕ) → position_or_len p xs ≡ length xs → list_any p xs ≡ false
+none_passes p [] ends = refl
+none_passes p (x ∷ xs) ends = elim (cases_Bool (p x)) [
+  | inl passes ↦
+      let first : 0 ≡ length (x ∷ xs) = rw passes at ends in
+      absurd (omega (arith, first))
+  | inr fails ↦
+      let later = rw fails at ends in
+      let rest : position_or_len p xs ≡ length xs = omega (arith, later) in
+      rw fails (none_passes p xs rest)
+]

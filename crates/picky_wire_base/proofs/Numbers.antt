@@ -1,5 +1,6 @@
 -- The laws of numbers of the wire, and of fronts of bytes.
-use Rattle.std.specs.Prelude.{◌≡◌, List, [], ◌∷◌, ℕ, ◌+◌, ◌++◌, ◌<◌, ◌^◌, ◌%◌, length, take, drop, Ok}
+use Rattle.std.specs.Prelude.{◌≡◌, List, [], ◌∷◌, ℕ, zero, suc, ◌+◌, ◌++◌, ◌<◌, ◌^◌, ◌%◌, length, take, drop, Ok}
+use Rattle.std.specs.List.{AllByRecursion}
 use Rattle.std.specs.Int.{Width, w8, w32, w64, byte_len, from_be_bytes, to_be_bytes}
 use Rattle.std.proofs.Common.{sym, ◌∙◌, ap, subst, refl, arith, inl, inr}
 use Rattle.std.proofs.lemmas.Bool.{cases_lt}
@@ -27,6 +28,15 @@ front_bytes n bytes each =
 pub back_bytes : (n : ℕ) (bytes : List ℕ) → IsBytes bytes → IsBytes (drop n bytes)
 back_bytes n bytes each =
     bytes_behind (take n bytes) (drop n bytes) (subst IsBytes (sym (take-append-drop n bytes)) each)
+
+-- each is a byte, in turn and by its place
+abbrev pub EachByte : List ℕ → Type 0
+EachByte bytes = AllByRecursion (λ b. b < 256) bytes
+
+pub each_by_place : (bytes : List ℕ) → EachByte bytes → IsBytes bytes
+each_by_place [] each i = omega arith
+each_by_place (b ∷ bytes) each zero = each.0
+each_by_place (b ∷ bytes) each (suc i) = each_by_place bytes each.1 i
 
 -- ---- the spelling is a piece, and is read back whatever follows
 

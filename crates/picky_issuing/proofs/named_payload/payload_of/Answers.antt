@@ -1,7 +1,7 @@
 -- Where no equals sign stands, the payload is empty.
 use Rattle.std.proofs.Common.{arith, refl}
 use Rattle.picky_issuing.specs.NamedPayload.{is_equals, payload_in}
-use Rattle.picky_issuing.proofs.PayloadLemmas.{none_passes}
+use Rattle.picky_text.proofs.ListLaws.{none_passes}
 use Rattle.picky_issuing.proofs.named_payload.payload_of.Goals as goal
 
 pub returns-in-None : goal.returns-in-None
