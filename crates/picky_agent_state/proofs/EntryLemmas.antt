@@ -1,37 +1,26 @@
 -- Lemmas on an identity's entry in a list.
-use Rattle.std.proofs.Common.{◌≡◌, ◌≤◌, ◌<◌, ◌+◌, ◌^◌, ◌++◌, ◌∷◌, ◌∙◌, [], ℕ, suc, List, length, slice_index, take, drop, ap, sym, arith}
-use Rattle.std.proofs.Common.{inl, inr, subst}
-use Rattle.std.specs.Prelude.{map, remove, slice_set}
-use Rattle.std.specs.List.{concat}
+use Rattle.std.proofs.Common.{◌≡◌, ◌≤◌, ◌<◌, ◌+◌, ◌^◌, ◌++◌, ◌∷◌, ◌∙◌, [], ℕ, suc, List, length, slice_index, take, drop, ap}
+use Rattle.std.proofs.Common.{sym, arith, inl, inr, subst}
 use Rattle.std.proofs.lemmas.Bool.{cases_lt}
 use Rattle.std.proofs.lemmas.List.{drop-map, length-append, length-set, map-append, map-set, take-map}
 use Rattle.std.proofs.lemmas.List.Edits.{length-remove}
-use Rattle.picky_wire_base.specs.Mpint.{mpint_of}
-use Rattle.picky_wire_base.specs.Wire.{string_of}
-use Rattle.picky_wire_base.proofs.MpintLaws.{mpint_of_high, mpint_of_low}
-use Rattle.picky_wire_base.specs.declared.view.Part.{Part}
-use Rattle.picky_wire_base.specs.declared.view.Word.{Word}
-use Rattle.picky_wire_base.specs.View.{Lies, WordLies}
-use Rattle.picky_wire_base.proofs.PieceLemmas.{length-string_of}
+use Rattle.std.specs.{Prelude.{map, remove, slice_set}, List.{concat}}
+use Rattle.picky_wire_base.specs.{Mpint.{mpint_of}, Wire.{string_of}, declared.view.Part.{Part}}
+use Rattle.picky_wire_base.specs.{declared.view.Word.{Word}, View.{Lies, WordLies}}
+use Rattle.picky_wire_base.proofs.{MpintLaws.{mpint_of_high, mpint_of_low}, PieceLemmas.{length-string_of}}
 use Rattle.picky_keys.specs.declared.curve.EcCurve.{EcCurve}
 use Rattle.picky_keys.specs.declared.curve.EcCurve.TheVariants.{NistP256, NistP384, NistP521}
-use Rattle.picky_keys.specs.declared.curve.EdAlgorithm.TheVariants.{Ed25519}
-use Rattle.picky_keys.specs.declared.kind.KeyKind.{KeyKind}
-use Rattle.picky_keys.specs.declared.kind.KeyKind.TheVariants as kinds
+use Rattle.picky_keys.specs.{declared.curve.EdAlgorithm.TheVariants.{Ed25519}, declared.kind.KeyKind.{KeyKind}}
 use Rattle.picky_keys.specs.KeyNames.{curve_identifier, curve_key_type, ed_key_type, kind_name}
-use Rattle.picky_keys.specs.declared.key.SshBasePublicKey.{SshBasePublicKey}
-use Rattle.picky_keys.specs.declared.key.SshBasePublicKey.TheVariants as keys
-use Rattle.picky_keys.specs.Key.{kind_of}
+use Rattle.picky_keys.specs.{declared.key.SshBasePublicKey.{SshBasePublicKey}, Key.{kind_of}}
 use Rattle.picky_keys.specs.Blob.{blob_of, fields_spelled}
-use Rattle.picky_sshkey_blob.specs.declared.view.PrivateView.{PrivateView}
-use Rattle.picky_sshkey_blob.specs.declared.view.PrivateView.TheVariants as views
-use Rattle.picky_sshkey_blob.specs.Key.{IsPrivateKey, public_part}
+use Rattle.picky_keys.specs.declared.kind.KeyKind.TheVariants as kinds
+use Rattle.picky_keys.specs.declared.key.SshBasePublicKey.TheVariants as keys
+use Rattle.picky_sshkey_blob.specs.{declared.view.PrivateView.{PrivateView}, Key.{IsPrivateKey, public_part}}
 use Rattle.picky_sshkey_blob.specs.View.{PartsLie, key_seen}
-use Rattle.picky_agent_state.specs.Message.{message_limit}
-use Rattle.picky_agent_state.specs.declared.identity.Identity.{Identity}
-use Rattle.picky_agent_state.specs.Reply.{entry}
-use Rattle.picky_agent_state.specs.Rows.{most_identities}
-use Rattle.picky_agent_state.specs.inner.Asked.{CanAdd, identity_seen}
+use Rattle.picky_sshkey_blob.specs.declared.view.PrivateView.TheVariants as views
+use Rattle.picky_agent_state.specs.{Message.{message_limit}, declared.identity.Identity.{Identity}, Reply.{entry}}
+use Rattle.picky_agent_state.specs.{Rows.{most_identities}, inner.Asked.{CanAdd, identity_seen}}
 use Rattle.picky_agent_state.specs.inner.Entry.{HasEntry}
 
 -- ---- how long a blob is at most

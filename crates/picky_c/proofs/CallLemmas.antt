@@ -1,33 +1,25 @@
 -- What the calls below answer, as what a call here answers.
-use Rattle.std.proofs.Common.{◌≡◌, ◌⊎◌, ◌∙◌, Bool, true, false, ℕ, List, Option, None, Result, Ok, Err, ap, sym, subst, inl, inr, refl}
+use Rattle.std.proofs.Common.{◌≡◌, ◌⊎◌, ◌∙◌, Bool, true, false, ℕ, List, Option, None, Result, Ok, Err, ap, sym, subst, inl}
+use Rattle.std.proofs.Common.{inr, refl}
 use Rattle.std.specs.Str.{is_utf8}
 use Rattle.picky_wire_base.specs.Outcome.{and_then, map_err, map_ok}
-use Rattle.picky_suite.specs.Failures.{IsAskedFault}
-use Rattle.picky_suite.specs.Meanings.{Meanings, plain}
+use Rattle.picky_suite.specs.{Failures.{IsAskedFault}, Meanings.{Meanings, plain}}
 use Rattle.picky_keys.specs.declared.key.SshPublicKey.{SshPublicKey}
-use Rattle.picky_key_text.specs.Key.{public_key as public_key_of}
-use Rattle.picky_key_text.specs.Form.{form_of}
+use Rattle.picky_key_text.specs.{Key.{public_key as public_key_of}, Form.{form_of}}
 use Rattle.picky_key_text.specs.Order.{asks, fault_as, fault_of as input_fault, reading}
-use Rattle.picky_key_text.specs.declared.error.ReadError.{ReadError}
-use Rattle.picky_key_text.specs.declared.error.ReadError.TheVariants as input
-use Rattle.picky_key_text.specs.declared.form.Form.{Form}
-use Rattle.picky_key_text.specs.declared.form.Form.TheVariants as forms
+use Rattle.picky_key_text.specs.{declared.error.ReadError.{ReadError}, declared.form.Form.{Form}}
 use Rattle.picky_key_text.specs.declared.meaning.Meaning.{Meaning}
-use Rattle.picky_target.specs.Written.{fault_of as output_fault}
-use Rattle.picky_target.specs.declared.error.ConvertError.{ConvertError}
-use Rattle.picky_target.specs.declared.error.ConvertError.TheVariants as errors
+use Rattle.picky_key_text.specs.declared.error.ReadError.TheVariants as input
+use Rattle.picky_key_text.specs.declared.form.Form.TheVariants as forms
+use Rattle.picky_target.specs.{Written.{fault_of as output_fault}, declared.error.ConvertError.{ConvertError}}
 use Rattle.picky_target.specs.declared.target.KeyTarget.{KeyTarget}
+use Rattle.picky_target.specs.declared.error.ConvertError.TheVariants as errors
 use Rattle.picky_target.specs.declared.target.KeyTarget.TheVariants as targets
-use Rattle.picky_conversion.specs.Certified.{Relation}
-use Rattle.picky_conversion.specs.Convert.{IsFaultOf, conversion, converting_asks}
-use Rattle.picky_conversion.specs.Made.{Answers, IsUnwritten, Made, ToSign, Whole}
-use Rattle.picky_conversion.specs.Outside.{Outside}
-use Rattle.picky_conversion.specs.To.{IsFaultTo, Way, Written, converted}
-use Rattle.picky_conversion.specs.Refusal.{input_refusal}
+use Rattle.picky_conversion.specs.{Certified.{Relation}, Convert.{IsFaultOf, conversion, converting_asks}}
+use Rattle.picky_conversion.specs.{Made.{Answers, IsUnwritten, Made, ToSign, Whole}, Outside.{Outside}}
+use Rattle.picky_conversion.specs.{To.{IsFaultTo, Way, Written, converted}, Refusal.{input_refusal}}
 use Rattle.picky_conversion.proofs.AnswerLemmas.{opening_asks, sealing_asks}
-use Rattle.picky_c.specs.Calls.{public_key}
-use Rattle.picky_c.specs.Given.{plain_outside, plain_reader}
-use Rattle.picky_c.specs.Refusal.{refusal_of}
+use Rattle.picky_c.specs.{Calls.{public_key}, Given.{plain_outside, plain_reader}, Refusal.{refusal_of}}
 use Rattle.picky_c.specs.declared.error.PickyError.{PickyError}
 use Rattle.picky_c.specs.declared.error.PickyError.TheVariants as calls
 use Rattle.picky_key_text.proofs.UnaskedLaws.{unasked}

@@ -1,44 +1,36 @@
 -- What is written of a certificate is bytes.
 use Rattle.std.specs.Prelude.{List, [], ◌∷◌, ◌++◌, ℕ, zero, suc, ◌<◌, flat_map, All}
-use Rattle.std.specs.Int.{w8, w32, w64, to_be_bytes}
-use Rattle.std.specs.List.{AllByRecursion}
+use Rattle.std.specs.{Int.{w8, w32, w64, to_be_bytes}, List.{AllByRecursion}}
 use Rattle.std.proofs.Common.{refl, arith}
-use Rattle.picky_wire_base.specs.Numbers.{IsBytes}
-use Rattle.picky_wire_base.specs.Wire.{string_of}
+use Rattle.picky_wire_base.specs.{Numbers.{IsBytes}, Wire.{string_of}}
 use Rattle.picky_wire.specs.Principals.{IsPrincipal}
-use Rattle.picky_keys.proofs.ByteLaws.{bytes_by_test, bytes_joined, no_bytes, number_bytes, string_bytes_each}
+use Rattle.picky_keys.proofs.ByteLaws.{bytes_by_test, bytes_joined, no_bytes, number_bytes, string_bytes_each, utf8_is_bytes}
 use Rattle.picky_keys.proofs.LineLaws.{blob_is_bytes, fields_bytes}
 use Rattle.picky_cert_parts.specs.declared.cert_key_type.SshCertKeyType.{SshCertKeyType}
-use Rattle.picky_cert_parts.specs.declared.cert_key_type.SshCertKeyType.TheVariants as keytypes
 use Rattle.picky_cert_parts.specs.declared.option_type.SshCriticalOptionType.{SshCriticalOptionType}
-use Rattle.picky_cert_parts.specs.declared.option_type.SshCriticalOptionType.TheVariants as options
 use Rattle.picky_cert_parts.specs.declared.known_extension.KnownExtension.{KnownExtension}
-use Rattle.picky_cert_parts.specs.declared.known_extension.KnownExtension.TheVariants as known
 use Rattle.picky_cert_parts.specs.declared.extension_type.SshExtensionType.{SshExtensionType}
-use Rattle.picky_cert_parts.specs.declared.extension_type.SshExtensionType.TheVariants as extensions
 use Rattle.picky_cert_parts.specs.declared.signature_format.SshSignatureFormat.{SshSignatureFormat}
-use Rattle.picky_cert_parts.specs.declared.signature_format.SshSignatureFormat.TheVariants as formats
 use Rattle.picky_cert_parts.specs.CertNames.{cert_key_type_name, option_name, known_name, format_name}
 use Rattle.picky_cert_parts.specs.ExtensionType.{extension_name, IsExtensionType}
 use Rattle.picky_cert_parts.specs.declared.cert_type.SshCertType.{SshCertType}
 use Rattle.picky_cert_parts.specs.declared.critical_option.SshCriticalOption.{SshCriticalOption}
 use Rattle.picky_cert_parts.specs.declared.extension.SshExtension.{SshExtension}
 use Rattle.picky_cert_parts.specs.declared.signature.SshSignature.{SshSignature}
-use Rattle.picky_cert_parts.specs.declared.signature.SshSignatureBlob.{SshSignatureBlob}
-use Rattle.picky_cert_parts.specs.declared.signature.SshSignatureBlob.TheVariants as blobs
-use Rattle.picky_cert_parts.specs.CertType.{cert_type_of}
-use Rattle.picky_cert_parts.specs.CertNumber.{cert_type_number}
-use Rattle.picky_cert_parts.specs.CriticalOption.{option_of, IsOption}
+use Rattle.picky_cert_parts.specs.{declared.signature.SshSignatureBlob.{SshSignatureBlob}, CertType.{cert_type_of}}
+use Rattle.picky_cert_parts.specs.{CertNumber.{cert_type_number}, CriticalOption.{option_of, IsOption}}
 use Rattle.picky_cert_parts.specs.Extension.{extension_of, IsExtension}
 use Rattle.picky_cert_parts.specs.Signature.{behind_total, signature_of, total_of, IsBlob, IsSignature}
-use Rattle.picky_cert_blob.specs.Layout.{Grants, Head, Terms}
-use Rattle.picky_cert_blob.specs.Keeps.{IsGrants, IsHead, IsTerms}
+use Rattle.picky_cert_parts.specs.declared.cert_key_type.SshCertKeyType.TheVariants as keytypes
+use Rattle.picky_cert_parts.specs.declared.option_type.SshCriticalOptionType.TheVariants as options
+use Rattle.picky_cert_parts.specs.declared.known_extension.KnownExtension.TheVariants as known
+use Rattle.picky_cert_parts.specs.declared.extension_type.SshExtensionType.TheVariants as extensions
+use Rattle.picky_cert_parts.specs.declared.signature_format.SshSignatureFormat.TheVariants as formats
+use Rattle.picky_cert_parts.specs.declared.signature.SshSignatureBlob.TheVariants as blobs
+use Rattle.picky_cert_blob.specs.{Layout.{Grants, Head, Terms}, Keeps.{IsGrants, IsHead, IsTerms}}
 use Rattle.picky_cert_blob.specs.Spelled.{body_spelled, grants_spelled, head_spelled, terms_spelled}
-use Rattle.picky_cert.specs.declared.certificate.SshCertificate.{SshCertificate}
-use Rattle.picky_cert.specs.Certificate.{said}
-use Rattle.picky_cert.specs.Keeps.{IsCertificate}
-use Rattle.picky_cert.specs.Spelled.{blob_of, signed_of}
-use Rattle.picky_keys.proofs.ByteLaws.{utf8_is_bytes}
+use Rattle.picky_cert.specs.{declared.certificate.SshCertificate.{SshCertificate}, Certificate.{said}}
+use Rattle.picky_cert.specs.{Keeps.{IsCertificate}, Spelled.{blob_of, signed_of}}
 
 -- ---- numbers
 

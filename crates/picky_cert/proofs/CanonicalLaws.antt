@@ -1,34 +1,23 @@
 -- A line that was read, however it was spelled, is written in its one spelling, which is read back as the same certificate.
-use Rattle.std.specs.Prelude.{◌≡◌, true, List, [], ◌∷◌, ℕ, ◌++◌, ◌<◌, ◌^◌, length, Ok}
-use Rattle.std.specs.List.{position_or_len}
-use Rattle.std.proofs.Common.{sym, ◌∙◌, ap, subst, refl, arith}
-use Rattle.std.proofs.lemmas.Bool.{ltb-true}
-use Rattle.std.proofs.lemmas.List.{append-nil}
-use Rattle.picky_wire_base.specs.carried.Outcome.{and_then_ok, passed_ok, same_pair}
-use Rattle.picky_wire_base.specs.Numbers.{IsBytes}
+use Rattle.std.specs.{Prelude.{◌≡◌, true, List, [], ◌∷◌, ℕ, ◌++◌, ◌<◌, ◌^◌, length, Ok}, List.{position_or_len}}
+use Rattle.std.proofs.{Common.{sym, ◌∙◌, ap, subst, refl, arith}, lemmas.Bool.{ltb-true}, lemmas.List.{append-nil}}
+use Rattle.picky_wire_base.specs.{carried.Outcome.{and_then_ok, passed_ok, same_pair}, Numbers.{IsBytes}}
 use Rattle.picky_wire_base.proofs.Numbers.{bytes_behind, bytes_in_front, front_bytes}
 use Rattle.picky_text.specs.Words.{ends_line, line_in_front, after_body, comment_of}
 use Rattle.picky_text.proofs.WordLaws.{rest_has_no_cr, rest_has_no_lf, rest_is_trimmed, rest_of_line_is_text}
-use Rattle.picky_keys.specs.LineRefusal.{is_short}
-use Rattle.picky_keys.specs.SourceLine.{read_line}
+use Rattle.picky_keys.specs.{LineRefusal.{is_short}, SourceLine.{read_line}}
 use Rattle.picky_keys.proofs.LineLaws.{chosen}
 use Rattle.picky_cert_parts.specs.declared.error.SshCertificateError.TheVariants as errors
 use Rattle.picky_cert_parts.specs.declared.error.SshSignatureError.TheVariants as signatures
-use Rattle.picky_cert_parts.specs.CertFromWire.{certificate_error}
-use Rattle.picky_cert_parts.specs.declared.signature.SshSignature.{SshSignature}
+use Rattle.picky_cert_parts.specs.{CertFromWire.{certificate_error}, declared.signature.SshSignature.{SshSignature}}
 use Rattle.picky_cert_parts.specs.Signature.{blob_fits, signature}
 use Rattle.picky_cert_parts.proofs.SpellingLaws.{signature_fits}
-use Rattle.picky_cert_blob.specs.Layout.{signature_part}
-use Rattle.picky_cert_blob.specs.Subject.{fits_subject}
+use Rattle.picky_cert_blob.specs.{Layout.{signature_part}, Subject.{fits_subject}}
 use Rattle.picky_cert.specs.declared.certificate.SshCertificate.{SshCertificate}
-use Rattle.picky_cert.specs.Certificate.{certificate, certified, said}
-use Rattle.picky_cert.specs.Keeps.{IsWellFormed}
-use Rattle.picky_cert.specs.Line.{IsCertificateLine, IsReadBackCertificate}
-use Rattle.picky_cert.specs.LineRefusal.{line_meaning, line_text}
-use Rattle.picky_cert.specs.SourceLine.{source_meaning}
-use Rattle.picky_cert.specs.Spelled.{line_of}
-use Rattle.picky_cert.proofs.KeepLaws.{cert_piece}
-use Rattle.picky_cert.proofs.LineLaws.{line_fits_subject, line_keeps, line_meaning_says}
+use Rattle.picky_cert.specs.{Certificate.{certificate, certified, said}, Keeps.{IsWellFormed}}
+use Rattle.picky_cert.specs.{Line.{IsCertificateLine, IsReadBackCertificate}, LineRefusal.{line_meaning, line_text}}
+use Rattle.picky_cert.specs.{SourceLine.{source_meaning}, Spelled.{line_of}}
+use Rattle.picky_cert.proofs.{KeepLaws.{cert_piece}, LineLaws.{line_fits_subject, line_keeps, line_meaning_says}}
 use Rattle.picky_cert.proofs.ReadBackLaws.{line_reads_back, source_reads_back}
 use Rattle.picky_cert.proofs.WrittenLemmas.{blob_within, extensions_within, grants_within, issuer_within, options_within}
 use Rattle.picky_cert.proofs.WrittenLemmas.{principals_within, signed_within, terms_within}

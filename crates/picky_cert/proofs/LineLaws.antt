@@ -1,43 +1,30 @@
 -- The laws of a certificate's line: its meaning is what it says, and what it means keeps its ranges.
-use Rattle.std.specs.Prelude.{◌≡◌, ◌&&◌, ◌^◌, Bool, true, false, if◌then◌else◌, nat_lt, List, ℕ, length, Option, Some, None}
-use Rattle.std.specs.Prelude.{Ok, Err}
-use Rattle.std.specs.Option.{ok_or}
-use Rattle.std.specs.Str.{is_utf8}
-use Rattle.std.proofs.Common.{sym, ◌∙◌, ap, subst, refl}
-use Rattle.std.proofs.lemmas.Bool.{ltb-true, lt-ltb, and_parts}
+use Rattle.std.specs.Prelude.{◌≡◌, ◌&&◌, ◌^◌, Bool, true, false, if◌then◌else◌, nat_lt, List, ℕ, length, Option, Some, None, Ok}
+use Rattle.std.specs.Prelude.{Err}
+use Rattle.std.specs.{Option.{ok_or}, Str.{is_utf8}}
+use Rattle.std.proofs.{Common.{sym, ◌∙◌, ap, subst, refl}, lemmas.Bool.{ltb-true, lt-ltb, and_parts}}
 use Rattle.std.proofs.lemmas.Str.{is_utf8-from_IsUtf8}
-use Rattle.picky_wire_base.specs.carried.Outcome.{and_then_ok, map_err_ok}
-use Rattle.picky_wire_base.specs.Front.{read_front}
-use Rattle.picky_wire_base.specs.Grammar.{Fits}
-use Rattle.picky_wire_base.specs.Numbers.{IsBytes}
-use Rattle.picky_wire_base.specs.Table.{find_entry}
+use Rattle.picky_wire_base.specs.{carried.Outcome.{and_then_ok, map_err_ok}, Front.{read_front}, Grammar.{Fits}}
+use Rattle.picky_wire_base.specs.{Numbers.{IsBytes}, Table.{find_entry}}
 use Rattle.picky_wire_base.proofs.Numbers.{bytes_in_front}
 use Rattle.picky_text.specs.Base64.{base64_of, decoded}
-use Rattle.picky_text.proofs.Base64Laws.{base64_is_read_back, base64_is_of_what_it_gives, decoded_is_bytes}
 use Rattle.picky_text.specs.Words.{first_word, after_word, body_word, after_body, comment_of}
+use Rattle.picky_text.proofs.Base64Laws.{base64_is_read_back, base64_is_of_what_it_gives, decoded_is_bytes}
 use Rattle.picky_text.proofs.WordLaws.{rest_text_is, rest_text_says, rest_of_line_is_text}
-use Rattle.picky_keys.specs.Key.{IsText}
-use Rattle.picky_keys.specs.LineRefusal.{comment_text, is_short, is_short_text}
-use Rattle.picky_keys.proofs.ByteLaws.{after_bytes, word_is_bytes}
-use Rattle.picky_keys.proofs.LineLaws.{chosen, some_of}
+use Rattle.picky_keys.specs.{Key.{IsText}, LineRefusal.{comment_text, is_short, is_short_text}}
+use Rattle.picky_keys.proofs.{ByteLaws.{after_bytes, word_is_bytes, utf8_is_bytes}, LineLaws.{chosen, some_of}}
 use Rattle.picky_cert_parts.specs.declared.cert_key_type.SshCertKeyType.{SshCertKeyType}
-use Rattle.picky_cert_parts.specs.declared.error.SshCertificateError.{SshCertificateError}
+use Rattle.picky_cert_parts.specs.{declared.error.SshCertificateError.{SshCertificateError}, CertNamed.{entry_or}}
+use Rattle.picky_cert_parts.specs.{CertNames.{cert_key_type_name}, CertNameTables.{cert_key_types}}
 use Rattle.picky_cert_parts.specs.declared.error.SshCertificateError.TheVariants as errors
-use Rattle.picky_cert_parts.specs.CertNamed.{entry_or}
-use Rattle.picky_cert_parts.specs.CertNames.{cert_key_type_name}
-use Rattle.picky_cert_parts.specs.CertNameTables.{cert_key_types}
 use Rattle.picky_cert_parts.proofs.NameLaws.{key_type_of_name, name_of_key_type}
 use Rattle.picky_cert_parts.proofs.TypeNameLaws.{cert_key_type_name_utf8}
 use Rattle.picky_cert_blob.specs.Keeps.{FitsSubject}
 use Rattle.picky_cert.specs.declared.certificate.SshCertificate.{SshCertificate}
-use Rattle.picky_cert.specs.Certificate.{certificate, certified, said}
-use Rattle.picky_cert.specs.CertRefusal.{cert_error}
-use Rattle.picky_cert.specs.Keeps.{IsCertificate}
-use Rattle.picky_cert.specs.Line.{IsCertificateLine}
+use Rattle.picky_cert.specs.{Certificate.{certificate, certified, said}, CertRefusal.{cert_error}}
+use Rattle.picky_cert.specs.{Keeps.{IsCertificate}, Line.{IsCertificateLine}}
 use Rattle.picky_cert.specs.LineRefusal.{blob_certificate, body_certificate, line_meaning, word_type, words_meaning}
-use Rattle.picky_cert.specs.Want.{IsReadFault, WantsMemory}
-use Rattle.picky_cert.specs.carried.LineOwn.{line_own}
-use Rattle.picky_keys.proofs.ByteLaws.{utf8_is_bytes}
+use Rattle.picky_cert.specs.{Want.{IsReadFault, WantsMemory}, carried.LineOwn.{line_own}}
 use Rattle.picky_cert.proofs.KeepLaws.{cert_piece, spelled_keeps}
 
 -- ---- the name of a type

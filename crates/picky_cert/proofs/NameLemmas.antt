@@ -1,24 +1,19 @@
 -- A name for which a certificate is refused is text.
-use Rattle.std.specs.Prelude.{◌≡◌, Bool, true, false, List, ℕ, length, Option, Some, None, Result, Ok, Err}
-use Rattle.std.specs.Prelude.{◌<◌, ◌^◌, ◌==◌, IfErr}
+use Rattle.std.specs.Prelude.{◌≡◌, Bool, true, false, List, ℕ, length, Option, Some, None, Result, Ok, Err, ◌<◌, ◌^◌, ◌==◌}
+use Rattle.std.specs.Prelude.{IfErr}
 use Rattle.std.specs.Str.{IsUtf8}
 use Rattle.std.proofs.Common.{subst, arith}
 use Rattle.picky_wire_base.specs.Flaw.{Flaw, Reason, Why, Flawed, Length, Magic, Name, Number, Short, NotUtf8, Big}
-use Rattle.picky_wire_base.specs.Combine.{at, each, narrow, placed}
-use Rattle.picky_wire_base.specs.Entry.{entry}
-use Rattle.picky_wire_base.specs.Grammar.{Grammar}
-use Rattle.picky_wire_base.specs.Named.{named}
-use Rattle.picky_wire_base.specs.Mpint.{mpint}
-use Rattle.picky_wire_base.specs.Numbers.{byte, uint64}
-use Rattle.picky_wire_base.specs.Table.{find_entry}
-use Rattle.picky_wire_base.specs.Wire.{of_length, string, text, uint32}
-use Rattle.picky_wire.specs.Moment.{moment}
-use Rattle.picky_keys.specs.KeyNameTables.{key_types}
-use Rattle.picky_keys.specs.declared.curve.EcCurve.{EcCurve}
+use Rattle.picky_wire_base.specs.{Combine.{at, each, narrow, placed, placed, at}, Entry.{entry}, Grammar.{Grammar}}
+use Rattle.picky_wire_base.specs.{Named.{named}, Mpint.{mpint}, Numbers.{byte, uint64}, Table.{find_entry}}
+use Rattle.picky_wire_base.specs.{Wire.{of_length, string, text, uint32}, declared.view.Stuck.{Stuck}, View.{SeenAt}}
+use Rattle.picky_wire_base.specs.declared.stopped.Stopped.{Stopped}
+use Rattle.picky_wire.specs.{Moment.{moment}, Flaws.{wire_error}}
+use Rattle.picky_keys.specs.{KeyNameTables.{key_types}, declared.curve.EcCurve.{EcCurve}}
 use Rattle.picky_keys.specs.declared.kind.KeyKind.{KeyKind}
-use Rattle.picky_keys.specs.declared.kind.KeyKind.TheVariants as kinds
 use Rattle.picky_keys.specs.Blob.{blob, ec_fields, ed_fields, ed_key, public_key_fields, key_type, rsa_fields, sk_ecdsa_fields}
 use Rattle.picky_keys.specs.Blob.{sk_ed_fields}
+use Rattle.picky_keys.specs.declared.kind.KeyKind.TheVariants as kinds
 use Rattle.picky_cert_parts.specs.CertNames.{cert_key_type_name, is_sk}
 use Rattle.picky_cert_parts.specs.CertNameTables.{cert_key_types, option_types, signature_formats}
 use Rattle.picky_cert_parts.specs.declared.cert_key_type.SshCertKeyType.{SshCertKeyType}
@@ -26,37 +21,30 @@ use Rattle.picky_cert_parts.specs.ExtensionType.{extension_named}
 use Rattle.picky_cert_parts.specs.declared.error.SshCriticalOptionError.{SshCriticalOptionError}
 use Rattle.picky_cert_parts.specs.declared.error.SshExtensionError.{SshExtensionError}
 use Rattle.picky_cert_parts.specs.declared.error.SshSignatureError.{SshSignatureError}
-use Rattle.picky_cert_parts.specs.declared.error.SshCriticalOptionError.TheVariants as option_errors
-use Rattle.picky_cert_parts.specs.declared.error.SshSignatureError.TheVariants as signature_errors
 use Rattle.picky_cert_parts.specs.declared.signature_format.SshSignatureFormat.{SshSignatureFormat}
 use Rattle.picky_cert_parts.specs.CertFromWire.{extension_error, option_error, signature_error}
 use Rattle.picky_cert_parts.specs.NumberTable.{cert_types}
 use Rattle.picky_cert_parts.specs.CriticalOption.{critical_option, option_payload, option_type}
-use Rattle.picky_cert_parts.specs.Extension.{extension, extension_payload, extension_type}
-use Rattle.picky_cert_parts.specs.Field.{field}
+use Rattle.picky_cert_parts.specs.{Extension.{extension, extension_payload, extension_type}, Field.{field}}
 use Rattle.picky_cert_parts.specs.Signature.{fields_when, signature, signature_counter, signature_flags, signature_format}
 use Rattle.picky_cert_parts.specs.Signature.{signature_payload, signature_total, sk_fields, standard_fields}
-use Rattle.picky_wire.specs.Flaws.{wire_error}
-use Rattle.picky_wire_base.specs.declared.view.Stuck.{Stuck}
+use Rattle.picky_cert_parts.specs.declared.error.SshCriticalOptionError.TheVariants as option_errors
+use Rattle.picky_cert_parts.specs.declared.error.SshSignatureError.TheVariants as signature_errors
 use Rattle.picky_wire_base.specs.declared.view.Stuck.TheVariants as stucks
 use Rattle.picky_cert_blob.specs.Items.{extension_item, option_item, principal_item}
-use Rattle.picky_cert_blob.specs.Layout.{body, cert_name, critical_options, extensions, grants, head, head_for, head_of, issuer, principals}
-use Rattle.picky_cert_blob.specs.Layout.{signature_part, terms, type_number, valid_after, valid_before}
-use Rattle.picky_wire_base.specs.Combine.{placed, at}
+use Rattle.picky_cert_blob.specs.Layout.{body, cert_name, critical_options, extensions, grants, head, head_for, head_of, issuer}
+use Rattle.picky_cert_blob.specs.Layout.{principals, signature_part, terms, type_number, valid_after, valid_before}
 use Rattle.picky_cert_blob.specs.Reason.{CertReason, extension_why, in_key, option_why, signature_why, within}
 use Rattle.picky_cert_blob.specs.Subject.{subject_kind}
-use Rattle.picky_wire_base.specs.View.{SeenAt}
 use Rattle.picky_cert_blob.specs.carried.Items.{extension_item_solid, option_item_solid, principal_item_solid}
 use Rattle.picky_cert_blob.specs.declared.part.CertPart.{CertPart}
 use Rattle.picky_cert_blob.specs.declared.part.CertPart.TheVariants as parts
-use Rattle.picky_wire_base.specs.declared.stopped.Stopped.{Stopped}
-use Rattle.picky_cert.specs.declared.view.CertView.{CertView}
-use Rattle.picky_cert.specs.Certificate.{certificate}
+use Rattle.picky_cert.specs.{declared.view.CertView.{CertView}, Certificate.{certificate}}
 use Rattle.picky_cert.specs.View.{cert_seen, CertLies, IsRefusal}
 use Rattle.picky_cert_parts.proofs.TypeNameLaws.{cert_key_type_name_utf8}
-use Rattle.picky_cert.proofs.RefuseLemmas.{RefusesAs, done_refuses, both_refuses, tag_refuses, flawed_refuses}
-use Rattle.picky_cert.proofs.RefuseLemmas.{test_refuses, narrow_refuses, entry_refuses, named_refuses, tagged_is_utf8}
-use Rattle.picky_cert.proofs.RefuseLemmas.{list_refuses, front_refuses}
+use Rattle.picky_cert.proofs.RefuseLemmas.{RefusesAs, done_refuses, both_refuses, tag_refuses, flawed_refuses, test_refuses}
+use Rattle.picky_cert.proofs.RefuseLemmas.{narrow_refuses, entry_refuses, named_refuses, tagged_is_utf8, list_refuses}
+use Rattle.picky_cert.proofs.RefuseLemmas.{front_refuses}
 
 -- the name, where it is for one
 abbrev NamesText : Why → Type 0

@@ -1,39 +1,25 @@
 -- A line without a comment means what the view of its bytes shows.
-use Rattle.std.specs.Prelude.{◌≡◌, ◌++◌, ◌∷◌, ◌<◌, ◌^◌, ◌==◌, false, List, [], ℕ, length, slice_index, Some}
-use Rattle.std.specs.Prelude.{Result, Ok, Err}
-use Rattle.std.specs.List.{AllByRecursion, position_or_len}
-use Rattle.std.specs.Str.{trim_end}
-use Rattle.std.proofs.Common.{sym, ◌∙◌, ap, subst, refl, inl, inr}
-use Rattle.std.proofs.lemmas.Bool.{cases_Bool, lt-ltb}
+use Rattle.std.specs.Prelude.{◌≡◌, ◌++◌, ◌∷◌, ◌<◌, ◌^◌, ◌==◌, false, List, [], ℕ, length, slice_index, Some, Result, Ok, Err}
+use Rattle.std.specs.{List.{AllByRecursion, position_or_len}, Str.{trim_end}}
+use Rattle.std.proofs.{Common.{sym, ◌∙◌, ap, subst, refl, inl, inr}, lemmas.Bool.{cases_Bool, lt-ltb}}
 use Rattle.std.proofs.lemmas.Str.{IsUtf8-nil}
-use Rattle.picky_wire_base.specs.Flaw.{Why}
-use Rattle.picky_wire_base.specs.Front.{read_front}
-use Rattle.picky_wire_base.specs.Numbers.{IsBytes}
-use Rattle.picky_wire_base.specs.Outcome.{and_then, map_err}
+use Rattle.picky_wire_base.specs.{Flaw.{Why}, Front.{read_front}, Numbers.{IsBytes}, Outcome.{and_then, map_err}}
+use Rattle.picky_wire_base.specs.{Gives.{Gives}, View.{Sees}}
 use Rattle.picky_text.specs.Base64.{base64_of}
 use Rattle.picky_text.specs.Words.{IsWord, after_word, body_word, ends_word, first_word, rest_of_line, rest_text}
-use Rattle.picky_text.proofs.Base64Laws.{base64_is_read_back}
-use Rattle.picky_text.proofs.ListLaws.{none_before_first, uncut}
+use Rattle.picky_text.proofs.{Base64Laws.{base64_is_read_back}, ListLaws.{none_before_first, uncut}}
 use Rattle.picky_text.proofs.WordLaws.{base64_is_word, rest_text_is, trim_end_front, words_at_space}
-use Rattle.picky_wire_base.specs.Gives.{Gives}
-use Rattle.picky_wire_base.specs.View.{Sees}
 use Rattle.picky_keys.specs.LineRefusal.{comment_text}
 use Rattle.picky_cert_parts.specs.declared.cert_key_type.SshCertKeyType.{SshCertKeyType}
 use Rattle.picky_cert_parts.specs.declared.error.SshCertificateError.{SshCertificateError}
-use Rattle.picky_cert_parts.specs.declared.error.SshCertificateError.TheVariants as errors
 use Rattle.picky_cert_parts.specs.CertNames.{cert_key_type_name}
-use Rattle.picky_cert_blob.specs.declared.part.CertPart.{CertPart}
-use Rattle.picky_cert_blob.specs.Reason.{CertReason, why_in}
-use Rattle.picky_cert.specs.declared.certificate.SshCertificate.{SshCertificate}
-use Rattle.picky_cert.specs.declared.view.CertView.{CertView}
-use Rattle.picky_cert.specs.Certificate.{certificate, refused_part}
-use Rattle.picky_cert.specs.CertRefusal.{cert_error}
-use Rattle.picky_cert.specs.Line.{bare_line}
+use Rattle.picky_cert_parts.specs.declared.error.SshCertificateError.TheVariants as errors
+use Rattle.picky_cert_blob.specs.{declared.part.CertPart.{CertPart}, Reason.{CertReason, why_in}}
+use Rattle.picky_cert.specs.{declared.certificate.SshCertificate.{SshCertificate}, declared.view.CertView.{CertView}}
+use Rattle.picky_cert.specs.{Certificate.{certificate, refused_part}, CertRefusal.{cert_error}, Line.{bare_line}}
 use Rattle.picky_cert.specs.LineRefusal.{blob_certificate, body_certificate, line_meaning, words_meaning}
 use Rattle.picky_cert.specs.View.{cert_seen}
-use Rattle.picky_cert.proofs.KeepLaws.{cert_piece}
-use Rattle.picky_cert.proofs.LineLaws.{word_type_of}
-use Rattle.picky_cert.proofs.ReadBackLaws.{type_name_is_word}
+use Rattle.picky_cert.proofs.{KeepLaws.{cert_piece}, LineLaws.{word_type_of}, ReadBackLaws.{type_name_is_word}}
 
 -- ---- the words of the line
 

@@ -133,6 +133,9 @@ fn line_of_blob(
 ) -> Result<String, AllocError>
     ensures { blob.now ≡ blob_of certificate.now → IfOk result (λ line. string_bytes line ≡ line_of certificate.now) }
 {
-    let (name, comment) = (certificate.cert_key_type.as_str(), certificate.comment.as_str());
+    let (name, comment) = (
+        certificate.cert_key_type.as_str(),
+        certificate.comment.as_str(),
+    );
     line_of_words(alloc, name, blob, comment)
 }

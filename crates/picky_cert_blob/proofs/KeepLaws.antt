@@ -1,34 +1,24 @@
 -- What is read before a signature keeps the ranges of its parts, and its type is for the kind of its subject's key.
 use Rattle.std.specs.Prelude.{◌≡◌, List, [], ◌∷◌, ℕ, ◌++◌, ◌<◌, ◌^◌, All, Option, Some, None, Ok}
-use Rattle.std.proofs.Common.{refl, sym, ◌∙◌, ap, subst, arith}
-use Rattle.std.proofs.lemmas.List.{append-nil}
+use Rattle.std.proofs.{Common.{refl, sym, ◌∙◌, ap, subst, arith}, lemmas.List.{append-nil}}
 use Rattle.std.proofs.lemmas.List.Elements.{All-cons}
-use Rattle.picky_wire_base.specs.Grammar.{Grammar}
-use Rattle.picky_wire_base.specs.Row.{Row}
-use Rattle.picky_wire_base.specs.Numbers.{IsBytes}
-use Rattle.picky_wire_base.proofs.Numbers.{bytes_in_front, bytes_behind, uint64_exact}
-use Rattle.picky_wire_base.specs.Wire.{string}
-use Rattle.picky_wire_base.proofs.Strings.{text_exact}
-use Rattle.picky_wire.specs.declared.timestamp.Timestamp.{Timestamp}
-use Rattle.picky_wire.specs.Principals.{IsPrincipal}
-use Rattle.picky_keys.specs.declared.curve.EdAlgorithm.TheVariants.{Ed25519}
-use Rattle.picky_keys.specs.declared.kind.KeyKind.{KeyKind}
-use Rattle.picky_keys.specs.declared.kind.KeyKind.TheVariants as kinds
-use Rattle.picky_keys.specs.declared.key.SshBasePublicKey.{SshBasePublicKey}
-use Rattle.picky_keys.specs.Key.{IsKey, kind_of}
+use Rattle.picky_wire_base.specs.{Grammar.{Grammar}, Row.{Row}, Numbers.{IsBytes}, Wire.{string}}
+use Rattle.picky_wire_base.proofs.{Numbers.{bytes_in_front, bytes_behind, uint64_exact}, Strings.{text_exact}}
+use Rattle.picky_wire.specs.{declared.timestamp.Timestamp.{Timestamp}, Principals.{IsPrincipal}}
+use Rattle.picky_keys.specs.{declared.curve.EdAlgorithm.TheVariants.{Ed25519}, declared.kind.KeyKind.{KeyKind}}
+use Rattle.picky_keys.specs.{declared.key.SshBasePublicKey.{SshBasePublicKey}, Key.{IsKey, kind_of}}
 use Rattle.picky_keys.specs.Blob.{rsa_fields, ec_fields, ed_fields, sk_ecdsa_fields, sk_ed_fields, public_key_fields}
+use Rattle.picky_keys.specs.declared.kind.KeyKind.TheVariants as kinds
 use Rattle.picky_keys.proofs.KeyLaws.{string_keeps, text_keeps, fields_keep, spelled_is_key}
 use Rattle.picky_cert_parts.specs.declared.cert_key_type.SshCertKeyType.{SshCertKeyType}
 use Rattle.picky_cert_parts.specs.declared.critical_option.SshCriticalOption.{SshCriticalOption}
 use Rattle.picky_cert_parts.specs.declared.extension.SshExtension.{SshExtension}
-use Rattle.picky_cert_parts.specs.CriticalOption.{critical_option, IsOption}
-use Rattle.picky_cert_parts.specs.Extension.{extension, IsExtension}
+use Rattle.picky_cert_parts.specs.{CriticalOption.{critical_option, IsOption}, Extension.{extension, IsExtension}}
 use Rattle.picky_cert_parts.proofs.SpellingLaws.{option_keeps, extension_keeps}
 use Rattle.picky_cert_blob.specs.Items.{principal_item, option_item, extension_item}
-use Rattle.picky_cert_blob.specs.Layout.{Body, Grants, Head, Terms, body, grants, head, head_for, head_of, terms}
-use Rattle.picky_cert_blob.specs.Layout.{principals, valid_after, valid_before, critical_options, extensions, issuer}
-use Rattle.picky_cert_blob.specs.Subject.{subject_kind}
-use Rattle.picky_cert_blob.specs.Keeps.{IsHead, IsTerms, IsGrants, IsBody, FitsSubject}
+use Rattle.picky_cert_blob.specs.Layout.{Body, Grants, Head, Terms, body, grants, head, head_for, head_of, terms, principals}
+use Rattle.picky_cert_blob.specs.Layout.{valid_after, valid_before, critical_options, extensions, issuer}
+use Rattle.picky_cert_blob.specs.{Subject.{subject_kind}, Keeps.{IsHead, IsTerms, IsGrants, IsBody, FitsSubject}}
 
 -- ---- rows
 

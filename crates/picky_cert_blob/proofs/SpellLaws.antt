@@ -1,38 +1,27 @@
 -- The one spelling that is written is a piece of the layout.
-use Rattle.std.specs.Prelude.{◌≡◌, List, [], ℕ, ◌++◌, ◌<◌, ◌^◌, length, Ok}
-use Rattle.std.specs.Int.{w64, to_be_bytes}
-use Rattle.std.proofs.Common.{refl, sym, subst, arith}
-use Rattle.std.proofs.lemmas.List.{append-nil}
-use Rattle.picky_wire_base.proofs.Named.{named_spells}
-use Rattle.picky_wire_base.proofs.Numbers.{uint64_spells}
-use Rattle.picky_wire_base.proofs.Row.{row_spells}
+use Rattle.std.specs.{Prelude.{◌≡◌, List, [], ℕ, ◌++◌, ◌<◌, ◌^◌, length, Ok}, Int.{w64, to_be_bytes}}
+use Rattle.std.proofs.{Common.{refl, sym, subst, arith}, lemmas.List.{append-nil}}
+use Rattle.picky_wire_base.proofs.{Named.{named_spells}, Numbers.{uint64_spells}, Row.{row_spells}}
 use Rattle.picky_wire_base.proofs.Strings.{string_spells, text_spells}
 use Rattle.picky_wire_base.specs.Wire.{string_of}
-use Rattle.picky_wire.specs.declared.timestamp.Timestamp.{Timestamp}
-use Rattle.picky_wire.specs.Principals.{IsPrincipal}
-use Rattle.picky_keys.specs.declared.key.SshBasePublicKey.{SshBasePublicKey}
-use Rattle.picky_keys.specs.Key.{IsKey, kind_of}
-use Rattle.picky_keys.specs.Blob.{blob_of, fields_spelled}
-use Rattle.picky_keys.specs.carried.Blob.{blob_spells, fields_spell}
+use Rattle.picky_wire.specs.{declared.timestamp.Timestamp.{Timestamp}, Principals.{IsPrincipal}}
+use Rattle.picky_keys.specs.{declared.key.SshBasePublicKey.{SshBasePublicKey}, Key.{IsKey, kind_of}}
+use Rattle.picky_keys.specs.{Blob.{blob_of, fields_spelled}, carried.Blob.{blob_spells, fields_spell}}
 use Rattle.picky_cert_parts.specs.declared.cert_key_type.SshCertKeyType.{SshCertKeyType}
-use Rattle.picky_cert_parts.specs.CertNames.{cert_key_type_name}
-use Rattle.picky_cert_parts.specs.CertNameTables.{cert_key_types}
-use Rattle.picky_cert_parts.proofs.TypeNameLaws.{cert_key_type_name_good}
+use Rattle.picky_cert_parts.specs.{CertNames.{cert_key_type_name}, CertNameTables.{cert_key_types}}
 use Rattle.picky_cert_parts.specs.declared.cert_type.SshCertType.{SshCertType}
 use Rattle.picky_cert_parts.specs.declared.critical_option.SshCriticalOption.{SshCriticalOption}
-use Rattle.picky_cert_parts.specs.declared.extension.SshExtension.{SshExtension}
-use Rattle.picky_cert_parts.specs.CertType.{cert_type, cert_type_of}
-use Rattle.picky_cert_parts.specs.carried.CertType.{cert_type_spells}
-use Rattle.picky_cert_parts.specs.CriticalOption.{option_of, IsOption}
-use Rattle.picky_cert_parts.specs.carried.CriticalOption.{option_spells}
-use Rattle.picky_cert_parts.specs.Extension.{extension_of, IsExtension}
+use Rattle.picky_cert_parts.specs.{declared.extension.SshExtension.{SshExtension}, CertType.{cert_type, cert_type_of}}
+use Rattle.picky_cert_parts.specs.{carried.CertType.{cert_type_spells}, CriticalOption.{option_of, IsOption}}
+use Rattle.picky_cert_parts.specs.{carried.CriticalOption.{option_spells}, Extension.{extension_of, IsExtension}}
 use Rattle.picky_cert_parts.specs.carried.Extension.{extension_spells}
+use Rattle.picky_cert_parts.proofs.TypeNameLaws.{cert_key_type_name_good}
 use Rattle.picky_cert_blob.specs.Items.{principal_item, option_item, extension_item}
-use Rattle.picky_cert_blob.specs.Layout.{Body, Grants, Head, Terms, body, grants, head, head_for, head_of, terms}
-use Rattle.picky_cert_blob.specs.Layout.{cert_name, type_number, principals, valid_after, valid_before}
-use Rattle.picky_cert_blob.specs.Layout.{critical_options, extensions, issuer}
-use Rattle.picky_cert_blob.specs.Spelled.{head_spelled, terms_spelled, grants_spelled, body_spelled}
-use Rattle.picky_cert_blob.specs.Spelled.{principals_block, options_block, extensions_block}
+use Rattle.picky_cert_blob.specs.Layout.{Body, Grants, Head, Terms, body, grants, head, head_for, head_of, terms, cert_name}
+use Rattle.picky_cert_blob.specs.Layout.{type_number, principals, valid_after, valid_before, critical_options, extensions}
+use Rattle.picky_cert_blob.specs.Layout.{issuer}
+use Rattle.picky_cert_blob.specs.Spelled.{head_spelled, terms_spelled, grants_spelled, body_spelled, principals_block}
+use Rattle.picky_cert_blob.specs.Spelled.{options_block, extensions_block}
 use Rattle.picky_cert_blob.specs.Keeps.{IsHead, IsTerms, IsGrants, IsBody, FitsSubject, IsWellFormed}
 
 -- ---- who is certified

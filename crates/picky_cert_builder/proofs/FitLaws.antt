@@ -1,19 +1,13 @@
 -- The terms of a request are judged fit exactly where a certificate is made for them.
 use Rattle.std.specs.Prelude.{◌≡◌, ◌↔◌, ◌≤◌, Bool, true, false, Option, Some, None, Result, Ok, Err, nat_le, if◌then◌else◌}
 use Rattle.std.specs.Option.{ok_or}
-use Rattle.std.proofs.Common.{refl, sym, ap, ◌∙◌, subst}
-use Rattle.std.proofs.lemmas.Bool.{le-leb, leb-true}
+use Rattle.std.proofs.{Common.{refl, sym, ap, ◌∙◌, subst}, lemmas.Bool.{le-leb, leb-true}}
 use Rattle.std.proofs.lemmas.Slice.Eq.{bytes_eq-Decides}
 use Rattle.picky_keys.specs.declared.algorithm.SignatureAlgorithm.{SignatureAlgorithm}
-use Rattle.picky_keys.specs.declared.kind.KeyKind.{KeyKind}
-use Rattle.picky_keys.specs.KeyNames.{kind_name}
-use Rattle.picky_keys.specs.KeyNameTables.{key_types}
-use Rattle.picky_keys.proofs.KeyNames.{kind_of_name}
-use Rattle.picky_wire_base.specs.Table.{find_entry}
-use Rattle.picky_wire_base.specs.carried.Outcome.{and_then_ok}
-use Rattle.picky_keys.specs.declared.key.SshPublicKey.{SshPublicKey}
-use Rattle.picky_keys.specs.Key.{kind_of}
-use Rattle.picky_keys.proofs.LineLaws.{chosen}
+use Rattle.picky_keys.specs.{declared.kind.KeyKind.{KeyKind}, KeyNames.{kind_name}, KeyNameTables.{key_types}}
+use Rattle.picky_keys.specs.{declared.key.SshPublicKey.{SshPublicKey}, Key.{kind_of}}
+use Rattle.picky_keys.proofs.{KeyNames.{kind_of_name}, LineLaws.{chosen}}
+use Rattle.picky_wire_base.specs.{Table.{find_entry}, carried.Outcome.{and_then_ok}}
 use Rattle.picky_wire.specs.declared.timestamp.Timestamp.{Timestamp}
 use Rattle.picky_cert_parts.specs.declared.cert_key_type.SshCertKeyType.{SshCertKeyType}
 use Rattle.picky_cert_parts.specs.declared.signature_format.SshSignatureFormat.{SshSignatureFormat}
@@ -21,14 +15,11 @@ use Rattle.picky_cert_parts.specs.declared.cert_type.SshCertType.{SshCertType}
 use Rattle.picky_cert_parts.specs.declared.cert_type.SshCertType.TheVariants.{Client, Host}
 use Rattle.picky_cert_blob.specs.Subject.{fits_subject, is_for, subject_kind}
 use Rattle.picky_cert_builder.specs.declared.builder.SshCertificateBuilder.{SshCertificateBuilder}
+use Rattle.picky_cert_builder.specs.{declared.terms.FitTerms.{FitTerms}, declared.terms.RequestTerms.{RequestTerms}}
+use Rattle.picky_cert_builder.specs.{Algorithm.{format_of}, Fit.{IsFit}, Request.{subject_kind_in, terms_of}}
+use Rattle.picky_cert_builder.specs.Terms.{algorithm_by, fit_of, granted, is_made, judged_signature, judged_subject}
+use Rattle.picky_cert_builder.specs.Terms.{judged_terms, judged_use, ordered}
 use Rattle.picky_cert_builder.specs.declared.error.SshCertificateGenerationError.TheVariants as errors
-use Rattle.picky_cert_builder.specs.declared.terms.FitTerms.{FitTerms}
-use Rattle.picky_cert_builder.specs.declared.terms.RequestTerms.{RequestTerms}
-use Rattle.picky_cert_builder.specs.Algorithm.{format_of}
-use Rattle.picky_cert_builder.specs.Fit.{IsFit}
-use Rattle.picky_cert_builder.specs.Request.{subject_kind_in, terms_of}
-use Rattle.picky_cert_builder.specs.Terms.{algorithm_by, fit_of, granted, is_made, judged_signature, judged_subject, judged_terms}
-use Rattle.picky_cert_builder.specs.Terms.{judged_use, ordered}
 
 -- ---- steps
 

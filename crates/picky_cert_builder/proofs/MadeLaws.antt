@@ -1,59 +1,43 @@
 -- A certificate that is made has its parts in their ranges, is well formed, and is read back once it is signed.
 use Rattle.std.specs.Prelude.{◌≡◌, ◌<◌, ◌^◌, ◌++◌, Bool, true, false, List, [], ◌∷◌, ℕ, Option, Some, None, Ok, All, length}
 use Rattle.std.specs.Prelude.{Err, if◌then◌else◌, not}
-use Rattle.std.specs.Option.{IfSome, ok_or}
-use Rattle.std.specs.Str.{trim_end}
-use Rattle.std.proofs.Common.{refl, sym, ap, subst, arith}
-use Rattle.std.proofs.lemmas.Bool.{ltb-true}
+use Rattle.std.specs.{Option.{IfSome, ok_or}, Str.{trim_end}}
+use Rattle.std.proofs.{Common.{refl, sym, ap, subst, arith}, lemmas.Bool.{ltb-true}}
 use Rattle.std.proofs.lemmas.List.Elements.{All-from_recursion, All-nil, All-cons, All-head, All-tail}
 use Rattle.std.proofs.lemmas.Str.{IsUtf8-nil}
 use Rattle.picky_wire_base.specs.carried.Outcome.{and_then_ok}
 use Rattle.picky_keys.specs.declared.algorithm.HashAlgorithm.TheVariants as hashes
 use Rattle.picky_keys.specs.declared.algorithm.SignatureAlgorithm.{SignatureAlgorithm}
-use Rattle.picky_keys.specs.declared.algorithm.SignatureAlgorithm.TheVariants as algorithms
 use Rattle.picky_keys.specs.declared.curve.EcCurve.TheVariants.{NistP256, NistP384, NistP521}
-use Rattle.picky_keys.specs.declared.kind.KeyKind.{KeyKind}
+use Rattle.picky_keys.specs.{declared.kind.KeyKind.{KeyKind}, declared.key.SshPublicKey.{SshPublicKey}}
+use Rattle.picky_keys.specs.{Key.{IsKey, IsString, IsText}, LineRefusal.{is_short}}
+use Rattle.picky_keys.specs.declared.algorithm.SignatureAlgorithm.TheVariants as algorithms
 use Rattle.picky_keys.specs.declared.kind.KeyKind.TheVariants as kinds
 use Rattle.picky_wire.specs.Principals.{IsPrincipal}
 use Rattle.picky_cert_parts.specs.declared.signature_format.SshSignatureFormat.{SshSignatureFormat}
+use Rattle.picky_cert_parts.specs.{CertNames.{is_sk}, declared.cert_type.SshCertType.{SshCertType}}
+use Rattle.picky_cert_parts.specs.declared.cert_type.SshCertType.TheVariants.{Client, Host}
+use Rattle.picky_cert_parts.specs.{declared.extension.SshExtension.{SshExtension}, Extension.{IsExtension}}
+use Rattle.picky_cert_parts.specs.{Signature.{blob_fits}, CriticalOption.{IsOption}}
 use Rattle.picky_cert_parts.specs.declared.signature_format.SshSignatureFormat.TheVariants as formats
-use Rattle.picky_cert_parts.specs.CertNames.{is_sk}
 use Rattle.picky_cert_parts.specs.declared.error.SshCertificateError.TheVariants as refusals
 use Rattle.picky_cert_parts.specs.declared.error.SshSignatureError.TheVariants as signatures
 use Rattle.picky_text.specs.Lines.{HasNo}
-use Rattle.picky_keys.specs.declared.key.SshPublicKey.{SshPublicKey}
-use Rattle.picky_keys.specs.Key.{IsKey, IsString, IsText}
-use Rattle.picky_keys.specs.LineRefusal.{is_short}
-use Rattle.picky_keys.proofs.ByteLaws.{no_bytes}
-use Rattle.picky_keys.proofs.LineLaws.{chosen}
-use Rattle.picky_cert_parts.specs.declared.cert_type.SshCertType.{SshCertType}
-use Rattle.picky_cert_parts.specs.declared.cert_type.SshCertType.TheVariants.{Client, Host}
-use Rattle.picky_cert_parts.specs.declared.extension.SshExtension.{SshExtension}
-use Rattle.picky_cert_parts.specs.Extension.{IsExtension}
-use Rattle.picky_cert_parts.specs.Signature.{blob_fits}
-use Rattle.picky_cert_parts.specs.CriticalOption.{IsOption}
+use Rattle.picky_keys.proofs.{ByteLaws.{no_bytes}, LineLaws.{chosen}}
 use Rattle.picky_cert_blob.specs.Subject.{fits_subject}
 use Rattle.picky_cert.specs.declared.certificate.SshCertificate.{SshCertificate}
-use Rattle.picky_cert.specs.Keeps.{IsCertificate, IsWellFormed}
-use Rattle.picky_cert.specs.Line.{IsReadBackCertificate}
-use Rattle.picky_cert.specs.LineRefusal.{line_meaning, line_text}
-use Rattle.picky_cert.specs.Spelled.{blob_of, line_of, signed_of}
-use Rattle.picky_cert.proofs.FormedLaws.{short_is_formed}
-use Rattle.picky_cert.proofs.ReadBackLaws.{line_reads_back}
+use Rattle.picky_cert.specs.{Keeps.{IsCertificate, IsWellFormed}, Line.{IsReadBackCertificate}}
+use Rattle.picky_cert.specs.{LineRefusal.{line_meaning, line_text}, Spelled.{blob_of, line_of, signed_of}}
+use Rattle.picky_cert.proofs.{FormedLaws.{short_is_formed}, ReadBackLaws.{line_reads_back}}
 use Rattle.picky_cert_builder.specs.declared.builder.SshCertificateBuilder.{SshCertificateBuilder}
-use Rattle.picky_cert_builder.specs.declared.error.SshCertificateGenerationError.TheVariants as errors
-use Rattle.picky_cert_builder.specs.declared.issuer.IssuerKey.{IssuerKey}
-use Rattle.picky_cert_builder.specs.declared.terms.FitTerms.{FitTerms}
-use Rattle.picky_cert_builder.specs.declared.terms.RequestTerms.{RequestTerms}
-use Rattle.picky_cert_builder.specs.Algorithm.{format_of}
+use Rattle.picky_cert_builder.specs.{declared.issuer.IssuerKey.{IssuerKey}, declared.terms.FitTerms.{FitTerms}}
+use Rattle.picky_cert_builder.specs.{declared.terms.RequestTerms.{RequestTerms}, Algorithm.{format_of}}
 use Rattle.picky_cert_builder.specs.ByName.{in_order, put}
-use Rattle.picky_cert_builder.specs.Draft.{Unsigned, certificate_of, or_empty, or_permits, or_zero, requested, signed_with, unsigned_of}
-use Rattle.picky_cert_builder.specs.Fit.{IsFit}
-use Rattle.picky_cert_builder.specs.Issuer.{issuer_part}
-use Rattle.picky_cert_builder.specs.Keeps.{IsRequest, without_key_comments}
-use Rattle.picky_cert_builder.specs.Permits.{permits}
-use Rattle.picky_cert_builder.specs.Request.{terms_of}
-use Rattle.picky_cert_builder.specs.Terms.{judged_terms}
+use Rattle.picky_cert_builder.specs.Draft.{Unsigned, certificate_of, or_empty, or_permits, or_zero, requested, signed_with}
+use Rattle.picky_cert_builder.specs.Draft.{unsigned_of}
+use Rattle.picky_cert_builder.specs.{Fit.{IsFit}, Issuer.{issuer_part}, Keeps.{IsRequest, without_key_comments}}
+use Rattle.picky_cert_builder.specs.{Permits.{permits}, Request.{terms_of}, Terms.{judged_terms}}
+use Rattle.picky_cert_builder.specs.declared.error.SshCertificateGenerationError.TheVariants as errors
 use Rattle.picky_cert_builder.proofs.FitLaws.{judged_fits, judged_is_fit, some_of_ok}
 
 -- ---- lists in order

@@ -1,15 +1,10 @@
 -- What is read is the one spelling, but for the total of a signature.
 use Rattle.std.specs.Prelude.{◌≡◌, ◌<◌, ◌^◌, ◌+◌, ◌++◌, Bool, true, false, not, List, [], ◌∷◌, ℕ, length, Ok}
-use Rattle.std.specs.Int.{w8, w32, to_be_bytes}
-use Rattle.std.specs.List.{concat}
-use Rattle.std.proofs.Common.{refl, sym, ap, subst, ◌∙◌, arith}
-use Rattle.std.proofs.lemmas.List.{length-append}
-use Rattle.picky_wire_base.specs.Grammar.{Grammar}
-use Rattle.picky_wire_base.specs.Numbers.{IsBytes}
+use Rattle.std.specs.{Int.{w8, w32, to_be_bytes}, List.{concat}}
+use Rattle.std.proofs.{Common.{refl, sym, ap, subst, ◌∙◌, arith}, lemmas.List.{length-append}}
+use Rattle.picky_wire_base.specs.{Grammar.{Grammar}, Numbers.{IsBytes}, Wire.{string_of}}
 use Rattle.picky_wire_base.proofs.Numbers.{bytes_in_front, bytes_behind, byte_exact, uint32_exact}
-use Rattle.picky_wire_base.specs.Wire.{string_of}
-use Rattle.picky_wire_base.proofs.Strings.{string_exact, text_exact}
-use Rattle.picky_wire_base.proofs.Named.{named_exact}
+use Rattle.picky_wire_base.proofs.{Strings.{string_exact, text_exact}, Named.{named_exact}}
 use Rattle.picky_keys.specs.Key.{IsString}
 use Rattle.picky_keys.proofs.BlobExact.{first_is}
 use Rattle.picky_cert_parts.specs.declared.option_type.SshCriticalOptionType.{SshCriticalOptionType}
@@ -18,22 +13,20 @@ use Rattle.picky_cert_parts.specs.declared.signature_format.SshSignatureFormat.{
 use Rattle.picky_cert_parts.specs.CertNames.{option_name, format_name, is_sk}
 use Rattle.picky_cert_parts.specs.CertNameTables.{option_types, signature_formats}
 use Rattle.picky_cert_parts.specs.ExtensionType.{extension_name, IsExtensionType}
-use Rattle.picky_cert_parts.proofs.ExtensionNames.{name_is_kept, named_keeps}
 use Rattle.picky_cert_parts.specs.declared.cert_type.SshCertType.{SshCertType}
 use Rattle.picky_cert_parts.specs.declared.critical_option.SshCriticalOption.{SshCriticalOption}
 use Rattle.picky_cert_parts.specs.declared.extension.SshExtension.{SshExtension}
 use Rattle.picky_cert_parts.specs.declared.signature.SshSignature.{SshSignature}
-use Rattle.picky_cert_parts.specs.declared.signature.SshSignatureBlob.{SshSignatureBlob}
-use Rattle.picky_cert_parts.specs.declared.signature.SshSignatureBlob.TheVariants as blobs
-use Rattle.picky_cert_parts.specs.NumberTable.{cert_types}
+use Rattle.picky_cert_parts.specs.{declared.signature.SshSignatureBlob.{SshSignatureBlob}, NumberTable.{cert_types}}
 use Rattle.picky_cert_parts.specs.CertType.{cert_type, cert_type_of}
 use Rattle.picky_cert_parts.specs.CriticalOption.{critical_option, option_type, option_payload, option_of, IsOption}
 use Rattle.picky_cert_parts.specs.Extension.{extension, extension_type, extension_payload, extension_of, IsExtension}
 use Rattle.picky_cert_parts.specs.Signature.{signature_total, signature_format, signature_payload, signature_flags}
-use Rattle.picky_cert_parts.specs.Signature.{signature_counter, standard_fields, sk_fields}
-use Rattle.picky_cert_parts.specs.Signature.{fields_when, signature, total_of, blob_size, blob_fields}
-use Rattle.picky_cert_parts.specs.Signature.{behind_total, signature_of, blob_fits, IsSignature}
+use Rattle.picky_cert_parts.specs.Signature.{signature_counter, standard_fields, sk_fields, fields_when, signature, total_of}
+use Rattle.picky_cert_parts.specs.Signature.{blob_size, blob_fields, behind_total, signature_of, blob_fits, IsSignature}
 use Rattle.picky_cert_parts.specs.SignatureSpelled.{SignatureSpelled}
+use Rattle.picky_cert_parts.proofs.ExtensionNames.{name_is_kept, named_keeps}
+use Rattle.picky_cert_parts.specs.declared.signature.SshSignatureBlob.TheVariants as blobs
 
 -- the bytes of what is read in front
 whole_front : {E A : Type 0} (G : Grammar E A) (of : A → List ℕ)

@@ -2,38 +2,28 @@
 use Rattle.std.proofs.Common.{◌≡◌, ℕ, List, Bool, true, false, Result, Ok, Err, refl, sym, ap, ◌∙◌, subst, ◌⊎◌, inl, inr, ◌≢◌}
 use Rattle.std.proofs.Common.{◌↔◌, if◌then◌else◌}
 use Rattle.std.specs.Prelude.{length, nat_le, take, IfErr}
-use Rattle.picky_wire_base.specs.Outcome.{and_then, map_err, map_ok}
-use Rattle.picky_suite.specs.Asked.{LeavesSuite}
-use Rattle.picky_suite.specs.Failures.{IsAskedFault}
-use Rattle.picky_suite.specs.Meanings.{Meanings}
-use Rattle.picky_wire_base.specs.Gives.{Gives}
+use Rattle.picky_wire_base.specs.{Outcome.{and_then, map_err, map_ok}, Gives.{Gives}}
+use Rattle.picky_suite.specs.{Asked.{LeavesSuite}, Failures.{IsAskedFault}, Meanings.{Meanings}}
 use Rattle.picky_keys.specs.LineRefusal.{is_short}
 use Rattle.picky_cert.specs.Spelled.{signed_of}
 use Rattle.picky_cert_builder.specs.declared.builder.SshCertificateBuilder.{SshCertificateBuilder}
 use Rattle.picky_cert_builder.specs.declared.error.SshCertificateGenerationError.{SshCertificateGenerationError}
+use Rattle.picky_cert_builder.specs.{Draft.{Unsigned, requested}, Request.{terms_of}, Terms.{judged_terms}}
 use Rattle.picky_cert_builder.specs.declared.error.SshCertificateGenerationError.TheVariants as requests
-use Rattle.picky_cert_builder.specs.Draft.{Unsigned, requested}
-use Rattle.picky_cert_builder.specs.Request.{terms_of}
-use Rattle.picky_cert_builder.specs.Terms.{judged_terms}
 use Rattle.picky_cert_builder.proofs.OwnLaws.{IsOwn as IsRequestsOwn, judged_is_own as judged_request, requested_is_own}
-use Rattle.picky_key_text.specs.declared.error.ReadError.{ReadError}
-use Rattle.picky_key_text.specs.declared.meaning.Meaning.{Meaning}
+use Rattle.picky_key_text.specs.{declared.error.ReadError.{ReadError}, declared.meaning.Meaning.{Meaning}}
 use Rattle.picky_key_text.specs.Order.{asks, fault_of as input_fault, reading}
-use Rattle.picky_target.specs.declared.error.ConvertError.{ConvertError}
+use Rattle.picky_target.specs.{declared.error.ConvertError.{ConvertError}, Judged.{carries_comment}}
 use Rattle.picky_target.specs.declared.error.ConvertError.TheVariants as errors
 use Rattle.picky_target.specs.declared.target.KeyTarget.TheVariants as targets
-use Rattle.picky_target.specs.Judged.{carries_comment}
 use Rattle.picky_conversion.specs.declared.request.CertRequest.{CertRequest}
-use Rattle.picky_conversion.specs.Certified.{Certifies, Relation}
-use Rattle.picky_conversion.specs.Certified.{LeavesSigner as LeavesDevice}
-use Rattle.picky_conversion.specs.Drafted.{drafted, drafted_of, if_line_fits, line_drafted, nonce_in, request_refusal, unsigned_line}
-use Rattle.picky_conversion.specs.Request.{asked_for}
-use Rattle.picky_conversion.specs.Certify.{IsReadFault, certification, drafting}
+use Rattle.picky_conversion.specs.Certified.{Certifies, Relation, LeavesSigner as LeavesDevice}
+use Rattle.picky_conversion.specs.Drafted.{drafted, drafted_of, if_line_fits, line_drafted, nonce_in, request_refusal}
+use Rattle.picky_conversion.specs.Drafted.{unsigned_line}
+use Rattle.picky_conversion.specs.{Request.{asked_for}, Certify.{IsReadFault, certification, drafting}}
 use Rattle.picky_conversion.specs.Convert.{LeavesAskedSuite}
 use Rattle.picky_conversion.specs.Made.{Answers, AnswersPlain, LeavesSigner, Made, ToSign, Whole, is_signed}
-use Rattle.picky_conversion.specs.Outside.{Outside, reader}
-use Rattle.picky_conversion.specs.Want.{IsFault}
-use Rattle.picky_conversion.specs.Refusal.{input_refusal}
+use Rattle.picky_conversion.specs.{Outside.{Outside, reader}, Want.{IsFault}, Refusal.{input_refusal}}
 use Rattle.picky_conversion.proofs.AnswerLemmas.{ReadingRefuses, refused_gives, refuses_input}
 use Rattle.picky_conversion.proofs.JudgedLemmas.{IsOwn, mapped_is, next_is, reading_is_own}
 

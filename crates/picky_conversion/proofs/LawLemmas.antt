@@ -1,43 +1,28 @@
 -- A text that was written is converted to itself, and private targets lose nothing.
 use Rattle.std.proofs.Common.{◌≡◌, ℕ, List, [], ◌∷◌, true, Option, None, Some, Ok, refl, sym, ap, ◌∙◌, subst}
 use Rattle.std.specs.Str.{IsUtf8}
-use Rattle.picky_wire_base.specs.carried.Outcome.{and_then_ok, map_err_ok}
-use Rattle.picky_wire_base.specs.Outcome.{map_err, map_ok}
+use Rattle.picky_wire_base.specs.{carried.Outcome.{and_then_ok, map_err_ok}, Outcome.{map_err, map_ok}}
 use Rattle.picky_cert_builder.specs.Draft.{Unsigned}
-use Rattle.picky_issuing.specs.declared.options.CertOptions.{CertOptions}
-use Rattle.picky_issuing.specs.Parts.{issuer_part, key_part}
-use Rattle.picky_conversion.specs.declared.request.CertRequest.{CertRequest}
-use Rattle.picky_conversion.specs.Drafted.{line_drafted}
-use Rattle.picky_conversion.proofs.DraftedLaws.{drafted_where, line_drafted_where}
-use Rattle.picky_conversion.proofs.CertifyLemmas.{drafting_of}
-use Rattle.picky_conversion.proofs.IssueLemmas.{unsigned_by}
-use Rattle.picky_target.specs.declared.error.ConvertError.TheVariants as errors
-use Rattle.picky_key_text.specs.declared.meaning.Key.{Key}
-use Rattle.picky_key_text.specs.declared.meaning.Key.TheVariants as keys
-use Rattle.picky_key_text.specs.declared.meaning.Meaning.{Meaning}
-use Rattle.picky_key_text.specs.Kept.{IsKeptMeaning}
-use Rattle.picky_key_text.specs.Key.{public_part}
-use Rattle.picky_key_text.specs.Order.{reading}
-use Rattle.picky_target.specs.declared.target.KeyTarget.{KeyTarget}
-use Rattle.picky_target.specs.declared.target.KeyTarget.TheVariants as targets
-use Rattle.picky_target.specs.Carried.{need_under}
-use Rattle.picky_target.specs.Judged.{judged_meaning}
-use Rattle.picky_target.specs.Output.{Output}
-use Rattle.picky_target.specs.ReadBack.{IsTarget, kept, under}
-use Rattle.picky_target.specs.Texts.{text_for}
-use Rattle.picky_target.specs.Written.{keeps_secret}
-use Rattle.picky_suite.specs.Meanings.{Meanings}
+use Rattle.picky_issuing.specs.{declared.options.CertOptions.{CertOptions}, Parts.{issuer_part, key_part}}
+use Rattle.picky_conversion.specs.{declared.request.CertRequest.{CertRequest}, Drafted.{line_drafted}}
 use Rattle.picky_conversion.specs.Chain.{IsGiven, Step, last_of, through}
-use Rattle.picky_conversion.specs.Certify.{certification, drafting, hex_line}
-use Rattle.picky_conversion.specs.Convert.{conversion}
+use Rattle.picky_conversion.specs.{Certify.{certification, drafting, hex_line}, Convert.{conversion}}
 use Rattle.picky_conversion.specs.Issue.{issued, issued_bytes, issuer_read, request_by, unsigned}
 use Rattle.picky_conversion.specs.Outside.{Outside, reader}
+use Rattle.picky_conversion.proofs.{DraftedLaws.{drafted_where, line_drafted_where}, CertifyLemmas.{drafting_of}}
+use Rattle.picky_conversion.proofs.{IssueLemmas.{unsigned_by}, ConvertLemmas.{conversion_from, conversion_parts}}
+use Rattle.picky_target.specs.declared.error.ConvertError.TheVariants as errors
+use Rattle.picky_key_text.specs.{declared.meaning.Key.{Key}, declared.meaning.Meaning.{Meaning}, Kept.{IsKeptMeaning}}
+use Rattle.picky_key_text.specs.{Key.{public_part}, Order.{reading}}
+use Rattle.picky_key_text.specs.declared.meaning.Key.TheVariants as keys
+use Rattle.picky_target.specs.{declared.target.KeyTarget.{KeyTarget}, Carried.{need_under}, Judged.{judged_meaning}}
+use Rattle.picky_target.specs.{Output.{Output}, ReadBack.{IsTarget, kept, under}, Texts.{text_for}}
+use Rattle.picky_target.specs.Written.{keeps_secret}
+use Rattle.picky_target.specs.declared.target.KeyTarget.TheVariants as targets
+use Rattle.picky_suite.specs.Meanings.{Meanings}
 use Rattle.picky_target.proofs.JudgedLaws.{judged_carries as carries}
-use Rattle.picky_key_text.proofs.KeptLaws.{meaning_is_kept as kept_in}
-use Rattle.picky_key_text.proofs.ReadingLaws.{reading_of as read}
-use Rattle.picky_target.proofs.ReadBackLaws.{spelled_is_read_back as read_back}
-use Rattle.picky_target.proofs.TextLaws.{text_spells as spells}
-use Rattle.picky_conversion.proofs.ConvertLemmas.{conversion_from, conversion_parts}
+use Rattle.picky_target.proofs.{ReadBackLaws.{spelled_is_read_back as read_back}, TextLaws.{text_spells as spells}}
+use Rattle.picky_key_text.proofs.{KeptLaws.{meaning_is_kept as kept_in}, ReadingLaws.{reading_of as read}}
 
 -- ---- what is kept is judged and written as the whole
 

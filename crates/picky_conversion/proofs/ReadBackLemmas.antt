@@ -1,48 +1,36 @@
 -- The line of a certificate that was signed means its subject's key and its comment.
-use Rattle.std.specs.Prelude.{◌≡◌, ◌<◌, ◌^◌, ◌++◌, ◌∷◌, [], List, ℕ, Result, Ok, Err, IfOk, length, take, true, is_some}
-use Rattle.std.specs.Prelude.{Bool, false, if◌then◌else◌}
-use Rattle.std.proofs.Common.{refl, sym, ap, ◌∙◌, subst, arith}
-use Rattle.std.proofs.lemmas.List.{append-nil, length-take}
+use Rattle.std.specs.Prelude.{◌≡◌, ◌<◌, ◌^◌, ◌++◌, ◌∷◌, [], List, ℕ, Result, Ok, Err, IfOk, length, take, true, is_some, Bool}
+use Rattle.std.specs.Prelude.{false, if◌then◌else◌}
 use Rattle.std.specs.Str.{trim_end}
-use Rattle.picky_wire_base.specs.Numbers.{IsBytes}
-use Rattle.picky_wire_base.specs.Table.{find_entry}
-use Rattle.picky_wire_base.specs.Gives.{Gives}
+use Rattle.std.proofs.{Common.{refl, sym, ap, ◌∙◌, subst, arith}, lemmas.List.{append-nil, length-take}}
+use Rattle.picky_wire_base.specs.{Numbers.{IsBytes}, Table.{find_entry}, Gives.{Gives}}
 use Rattle.picky_text.proofs.WordLaws.{words_at_space}
-use Rattle.picky_text.specs.Lines.{HasNo}
+use Rattle.picky_text.specs.{Lines.{HasNo}, Base64.{base64_of}}
 use Rattle.picky_keys.specs.Key.{IsString}
 use Rattle.picky_cert_parts.specs.declared.cert_key_type.SshCertKeyType.{SshCertKeyType}
+use Rattle.picky_cert_parts.specs.{CertNames.{cert_key_type_name}, CertNameTables.{cert_key_types}}
 use Rattle.picky_cert_parts.specs.declared.cert_key_type.SshCertKeyType.TheVariants as types
-use Rattle.picky_cert_parts.specs.CertNames.{cert_key_type_name}
-use Rattle.picky_cert_parts.specs.CertNameTables.{cert_key_types}
 use Rattle.picky_cert.specs.declared.certificate.SshCertificate.{SshCertificate}
-use Rattle.picky_cert.specs.Line.{IsCertificateLine, IsReadBackCertificate}
-use Rattle.picky_cert.specs.LineRefusal.{line_text}
+use Rattle.picky_cert.specs.{Line.{IsCertificateLine, IsReadBackCertificate}, LineRefusal.{line_text}}
 use Rattle.picky_cert.specs.Spelled.{blob_of, line_of}
-use Rattle.picky_text.specs.Base64.{base64_of}
 use Rattle.picky_cert.proofs.ReadBackLaws.{line_says, type_name_is_word}
 use Rattle.picky_cert_builder.specs.declared.draft.CertificateDraft.{CertificateDraft}
-use Rattle.picky_cert_builder.specs.Draft.{Unsigned, signed_with}
-use Rattle.picky_cert_builder.specs.Drafted.{draft_shown}
+use Rattle.picky_cert_builder.specs.{Draft.{Unsigned, signed_with}, Drafted.{draft_shown}}
 use Rattle.picky_cert_builder.specs.Keeps.{IsRequest, without_key_comments}
 use Rattle.picky_cert_builder.proofs.MadeLaws.{made_comment, made_key, signed_is_kept, signed_line}
 use Rattle.picky_key_text.specs.declared.form.Form.TheVariants as forms
-use Rattle.picky_key_text.specs.declared.meaning.Key.TheVariants.{Public}
-use Rattle.picky_key_text.specs.declared.meaning.Meaning.{Meaning}
-use Rattle.picky_target.specs.declared.error.ConvertError.{ConvertError}
+use Rattle.picky_key_text.specs.{declared.meaning.Key.TheVariants.{Public}, declared.meaning.Meaning.{Meaning}}
+use Rattle.picky_key_text.specs.Form.{envelope_start, form_of, is_certificate, ppk_start, putty_public_start}
+use Rattle.picky_key_text.specs.{Key.{certificate_meaning, public_key, public_meaning}, Reader.{Reader}}
+use Rattle.picky_key_text.specs.Reads.{Means, Reads}
+use Rattle.picky_target.specs.{declared.error.ConvertError.{ConvertError}, Judged.{carries_comment}}
 use Rattle.picky_target.specs.declared.error.ConvertError.TheVariants as errors
 use Rattle.picky_target.specs.declared.target.KeyTarget.TheVariants as targets
-use Rattle.picky_target.specs.Judged.{carries_comment}
 use Rattle.picky_target.proofs.ByteLemmas.{take_bytes}
-use Rattle.picky_key_text.specs.Form.{envelope_start, form_of, is_certificate, ppk_start, putty_public_start}
-use Rattle.picky_key_text.specs.Key.{certificate_meaning, public_key, public_meaning}
-use Rattle.picky_key_text.specs.Reader.{Reader}
-use Rattle.picky_key_text.specs.Reads.{Means, Reads}
-use Rattle.picky_conversion.specs.declared.request.CertRequest.{CertRequest}
-use Rattle.picky_conversion.specs.Certified.{IsLineOf, Relation}
-use Rattle.picky_conversion.specs.Drafted.{IsDrafted, drafted, drafted_of}
-use Rattle.picky_conversion.specs.inner.Signed.{IsReadBack}
-use Rattle.picky_conversion.proofs.DraftedLaws.{drafted_where}
+use Rattle.picky_conversion.specs.{declared.request.CertRequest.{CertRequest}, Certified.{IsLineOf, Relation}}
+use Rattle.picky_conversion.specs.{Drafted.{IsDrafted, drafted, drafted_of}, inner.Signed.{IsReadBack}}
 use Rattle.picky_conversion.specs.Request.{asked_for}
+use Rattle.picky_conversion.proofs.DraftedLaws.{drafted_where}
 
 -- ---- its form
 

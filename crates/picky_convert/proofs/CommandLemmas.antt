@@ -1,35 +1,26 @@
 -- Lemmas on the command of some words, and on what it writes.
-use Rattle.std.proofs.Common.{◌≡◌, ◌⊎◌, inl, inr, subst, Bool, true, false, Option, None, Some, if◌then◌else◌}
-use Rattle.std.proofs.Common.{ℕ, List, [], ◌∷◌, length, get_or, Ok, refl, sym, ap, arith}
-use Rattle.std.specs.Option.{option_map}
-use Rattle.std.specs.Str.{bytes_eq, IsUtf8}
-use Rattle.picky_wire_base.specs.carried.Outcome.{and_then_ok, map_err_ok}
-use Rattle.picky_wire_base.specs.Outcome.{map_err, map_ok}
+use Rattle.std.proofs.Common.{◌≡◌, ◌⊎◌, inl, inr, subst, Bool, true, false, Option, None, Some, if◌then◌else◌, ℕ, List, [], ◌∷◌}
+use Rattle.std.proofs.Common.{length, get_or, Ok, refl, sym, ap, arith}
+use Rattle.std.specs.{Option.{option_map}, Str.{bytes_eq, IsUtf8}}
+use Rattle.picky_wire_base.specs.{carried.Outcome.{and_then_ok, map_err_ok}, Outcome.{map_err, map_ok}}
 use Rattle.picky_ppk_parts.specs.Config.{default_config}
 use Rattle.picky_target.specs.ReadBack.{IsConfig}
-use Rattle.picky_conversion.specs.Certified.{Relation}
-use Rattle.picky_issuing.specs.declared.options.CertOptions.{CertOptions}
-use Rattle.picky_issuing.specs.Options.{options_named}
-use Rattle.picky_key_text.specs.Key.{public_part}
-use Rattle.picky_key_text.specs.Order.{reading}
+use Rattle.picky_conversion.specs.{Certified.{Relation}, Certify.{hex_line}, Chain.{IsGiven}}
+use Rattle.picky_conversion.specs.{Issue.{issued, issued_bytes}, Made.{IsTextOf, Made, ToSign, Whole, Writes}}
+use Rattle.picky_conversion.specs.{Outside.{Outside, reader}, To.{Written}}
+use Rattle.picky_issuing.specs.{declared.options.CertOptions.{CertOptions}, Options.{options_named}}
+use Rattle.picky_key_text.specs.{Key.{public_part}, Order.{reading}}
 use Rattle.picky_key_text.proofs.ReadingLaws.{reading_of as read}
 use Rattle.picky_target.specs.declared.error.ConvertError.TheVariants as errors
-use Rattle.picky_conversion.specs.Certify.{hex_line}
-use Rattle.picky_conversion.specs.Chain.{IsGiven}
-use Rattle.picky_conversion.specs.Issue.{issued, issued_bytes}
-use Rattle.picky_conversion.specs.Made.{IsTextOf, Made, ToSign, Whole, Writes}
-use Rattle.picky_conversion.specs.Outside.{Outside, reader}
-use Rattle.picky_conversion.specs.To.{Written}
 use Rattle.picky_conversion.proofs.ConvertLemmas.{means_one, says_in}
 use Rattle.picky_conversion.proofs.IssuedLemmas.{issued_bytes_is, issued_from, issued_is, signed_of_it, unsigned_from, whole_of}
 use Rattle.picky_conversion.proofs.ToLemmas.{can_convert, converted_is}
 use Rattle.picky_convert.specs.declared.command.Command.{Command}
-use Rattle.picky_convert.specs.declared.command.Command.TheVariants as commands
 use Rattle.picky_convert.specs.Command.{CanAnswer, IsAnswer, IsCommand, Names, alone, answer, command_of_word, fingerprints}
-use Rattle.picky_convert.specs.Command.{sample_size, with_options, with_size}
-use Rattle.picky_convert.specs.Command.{cert, fingerprint, openssh, ppk2, ppk3, putty_pub, sample, ssh_pub, tbs}
-use Rattle.picky_convert.specs.Fingerprint.{fingerprint_text}
-use Rattle.picky_convert.specs.Sample.{sample_text}
+use Rattle.picky_convert.specs.Command.{sample_size, with_options, with_size, cert, fingerprint, openssh, ppk2, ppk3, putty_pub}
+use Rattle.picky_convert.specs.Command.{sample, ssh_pub, tbs}
+use Rattle.picky_convert.specs.{Fingerprint.{fingerprint_text}, Sample.{sample_text}}
+use Rattle.picky_convert.specs.declared.command.Command.TheVariants as commands
 
 -- a list of one item
 pub one_word : {A : Type 0} (xs : List A) (x : A) → length xs ≡ 1 → x ≡ get_or xs 0 x → xs ≡ x ∷ []

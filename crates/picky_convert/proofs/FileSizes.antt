@@ -1,30 +1,23 @@
 -- How long PuTTY's file, a public key line and PuTTY's public key are at most of a short blob, short private bytes and a short
 -- comment.
 use Rattle.std.proofs.Common.{◌≡◌, ◌≤◌, ◌+◌, ◌*◌, ℕ, List, [], ◌∷◌, ◌++◌, length, codes, refl, arith}
-use Rattle.std.specs.Fmt.{decimal}
 use Rattle.std.proofs.lemmas.List.{length-append}
+use Rattle.std.specs.Fmt.{decimal}
 use Rattle.hex.specs.Hex.{lower_digits}
 use Rattle.hex.proofs.HexLemmas.{length-encode_with}
-use Rattle.picky_keys.specs.KeyNames.{kind_name}
-use Rattle.picky_text.specs.Base64.{base64_of}
-use Rattle.picky_text.specs.Quote.{quote}
-use Rattle.picky_text.specs.Rows.{rows_of}
+use Rattle.picky_keys.specs.{KeyNames.{kind_name}, declared.key.SshPublicKey.{SshPublicKey}, Blob.{blob_of}}
+use Rattle.picky_keys.specs.{Key.{kind_of}, Line.{line_of as key_line}}
+use Rattle.picky_text.specs.{Base64.{base64_of}, Quote.{quote}, Rows.{rows_of}}
 use Rattle.picky_text.specs.declared.lines.LineEnd.TheVariants.{CrLf}
 use Rattle.picky_kv.specs.ChoiceFields.{encryption_field, version_field}
 use Rattle.picky_kv.specs.Keys.{comment_key, encryption_key, private_lines_key, private_mac_key, public_lines_key}
-use Rattle.picky_kv.specs.declared.PpkEncryptionValue.{PpkEncryptionValue}
-use Rattle.picky_kv.specs.declared.PpkEncryptionValue.TheVariants as encryptions
-use Rattle.picky_kv.specs.declared.PpkVersionKey.{PpkVersionKey}
+use Rattle.picky_kv.specs.{declared.PpkEncryptionValue.{PpkEncryptionValue}, declared.PpkVersionKey.{PpkVersionKey}}
 use Rattle.picky_kv.specs.declared.PpkVersionKey.TheVariants.{V2, V3}
-use Rattle.picky_kv.specs.ValueFields.{base64_field, comment_field, hex_field}
-use Rattle.picky_kv.specs.AlgorithmField.{algorithm_field}
+use Rattle.picky_kv.specs.{ValueFields.{base64_field, comment_field, hex_field}, AlgorithmField.{algorithm_field}}
 use Rattle.picky_kv.specs.Output.{block_lines, pair_line}
 use Rattle.picky_kv.specs.declared.algorithm.PpkKeyAlgorithmValue.{PpkKeyAlgorithmValue}
+use Rattle.picky_kv.specs.declared.PpkEncryptionValue.TheVariants as encryptions
 use Rattle.picky_kv.specs.declared.algorithm.PpkKeyAlgorithmValue.TheVariants as algorithms
-use Rattle.picky_keys.specs.declared.key.SshPublicKey.{SshPublicKey}
-use Rattle.picky_keys.specs.Blob.{blob_of}
-use Rattle.picky_keys.specs.Key.{kind_of}
-use Rattle.picky_keys.specs.Line.{line_of as key_line}
 use Rattle.picky_ppk_file.specs.PuttyPublic.{comment_line, comment_start, footer, header, putty_public}
 use Rattle.picky_ppk_file.specs.declared.file.PpkSealing.TheVariants.{Unsealed}
 use Rattle.picky_ppk_file.specs.Written.{end_of, file_lines, file_text, line_of, rows_under}

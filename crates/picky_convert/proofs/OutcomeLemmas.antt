@@ -4,32 +4,26 @@ use Rattle.std.proofs.lemmas.Bool.{le-ltb, le-leb, cases_Bool}
 use Rattle.std.proofs.lemmas.Str.{is_utf8-from_IsUtf8, IsUtf8-from_is_utf8}
 use Rattle.std.specs.Str.{IsUtf8, is_utf8}
 use Rattle.picky_wire_base.specs.Outcome.{map_err, map_ok}
-use Rattle.picky_suite.specs.Failures.{IsAskedFault}
-use Rattle.picky_suite.specs.Meanings.{Meanings}
+use Rattle.picky_suite.specs.{Failures.{IsAskedFault}, Meanings.{Meanings}}
 use Rattle.picky_sshkey_blob.specs.declared.error.SshPrivateKeyError.TheVariants as private
 use Rattle.picky_ppk_parts.specs.declared.error.PuttyError.TheVariants as putty
 use Rattle.picky_cert_builder.specs.declared.error.SshCertificateGenerationError.TheVariants as requests
 use Rattle.picky_key_text.specs.declared.error.ReadError.TheVariants as input_errors
-use Rattle.picky_key_text.specs.Key.{public_part}
-use Rattle.picky_key_text.specs.Order.{reading}
-use Rattle.picky_target.specs.declared.error.ConvertError.{ConvertError}
-use Rattle.picky_target.specs.declared.error.ConvertError.TheVariants as errors
-use Rattle.picky_target.specs.declared.target.KeyTarget.{KeyTarget}
+use Rattle.picky_key_text.specs.{Key.{public_part}, Order.{reading}}
+use Rattle.picky_target.specs.{declared.error.ConvertError.{ConvertError}, declared.target.KeyTarget.{KeyTarget}}
 use Rattle.picky_target.specs.Written.{written}
-use Rattle.picky_conversion.specs.Certified.{Relation}
-use Rattle.picky_convert.specs.declared.command.Command.{Command}
-use Rattle.picky_convert.specs.declared.command.Command.TheVariants as commands
-use Rattle.picky_convert.specs.declared.error.Status.TheVariants as statuses
-use Rattle.picky_conversion.specs.Certify.{hex_line}
-use Rattle.picky_convert.specs.Command.{IsFaultFor, answer, answering_asks, fingerprints}
-use Rattle.picky_conversion.specs.Convert.{LeavesAskedSuite, conversion}
-use Rattle.picky_convert.specs.Fingerprint.{fingerprint_text}
+use Rattle.picky_target.specs.declared.error.ConvertError.TheVariants as errors
+use Rattle.picky_conversion.specs.{Certified.{Relation}, Certify.{hex_line}, Convert.{LeavesAskedSuite, conversion}}
 use Rattle.picky_conversion.specs.Issue.{issued, issued_bytes, unsigned}
 use Rattle.picky_conversion.specs.Made.{Answers, IsUnwritten, LeavesSigner, Made, ToSign, Whole, Writes, is_signed}
-use Rattle.picky_conversion.specs.Outside.{Outside, reader}
+use Rattle.picky_conversion.specs.{Outside.{Outside, reader}, Want.{IsFault, IsSignerFault, WantsMemory}}
+use Rattle.picky_convert.specs.declared.command.Command.{Command}
+use Rattle.picky_convert.specs.Command.{IsFaultFor, answer, answering_asks, fingerprints}
+use Rattle.picky_convert.specs.Fingerprint.{fingerprint_text}
 use Rattle.picky_convert.specs.Run.{Devices, Stops, input_limit, outcome, outcome_asks, outcome_signs}
-use Rattle.picky_conversion.specs.Want.{IsFault, IsSignerFault, WantsMemory}
 use Rattle.picky_convert.specs.inner.Causes.{Comes, refusal_status}
+use Rattle.picky_convert.specs.declared.command.Command.TheVariants as commands
+use Rattle.picky_convert.specs.declared.error.Status.TheVariants as statuses
 use Rattle.picky_conversion.proofs.AnswerLemmas.{input_fault_is, output_fault_is, opening_asks, sealing_asks}
 use Rattle.picky_conversion.proofs.CertifyLemmas.{one_counted}
 use Rattle.picky_conversion.proofs.IssueLemmas.{issued_is_own, issuing_fault_asks, unsigned_is_own}

@@ -1,37 +1,30 @@
 -- What the bytes of a source come to, status by status.
-use Rattle.std.proofs.Common.{◌≡◌, ◌⊎◌, ◌+◌, ℕ, List, [], ◌∷◌, Option, Some, None, Result, Ok, Err}
-use Rattle.std.proofs.Common.{refl, sym, ◌∙◌, ap, inl, inr, subst}
+use Rattle.std.proofs.Common.{◌≡◌, ◌⊎◌, ◌+◌, ℕ, List, [], ◌∷◌, Option, Some, None, Result, Ok, Err, refl, sym, ◌∙◌, ap, inl}
+use Rattle.std.proofs.Common.{inr, subst}
 use Rattle.std.proofs.lemmas.Bool.{cases_Bool}
 use Rattle.picky_wire_base.specs.Outcome.{and_then, map_err, map_ok}
 use Rattle.picky_sshkey_blob.specs.declared.error.SshPrivateKeyError.TheVariants as private
 use Rattle.picky_ppk_parts.specs.declared.error.PuttyError.TheVariants as putty
-use Rattle.picky_input.specs.Extent.{ToEnd, Anywhere}
-use Rattle.picky_input.specs.SourceText.{Reads, text_of}
+use Rattle.picky_input.specs.{Extent.{ToEnd, Anywhere}, SourceText.{Reads, text_of}}
 use Rattle.picky_input.specs.declared.source_text.SourceError.{SourceError}
 use Rattle.picky_input.specs.declared.source_text.SourceError.TheVariants as source
 use Rattle.picky_input.proofs.TextLaws.{is_source_text}
-use Rattle.picky_key_text.specs.Form.{form_of}
-use Rattle.picky_key_text.specs.Order.{fault_as, fault_of, reading}
-use Rattle.picky_key_text.specs.Reader.{Reader}
-use Rattle.picky_key_text.specs.Want.{IsFault, WantsMemory}
-use Rattle.picky_key_text.specs.declared.error.ReadError.{ReadError}
+use Rattle.picky_key_text.specs.{Form.{form_of}, Order.{fault_as, fault_of, reading}, Reader.{Reader}}
+use Rattle.picky_key_text.specs.{Want.{IsFault, WantsMemory}, declared.error.ReadError.{ReadError}}
+use Rattle.picky_key_text.specs.{declared.form.Form.{Form}, declared.meaning.Meaning.{Meaning}}
 use Rattle.picky_key_text.specs.declared.error.ReadError.TheVariants as errors
-use Rattle.picky_key_text.specs.declared.form.Form.{Form}
 use Rattle.picky_key_text.specs.declared.form.Form.TheVariants as forms
-use Rattle.picky_key_text.specs.declared.meaning.Meaning.{Meaning}
 use Rattle.picky_key_text.proofs.RefusalLaws.{reading_own}
 use Rattle.picky_inventory.specs.declared.command.Command.{Command}
-use Rattle.picky_inventory.specs.declared.command.Command.TheVariants as commands
-use Rattle.picky_inventory.specs.declared.status.InventoryStatus.{InventoryStatus}
-use Rattle.picky_inventory.specs.declared.status.InventoryStatus.TheVariants as statuses
-use Rattle.picky_inventory.specs.BadLine.{bad_line}
+use Rattle.picky_inventory.specs.{declared.status.InventoryStatus.{InventoryStatus}, BadLine.{bad_line}}
 use Rattle.picky_inventory.specs.Items.{Item, is_blank, item_line, item_of, items_from, refused}
-use Rattle.picky_inventory.specs.Listing.{FaultAt, NoneAsks, inventory}
-use Rattle.picky_inventory.specs.OrderedText.{merged, ordered_text}
-use Rattle.picky_inventory.specs.Parted.{text_parts}
-use Rattle.picky_inventory.specs.Merging.{left_part, right_part, unless_bad}
-use Rattle.picky_inventory.specs.Run.{IsFaultOf, SparesSuite, answer, extent_of, outcome, part_refusal, source_status, unmerged_status}
+use Rattle.picky_inventory.specs.{Listing.{FaultAt, NoneAsks, inventory}, OrderedText.{merged, ordered_text}}
+use Rattle.picky_inventory.specs.{Parted.{text_parts}, Merging.{left_part, right_part, unless_bad}}
+use Rattle.picky_inventory.specs.Run.{IsFaultOf, SparesSuite, answer, extent_of, outcome, part_refusal, source_status}
+use Rattle.picky_inventory.specs.Run.{unmerged_status}
 use Rattle.picky_inventory.specs.inner.Comes.{Comes, Gives, extent_for, unread_status}
+use Rattle.picky_inventory.specs.declared.command.Command.TheVariants as commands
+use Rattle.picky_inventory.specs.declared.status.InventoryStatus.TheVariants as statuses
 use Rattle.picky_inventory.proofs.ListingLaws.{none_asks}
 
 -- ---- the refusal of a part

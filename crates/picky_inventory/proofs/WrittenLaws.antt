@@ -1,34 +1,26 @@
 -- What a run writes: the text of a set, and of two lists with a line `%%` between that of the lists joined.
-use Rattle.std.proofs.Common.{◌≡◌, ◌+◌, ℕ, false, List, [], ◌∷◌, ◌++◌, Some, Result, Ok, Err, refl, sym, ◌∙◌, ap, ap₂, inl, inr, subst}
-use Rattle.std.proofs.lemmas.Bool.{cases_Bool}
-use Rattle.std.proofs.lemmas.List.{append_assoc, append_cancel_left}
-use Rattle.std.specs.List.{AllByRecursion, concat}
-use Rattle.std.specs.Option.{IfSome}
-use Rattle.std.specs.Str.{IsUtf8}
+use Rattle.std.proofs.Common.{◌≡◌, ◌+◌, ℕ, false, List, [], ◌∷◌, ◌++◌, Some, Result, Ok, Err, refl, sym, ◌∙◌, ap, ap₂, inl, inr}
+use Rattle.std.proofs.Common.{subst}
+use Rattle.std.proofs.{lemmas.Bool.{cases_Bool}, lemmas.List.{append_assoc, append_cancel_left}}
+use Rattle.std.specs.{List.{AllByRecursion, concat}, Option.{IfSome}, Str.{IsUtf8}}
 use Rattle.picky_wire_base.specs.Outcome.{and_then, map_err, map_ok}
 use Rattle.picky_text.proofs.ListLaws.{all_weaker}
 use Rattle.picky_issuing.specs.Parts.{cut, cut_lines, after_line, is_mark, issuer_of, key_text_of_cut, lines_with_ends, mark_lf}
 use Rattle.picky_issuing.proofs.PartsLemmas.{lines_at_lf, lines_joined}
-use Rattle.picky_input.specs.SourceText.{text_of}
-use Rattle.picky_input.specs.declared.source_text.SourceError.{SourceError}
+use Rattle.picky_input.specs.{SourceText.{text_of}, declared.source_text.SourceError.{SourceError}}
 use Rattle.picky_input.proofs.TextLaws.{is_source_text}
-use Rattle.picky_key_text.specs.Order.{reading}
-use Rattle.picky_key_text.specs.Reader.{Reader}
-use Rattle.picky_key_text.specs.declared.error.ReadError.{ReadError}
+use Rattle.picky_key_text.specs.{Order.{reading}, Reader.{Reader}, declared.error.ReadError.{ReadError}}
 use Rattle.picky_key_text.specs.declared.meaning.Meaning.{Meaning}
 use Rattle.picky_inventory.specs.declared.command.Command.TheVariants as commands
-use Rattle.picky_inventory.specs.declared.merging.Unmerged.{Unmerged}
-use Rattle.picky_inventory.specs.BadLine.{IsInventory, IsItemLine}
-use Rattle.picky_inventory.specs.Items.{Item, IsItem, IsPrivate, IsPublic, Kind, item_line, item_of, is_blank, items_from, refused}
+use Rattle.picky_inventory.specs.{declared.merging.Unmerged.{Unmerged}, BadLine.{IsInventory, IsItemLine}}
+use Rattle.picky_inventory.specs.Items.{Item, IsItem, IsPrivate, IsPublic, Kind, item_line, item_of, is_blank, items_from}
+use Rattle.picky_inventory.specs.Items.{refused}
 use Rattle.picky_inventory.specs.Listing.{inventory, inventory_of}
 use Rattle.picky_inventory.specs.Merging.{left_part, merged_or_bad, merging, or_empty, right_part, unless_bad}
-use Rattle.picky_inventory.specs.OrderedText.{IsWholeLine, merged, ordered_text}
-use Rattle.picky_inventory.specs.Parted.{text_parts}
+use Rattle.picky_inventory.specs.{OrderedText.{IsWholeLine, merged, ordered_text}, Parted.{text_parts}}
 use Rattle.picky_inventory.specs.Run.{IsOfLists, WritesSet, answer, outcome, part_refusal, source_status, unmerged_status}
-use Rattle.picky_inventory.proofs.BadLineLaws.{inventory_is_whole, no_bad_line}
-use Rattle.picky_inventory.proofs.ItemLaws.{inventory_of_its_set}
-use Rattle.picky_inventory.proofs.MergingLaws.{inventories_merged}
-use Rattle.picky_inventory.proofs.ReadLaws.{parts_text, read_items}
+use Rattle.picky_inventory.proofs.{BadLineLaws.{inventory_is_whole, no_bad_line}, ItemLaws.{inventory_of_its_set}}
+use Rattle.picky_inventory.proofs.{MergingLaws.{inventories_merged}, ReadLaws.{parts_text, read_items}}
 use Rattle.picky_inventory.proofs.TextLaws.{merged_with_itself}
 
 -- ---- the mark between two inventories

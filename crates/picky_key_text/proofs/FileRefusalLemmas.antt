@@ -1,6 +1,6 @@
 -- No reason that the lines of a PuTTY private key file are refused for is the suite's or memory's.
-use Rattle.std.specs.Prelude.{◌≡◌, Bool, true, false, List, [], ◌∷◌, ℕ, Option, None, Some, Result, Ok, Err, if◌then◌else◌}
-use Rattle.std.specs.Prelude.{◌^◌, nat_lt, length}
+use Rattle.std.specs.Prelude.{◌≡◌, Bool, true, false, List, [], ◌∷◌, ℕ, Option, None, Some, Result, Ok, Err, if◌then◌else◌, ◌^◌}
+use Rattle.std.specs.Prelude.{nat_lt, length}
 use Rattle.std.proofs.Common.{refl}
 use Rattle.picky_wire_base.specs.Outcome.{map_err}
 use Rattle.picky_text.specs.Lines.{lines}
@@ -9,28 +9,23 @@ use Rattle.picky_keys.specs.declared.error.SshPublicKeyError.{SshPublicKeyError}
 use Rattle.picky_keys.specs.declared.error.SshPublicKeyError.TheVariants as public
 use Rattle.picky_sshkey.proofs.RefusalLaws.{Refuses, err_as, if_as, ok_as, then_as}
 use Rattle.picky_kv.specs.Field.{Field, field_value, judged_value, value_refusal}
-use Rattle.picky_kv.specs.declared.PpkValueError.{PpkValueError}
-use Rattle.picky_kv.specs.declared.PpkValueError.TheVariants as value
-use Rattle.picky_kv.specs.declared.PpkVersionKey.{PpkVersionKey}
+use Rattle.picky_kv.specs.{declared.PpkValueError.{PpkValueError}, declared.PpkVersionKey.{PpkVersionKey}}
 use Rattle.picky_kv.specs.declared.PpkVersionKey.TheVariants.{V2, V3}
-use Rattle.picky_kv.specs.declared.PpkEncryptionValue.{PpkEncryptionValue}
-use Rattle.picky_kv.specs.declared.PpkEncryptionValue.TheVariants as encryptions
-use Rattle.picky_kv.specs.declared.error.KvError.{KvError}
-use Rattle.picky_kv.specs.declared.error.KvError.TheVariants as kv
+use Rattle.picky_kv.specs.{declared.PpkEncryptionValue.{PpkEncryptionValue}, declared.error.KvError.{KvError}}
 use Rattle.picky_kv.specs.Context.{need, in_context, refusal_in}
 use Rattle.picky_kv.specs.Lines.{key_and_value, first_joined, next_pair, next_block, value_alone}
-use Rattle.picky_kv.specs.NumberFields.{count_field, u32_field}
-use Rattle.picky_kv.specs.AlgorithmField.{algorithm_field}
-use Rattle.picky_kv.specs.ValueFields.{comment_field, base64_field, hex_field}
-use Rattle.picky_kv.specs.Choices.{version_row}
+use Rattle.picky_kv.specs.{NumberFields.{count_field, u32_field}, AlgorithmField.{algorithm_field}}
+use Rattle.picky_kv.specs.{ValueFields.{comment_field, base64_field, hex_field}, Choices.{version_row}}
 use Rattle.picky_kv.specs.ChoiceFields.{version_field, encryption_field, flavour_field}
 use Rattle.picky_kv.specs.Keys.{encryption_key, comment_key, public_lines_key, private_lines_key, private_mac_key}
 use Rattle.picky_kv.specs.Keys.{encryption_key_row, comment_key_row, public_lines_key_row, private_lines_key_row}
 use Rattle.picky_kv.specs.Keys.{private_mac_key_row}
-use Rattle.picky_kv.specs.Argon2Keys.{key_derivation_key, argon2_memory_key, argon2_passes_key}
-use Rattle.picky_kv.specs.Argon2Keys.{argon2_parallelism_key, argon2_salt_key, key_derivation_key_row}
-use Rattle.picky_kv.specs.Argon2Keys.{argon2_memory_key_row, argon2_passes_key_row, argon2_parallelism_key_row}
-use Rattle.picky_kv.specs.Argon2Keys.{argon2_salt_key_row}
+use Rattle.picky_kv.specs.Argon2Keys.{key_derivation_key, argon2_memory_key, argon2_passes_key, argon2_parallelism_key}
+use Rattle.picky_kv.specs.Argon2Keys.{argon2_salt_key, key_derivation_key_row, argon2_memory_key_row, argon2_passes_key_row}
+use Rattle.picky_kv.specs.Argon2Keys.{argon2_parallelism_key_row, argon2_salt_key_row}
+use Rattle.picky_kv.specs.declared.PpkValueError.TheVariants as value
+use Rattle.picky_kv.specs.declared.PpkEncryptionValue.TheVariants as encryptions
+use Rattle.picky_kv.specs.declared.error.KvError.TheVariants as kv
 use Rattle.picky_ppk_parts.specs.declared.error.PuttyError.{PuttyError}
 use Rattle.picky_ppk_parts.specs.declared.error.PuttyError.TheVariants as putty
 use Rattle.picky_ppk_file.specs.File.{is_sealed}

@@ -1,67 +1,44 @@
 -- A meaning that is read keeps what a meaning keeps.
 use Rattle.std.specs.Prelude.{◌≡◌, ◌<◌, ◌^◌, ◌++◌, ◌∷◌, [], List, ℕ, suc, zero, length, take, drop, replicate, codes, Option}
 use Rattle.std.specs.Prelude.{None, Some, Ok}
-use Rattle.std.specs.Option.{IfSome}
-use Rattle.std.specs.Int.{to_be_bytes, w32}
-use Rattle.std.specs.Str.{IsUtf8}
+use Rattle.std.specs.{Option.{IfSome}, Int.{to_be_bytes, w32}, Str.{IsUtf8}}
 use Rattle.std.proofs.Common.{sym, subst, ◌∙◌, arith, append_assoc, slice_index, inl, inr}
 use Rattle.sha1.specs.Sha1.{sha1, digest_bytes}
-use Rattle.picky_wire_base.specs.Numbers.{IsBytes}
-use Rattle.picky_wire_base.proofs.Numbers.{bytes_in_front, bytes_behind, front_bytes, back_bytes}
-use Rattle.picky_wire_base.specs.Zeros.{without_zeros}
-use Rattle.picky_wire_base.specs.carried.Zeros.{zeros_in_front}
+use Rattle.picky_wire_base.specs.{Numbers.{IsBytes}, Zeros.{without_zeros}, carried.Zeros.{zeros_in_front}}
+use Rattle.picky_wire_base.proofs.Numbers.{bytes_in_front, bytes_behind, front_bytes, back_bytes, EachByte, each_by_place}
 use Rattle.picky_text.specs.Words.{after_body}
-use Rattle.picky_text.proofs.ListLaws.{all_append, all_replicate}
-use Rattle.picky_text.proofs.WordLaws.{rest_of_line_is_text}
-use Rattle.picky_wire_base.proofs.Numbers.{EachByte, each_by_place}
-use Rattle.picky_kv.specs.Field.{Field, field_value}
-use Rattle.picky_kv.specs.ValueFields.{comment_field}
-use Rattle.picky_kv.specs.Values.{is_long, comment_row}
+use Rattle.picky_text.proofs.{ListLaws.{all_append, all_replicate}, WordLaws.{rest_of_line_is_text}}
+use Rattle.picky_kv.specs.{Field.{Field, field_value}, ValueFields.{comment_field}, Values.{is_long, comment_row}}
 use Rattle.picky_kv.specs.Parts.{IsPair}
-use Rattle.picky_keys.specs.declared.public_key.PublicKey.{PublicKey}
+use Rattle.picky_keys.specs.{declared.public_key.PublicKey.{PublicKey}, declared.key.SshPublicKey.{SshPublicKey}}
+use Rattle.picky_keys.specs.{Key.{IsKey, IsNumber, IsText, IsEdKey}, Line.{IsPublicLine}}
 use Rattle.picky_keys.specs.declared.public_key.PublicKey.TheVariants as plain
 use Rattle.picky_suite.specs.Meanings.{Meanings}
-use Rattle.picky_keys.specs.declared.key.SshPublicKey.{SshPublicKey}
-use Rattle.picky_keys.specs.Key.{IsKey, IsNumber, IsText, IsEdKey}
-use Rattle.picky_keys.specs.Line.{IsPublicLine}
-use Rattle.picky_cert.specs.declared.certificate.SshCertificate.{SshCertificate}
-use Rattle.picky_cert.specs.Line.{IsCertificateLine}
+use Rattle.picky_cert.specs.{declared.certificate.SshCertificate.{SshCertificate}, Line.{IsCertificateLine}}
 use Rattle.picky_cert.proofs.LineLaws.{line_keeps as certificate_keeps}
-use Rattle.picky_keys.proofs.ByteLaws.{bytes_joined}
+use Rattle.picky_keys.proofs.ByteLaws.{bytes_joined, utf8_is_bytes}
 use Rattle.picky_keys.proofs.KeyLaws.{number_keeps, string_keeps, spelled_is_key}
-use Rattle.picky_sshkey_blob.specs.declared.key.SshBasePrivateKey.{SshBasePrivateKey}
-use Rattle.picky_sshkey_blob.specs.Key.{IsPrivateKey}
+use Rattle.picky_sshkey_blob.specs.{declared.key.SshBasePrivateKey.{SshBasePrivateKey}, Key.{IsPrivateKey}}
 use Rattle.picky_sshkey.specs.declared.private_key.SshPrivateKey.{SshPrivateKey}
 use Rattle.picky_sshkey.specs.PrivateText.{IsPrivateText, IsShortPass}
-use Rattle.picky_sshkey.proofs.MeaningLaws.{text_means}
-use Rattle.picky_sshkey.proofs.ReadLaws.{text_is_kept}
+use Rattle.picky_sshkey.proofs.{MeaningLaws.{text_means}, ReadLaws.{text_is_kept}}
 use Rattle.picky_ppk_parts.specs.Algorithm.{ssh_key_of}
 use Rattle.picky_ppk_parts.specs.Material.{counted_digest, cipher_key_v2, derived_v3, flavour_named}
 use Rattle.picky_ppk_parts.specs.Parts.{StandsForKey}
-use Rattle.picky_ppk_parts.specs.Secret.{RsaSecret, rsa_key, rsa_secret, ed_secret}
-use Rattle.picky_ppk_parts.specs.Secret.{rsa_fields, ec_fields, ed_fields, ppk_secret_fields}
+use Rattle.picky_ppk_parts.specs.Secret.{RsaSecret, rsa_key, rsa_secret, ed_secret, rsa_fields, ec_fields, ed_fields}
+use Rattle.picky_ppk_parts.specs.Secret.{ppk_secret_fields}
 use Rattle.picky_ppk_file.specs.PuttyPublic.{IsPuttyPublic, SaysPuttyPublic, comment_start}
-use Rattle.picky_ppk_file.specs.declared.file.PpkFile.{PpkFile}
-use Rattle.picky_ppk_file.specs.declared.file.PpkSealing.{PpkSealing}
+use Rattle.picky_ppk_file.specs.{declared.file.PpkFile.{PpkFile}, declared.file.PpkSealing.{PpkSealing}}
 use Rattle.picky_ppk_file.specs.declared.file.PpkSealing.TheVariants.{Unsealed, SealedV2, SealedV3}
-use Rattle.picky_ppk_file.specs.File.{IsFile, IsSealing}
-use Rattle.picky_ppk_file.specs.FileText.{SaysFile}
-use Rattle.picky_ppk_file.proofs.FileLaws.{said_is_meant}
-use Rattle.picky_ppk_file.proofs.LineSteps.{judged_ok}
-use Rattle.picky_ppk_file.proofs.RangeLaws.{fields_in_ranges}
+use Rattle.picky_ppk_file.specs.{File.{IsFile, IsSealing}, FileText.{SaysFile}}
+use Rattle.picky_ppk_file.proofs.{FileLaws.{said_is_meant}, LineSteps.{judged_ok}, RangeLaws.{fields_in_ranges}}
 use Rattle.picky_ppk.specs.Keyed.{keys_under}
-use Rattle.picky_key_text.specs.declared.form.Form.{Form}
-use Rattle.picky_key_text.specs.declared.form.Form.TheVariants as forms
-use Rattle.picky_key_text.specs.declared.meaning.Meaning.{Meaning}
-use Rattle.picky_key_text.specs.Form.{form_of}
+use Rattle.picky_key_text.specs.{declared.form.Form.{Form}, declared.meaning.Meaning.{Meaning}, Form.{form_of}}
 use Rattle.picky_key_text.specs.Key.{certificate_meaning, public_key, public_meaning, private_meaning}
-use Rattle.picky_key_text.specs.Kept.{IsKeptMeaning}
-use Rattle.picky_key_text.specs.Order.{reading}
-use Rattle.picky_key_text.specs.PpkText.{IsUnsealed, AreOpened, IsPpkText}
-use Rattle.picky_key_text.specs.Reader.{Reader}
-use Rattle.picky_key_text.specs.Reads.{Means}
+use Rattle.picky_key_text.specs.{Kept.{IsKeptMeaning}, Order.{reading}, PpkText.{IsUnsealed, AreOpened, IsPpkText}}
+use Rattle.picky_key_text.specs.{Reader.{Reader}, Reads.{Means}}
+use Rattle.picky_key_text.specs.declared.form.Form.TheVariants as forms
 use Rattle.picky_key_text.proofs.ReadingLaws.{reading_says}
-use Rattle.picky_keys.proofs.ByteLaws.{utf8_is_bytes}
 use Rattle.picky_key_text.proofs.Utf8Laws.{cut_at_ascii, AreUtf8, lines_are_utf8, unquote_is_utf8}
 
 -- ---- a key that stands in bytes

@@ -1,40 +1,29 @@
 -- A PuTTY private key file's text: its order of refusals ends in a meaning exactly where the text says it.
-use Rattle.std.specs.Prelude.{◌≡◌, ◌⊎◌, ◌&&◌, ◌%◌, Bool, true, false, List, ℕ, length, take, Some, Result, Ok, Err, if◌then◌else◌}
-use Rattle.std.specs.Option.{ok_or}
-use Rattle.std.specs.Str.{bytes_eq}
-use Rattle.std.proofs.Common.{refl, sym, ap, subst, ◌∙◌, inl, inr, eq-eqb}
-use Rattle.std.proofs.lemmas.Bool.{cases_Bool, eqb-true}
+use Rattle.std.specs.Prelude.{◌≡◌, ◌⊎◌, ◌&&◌, ◌%◌, Bool, true, false, List, ℕ, length, take, Some, Result, Ok, Err}
+use Rattle.std.specs.Prelude.{if◌then◌else◌}
+use Rattle.std.specs.{Option.{ok_or}, Str.{bytes_eq}}
+use Rattle.std.proofs.{Common.{refl, sym, ap, subst, ◌∙◌, inl, inr, eq-eqb}, lemmas.Bool.{cases_Bool, eqb-true}}
 use Rattle.std.proofs.lemmas.Slice.Eq.{bytes_eq-Decides}
-use Rattle.picky_wire_base.specs.Outcome.{and_then}
-use Rattle.picky_wire_base.specs.carried.Outcome.{and_then_ok}
+use Rattle.picky_wire_base.specs.{Outcome.{and_then}, carried.Outcome.{and_then_ok}}
 use Rattle.picky_suite.specs.Meanings.{Meanings}
 use Rattle.picky_suite.proofs.RangeLemmas.{argon2_decides}
 use Rattle.picky_keys.proofs.LineLaws.{chosen, some_of}
 use Rattle.picky_sshkey_blob.specs.declared.key.SshBasePrivateKey.{SshBasePrivateKey}
-use Rattle.picky_ppk_parts.specs.declared.error.PuttyError.{PuttyError}
+use Rattle.picky_ppk_parts.specs.{declared.error.PuttyError.{PuttyError}, Aes.{is_aligned}, Counted.{counted}}
+use Rattle.picky_ppk_parts.specs.{Material.{params_fit}, Parts.{StandsForKey}}
 use Rattle.picky_ppk_parts.specs.declared.error.PuttyError.TheVariants as errors
-use Rattle.picky_ppk_parts.specs.Aes.{is_aligned}
-use Rattle.picky_ppk_parts.specs.Counted.{counted}
-use Rattle.picky_ppk_parts.specs.Material.{params_fit}
-use Rattle.picky_ppk_parts.specs.Parts.{StandsForKey}
-use Rattle.picky_ppk_file.specs.declared.file.PpkFile.{PpkFile}
-use Rattle.picky_ppk_file.specs.declared.file.PpkSealing.{PpkSealing}
+use Rattle.picky_ppk_file.specs.{declared.file.PpkFile.{PpkFile}, declared.file.PpkSealing.{PpkSealing}}
 use Rattle.picky_ppk_file.specs.declared.file.PpkSealing.TheVariants.{Unsealed, SealedV2, SealedV3}
-use Rattle.picky_ppk_file.specs.File.{is_sealed}
-use Rattle.picky_ppk_file.specs.FileRefusal.{file_meaning}
+use Rattle.picky_ppk_file.specs.{File.{is_sealed}, FileRefusal.{file_meaning}}
 use Rattle.picky_ppk_file.proofs.FileLaws.{meaning_is_said, said_is_meant}
-use Rattle.picky_ppk.specs.Checked.{checked, ppk_meaning}
-use Rattle.picky_ppk.specs.Keyed.{can_derive, keys_under}
-use Rattle.picky_ppk.specs.KeyOf.{base_key_of}
+use Rattle.picky_ppk.specs.{Checked.{checked, ppk_meaning}, Keyed.{can_derive, keys_under}, KeyOf.{base_key_of}}
 use Rattle.picky_ppk.specs.Mac.{CarriesMac, own_mac, mac_under}
 use Rattle.picky_ppk.specs.Opened.{decrypted, is_openable, not_openable, opened_file, unsealed}
 use Rattle.picky_ppk.proofs.CheckedLaws.{file_is_taken, taken_file_carries}
 use Rattle.picky_ppk.proofs.KeyLaws.{found_key_stands, standing_key_is_found}
-use Rattle.picky_key_text.specs.declared.meaning.Meaning.{Meaning}
-use Rattle.picky_key_text.specs.Key.{private_meaning}
+use Rattle.picky_key_text.specs.{declared.meaning.Meaning.{Meaning}, Key.{private_meaning}}
 use Rattle.picky_key_text.specs.Order.{opened, file_key, ppk_key}
-use Rattle.picky_key_text.specs.PpkText.{CanOpen, IsUnsealed, AreOpened, IsPpkText}
-use Rattle.picky_key_text.specs.Reader.{Reader}
+use Rattle.picky_key_text.specs.{PpkText.{CanOpen, IsUnsealed, AreOpened, IsPpkText}, Reader.{Reader}}
 use Rattle.picky_ppk_parts.proofs.CountedLaws.{standing_is_counted}
 use Rattle.picky_key_text.proofs.CountedLemmas.{uncut_stands, counted_stands}
 

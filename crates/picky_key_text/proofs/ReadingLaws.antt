@@ -1,40 +1,29 @@
 -- What a key text means: its order of refusals is Ok exactly where the reading relation holds.
-use Rattle.std.specs.Prelude.{◌≡◌, ◌⊎◌, Bool, List, ℕ, Option, Result, Ok, Err, IfOk}
-use Rattle.std.specs.Option.{IfSome}
-use Rattle.std.specs.Str.{IsUtf8}
+use Rattle.std.specs.{Prelude.{◌≡◌, ◌⊎◌, Bool, List, ℕ, Option, Result, Ok, Err, IfOk}, Option.{IfSome}, Str.{IsUtf8}}
 use Rattle.std.proofs.Common.{refl, sym, ap, subst, ◌∙◌, inl, inr}
-use Rattle.picky_wire_base.specs.Numbers.{IsBytes}
-use Rattle.picky_wire_base.specs.Outcome.{and_then, map_err}
+use Rattle.picky_wire_base.specs.{Numbers.{IsBytes}, Outcome.{and_then, map_err}}
 use Rattle.picky_wire_base.specs.carried.Outcome.{and_then_ok, map_err_ok}
-use Rattle.picky_keys.specs.declared.key.SshPublicKey.{SshPublicKey}
-use Rattle.picky_keys.specs.LineRefusal.{line_meaning}
-use Rattle.picky_keys.proofs.LineLaws.{line_meaning_of, line_meaning_says}
+use Rattle.picky_keys.specs.{declared.key.SshPublicKey.{SshPublicKey}, LineRefusal.{line_meaning}}
+use Rattle.picky_keys.proofs.{LineLaws.{line_meaning_of, line_meaning_says}, ByteLaws.{utf8_is_bytes}}
 use Rattle.picky_cert.specs.LineRefusal.{line_meaning as certificate_of}
 use Rattle.picky_cert.proofs.LineLaws.{line_meaning_of as certificate_is_read, line_meaning_says as certificate_says}
-use Rattle.picky_suite.specs.Asked.{GivesAsked, LeavesSuite}
-use Rattle.picky_suite.specs.Failures.{IsAskedFault}
-use Rattle.picky_suite.specs.Meanings.{Meanings}
+use Rattle.picky_suite.specs.{Asked.{GivesAsked, LeavesSuite}, Failures.{IsAskedFault}, Meanings.{Meanings}}
 use Rattle.picky_sshkey.specs.PrivateRefusal.{text_key}
 use Rattle.picky_sshkey.proofs.MeaningLaws.{text_says, text_means}
-use Rattle.picky_ppk_file.specs.PuttyRefusal.{putty_meaning, to_openssh}
+use Rattle.picky_ppk_file.specs.{PuttyRefusal.{putty_meaning, to_openssh}, declared.file.PpkFile.{PpkFile}}
 use Rattle.picky_ppk_file.proofs.KeyLaws.{putty_key_of, putty_key_says}
 use Rattle.picky_ppk_parts.specs.declared.error.PuttyError.{PuttyError}
 use Rattle.picky_ppk_parts.specs.declared.error.PuttyError.TheVariants as putty
-use Rattle.picky_ppk_file.specs.declared.file.PpkFile.{PpkFile}
 use Rattle.picky_ppk.specs.Checked.{ppk_meaning}
-use Rattle.picky_key_text.specs.declared.error.ReadError.{ReadError}
-use Rattle.picky_key_text.specs.declared.error.ReadError.TheVariants as errors
-use Rattle.picky_key_text.specs.declared.form.Form.{Form}
-use Rattle.picky_key_text.specs.declared.form.Form.TheVariants as forms
-use Rattle.picky_key_text.specs.declared.meaning.Meaning.{Meaning}
-use Rattle.picky_key_text.specs.Form.{form_of}
+use Rattle.picky_key_text.specs.{declared.error.ReadError.{ReadError}, declared.form.Form.{Form}}
+use Rattle.picky_key_text.specs.{declared.meaning.Meaning.{Meaning}, Form.{form_of}}
 use Rattle.picky_key_text.specs.Key.{certificate_meaning, public_key, public_meaning}
 use Rattle.picky_key_text.specs.Order.{envelope_meaning, opened, file_key, file_asks, ppk_key, ppk_asks, reading_as, reading}
 use Rattle.picky_key_text.specs.Order.{asks, asks_as, fault_as, fault_of}
-use Rattle.picky_key_text.specs.Reader.{Reader}
-use Rattle.picky_key_text.specs.Reads.{Means, Reads}
+use Rattle.picky_key_text.specs.{Reader.{Reader}, Reads.{Means, Reads}}
+use Rattle.picky_key_text.specs.declared.error.ReadError.TheVariants as errors
+use Rattle.picky_key_text.specs.declared.form.Form.TheVariants as forms
 use Rattle.picky_key_text.proofs.PpkLemmas.{taken_file, ppk_says, ppk_is_read}
-use Rattle.picky_keys.proofs.ByteLaws.{utf8_is_bytes}
 
 -- ---- what is read is said
 

@@ -1,28 +1,23 @@
 -- No order of refusals answers a fault of the suite or want of memory, which are the code's alone.
-use Rattle.std.specs.Prelude.{◌≡◌, ◌≢◌, List, [], ◌∷◌, ℕ, Option, Result, Ok, Err, if◌then◌else◌}
-use Rattle.std.specs.Prelude.{not}
+use Rattle.std.specs.Prelude.{◌≡◌, ◌≢◌, List, [], ◌∷◌, ℕ, Option, Result, Ok, Err, if◌then◌else◌, not}
 use Rattle.std.specs.Option.{ok_or}
 use Rattle.std.proofs.Common.{refl, ap, subst, ◌∙◌, inl, inr}
 use Rattle.picky_wire_base.specs.Flaw.{Flaw, Short, NotUtf8, Big, Flawed, Length, Magic, Name, Number, Reason}
-use Rattle.picky_wire_base.specs.Outcome.{and_then, map_err}
-use Rattle.picky_text.specs.Base64.{decoded}
-use Rattle.picky_text.specs.Lines.{lines}
+use Rattle.picky_wire_base.specs.{Outcome.{and_then, map_err}, Gives.{Gives}}
+use Rattle.picky_text.specs.{Base64.{decoded}, Lines.{lines}}
 use Rattle.picky_suite.specs.Meanings.{Meanings}
 use Rattle.picky_keys.specs.declared.curve.EcCurve.{EcCurve}
 use Rattle.picky_keys.specs.declared.curve.EcCurve.TheVariants.{NistP256, NistP384, NistP521}
-use Rattle.picky_wire_base.specs.Gives.{Gives}
+use Rattle.picky_keys.specs.declared.error.SshPublicKeyError.{SshPublicKeyError}
+use Rattle.picky_keys.specs.declared.key.SshBasePublicKey.{SshBasePublicKey}
+use Rattle.picky_keys.specs.{declared.key.SshPublicKey.{SshPublicKey}, BlobRefusal.{read_blob}}
+use Rattle.picky_keys.specs.{LineRefusal.{blob_key, line_meaning}, carried.BlobLayout.{blob_own}}
+use Rattle.picky_keys.specs.carried.SourceLine.{line_own}
 use Rattle.picky_cert.specs.LineRefusal.{line_meaning as certificate_of}
 use Rattle.picky_cert.proofs.LineLaws.{line_no_want as certificate_no_want}
-use Rattle.picky_keys.specs.declared.error.SshPublicKeyError.{SshPublicKeyError}
 use Rattle.picky_keys.specs.declared.error.SshPublicKeyError.TheVariants as public
-use Rattle.picky_keys.specs.declared.key.SshBasePublicKey.{SshBasePublicKey}
 use Rattle.picky_keys.specs.declared.key.SshBasePublicKey.TheVariants as public_keys
-use Rattle.picky_keys.specs.declared.key.SshPublicKey.{SshPublicKey}
 use Rattle.picky_sshkey_blob.specs.declared.key.SshBasePrivateKey.{SshBasePrivateKey}
-use Rattle.picky_keys.specs.BlobRefusal.{read_blob}
-use Rattle.picky_keys.specs.LineRefusal.{blob_key, line_meaning}
-use Rattle.picky_keys.specs.carried.BlobLayout.{blob_own}
-use Rattle.picky_keys.specs.carried.SourceLine.{line_own}
 use Rattle.picky_sshkey_blob.specs.declared.error.SshPrivateKeyError.{SshPrivateKeyError}
 use Rattle.picky_sshkey.specs.PrivateRefusal.{text_key}
 use Rattle.picky_sshkey.proofs.FaultLaws.{text_no_fault}
@@ -30,29 +25,22 @@ use Rattle.picky_sshkey.proofs.RefusalLaws.{Refuses, err_as, if_as, map_as, ok_a
 use Rattle.picky_kv.specs.declared.algorithm.PpkKeyAlgorithmValue.{PpkKeyAlgorithmValue}
 use Rattle.picky_kv.specs.declared.algorithm.PpkKeyAlgorithmValue.TheVariants as algorithms
 use Rattle.picky_ppk_parts.specs.declared.error.PuttyError.{PuttyError}
-use Rattle.picky_ppk_parts.specs.declared.error.PuttyError.TheVariants as putty
-use Rattle.picky_ppk_parts.specs.Algorithm.{rsa_of, ec_of, ed_of, key_under, same_curve}
-use Rattle.picky_ppk_parts.specs.Counted.{counted}
-use Rattle.picky_ppk_parts.specs.PartsRefusal.{flaw_error, secret_error, key_in_blob, public_key_under, key_with_secret, parts_key}
+use Rattle.picky_ppk_parts.specs.{Algorithm.{rsa_of, ec_of, ed_of, key_under, same_curve}, Counted.{counted}}
+use Rattle.picky_ppk_parts.specs.PartsRefusal.{flaw_error, secret_error, key_in_blob, public_key_under, key_with_secret}
+use Rattle.picky_ppk_parts.specs.PartsRefusal.{parts_key}
 use Rattle.picky_ppk_parts.specs.Unsupported.{no_such_algorithm}
+use Rattle.picky_ppk_parts.specs.declared.error.PuttyError.TheVariants as putty
 use Rattle.picky_ppk_file.specs.PuttyRefusal.{of_lines, of_blob, of_parts, after_comment, after_header, quoted, body_from}
 use Rattle.picky_ppk_file.specs.PuttyRefusal.{putty_meaning, to_openssh}
 use Rattle.picky_ppk_file.specs.declared.putty_public.PuttyPublicKey.{PuttyPublicKey}
-use Rattle.picky_ppk_file.specs.declared.file.PpkFile.{PpkFile}
-use Rattle.picky_ppk_file.specs.File.{is_sealed}
-use Rattle.picky_ppk.specs.Changed.{open_file}
-use Rattle.picky_ppk.specs.Checked.{ppk_meaning}
-use Rattle.picky_ppk.specs.Keyed.{can_derive}
-use Rattle.picky_ppk.specs.KeyOf.{base_key_of}
+use Rattle.picky_ppk_file.specs.{declared.file.PpkFile.{PpkFile}, File.{is_sealed}}
+use Rattle.picky_ppk.specs.{Changed.{open_file}, Checked.{ppk_meaning}, Keyed.{can_derive}, KeyOf.{base_key_of}}
 use Rattle.picky_ppk.specs.Opened.{decrypted, is_openable, not_openable}
-use Rattle.picky_key_text.specs.declared.error.ReadError.{ReadError}
-use Rattle.picky_key_text.specs.declared.error.ReadError.TheVariants as errors
-use Rattle.picky_key_text.specs.declared.form.Form.{Form}
-use Rattle.picky_key_text.specs.declared.form.Form.TheVariants as forms
-use Rattle.picky_key_text.specs.Form.{form_of}
-use Rattle.picky_key_text.specs.Order.{opened, file_key, ppk_key, reading_as, reading}
-use Rattle.picky_key_text.specs.Reader.{Reader}
+use Rattle.picky_key_text.specs.{declared.error.ReadError.{ReadError}, declared.form.Form.{Form}, Form.{form_of}}
+use Rattle.picky_key_text.specs.{Order.{opened, file_key, ppk_key, reading_as, reading}, Reader.{Reader}}
 use Rattle.picky_key_text.specs.Want.{WantsMemory, IsFault}
+use Rattle.picky_key_text.specs.declared.error.ReadError.TheVariants as errors
+use Rattle.picky_key_text.specs.declared.form.Form.TheVariants as forms
 use Rattle.picky_key_text.proofs.FileRefusalLemmas.{IsOwnPublic, IsOwnPutty, either, mapped_as, ppk_meaning_own}
 
 -- ---- the keys in it

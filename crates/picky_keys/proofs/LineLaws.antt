@@ -1,40 +1,29 @@
 -- The laws of a line: its meaning is what it says, and what is written is read back.
-use Rattle.std.specs.Prelude.{◌≡◌, ◌&&◌, Bool, true, false, if◌then◌else◌, is_some, List, [], ◌∷◌, ℕ, ◌+◌}
-use Rattle.std.specs.Prelude.{◌++◌, ◌<◌, ◌^◌, length, Option, Some, None, Result, Ok, Err, IsUtf8}
+use Rattle.std.specs.Prelude.{◌≡◌, ◌&&◌, Bool, true, false, if◌then◌else◌, is_some, List, [], ◌∷◌, ℕ, ◌+◌, ◌++◌, ◌<◌, ◌^◌}
+use Rattle.std.specs.Prelude.{length, Option, Some, None, Result, Ok, Err, IsUtf8}
 use Rattle.std.specs.Option.{ok_or}
 use Rattle.std.proofs.Common.{sym, ◌∙◌, ap, subst, refl, arith, append_assoc}
-use Rattle.std.proofs.lemmas.Bool.{ltb-true, lt-ltb, and_parts}
-use Rattle.std.proofs.lemmas.List.{append-nil, length-append}
-use Rattle.picky_wire_base.specs.carried.Outcome.{and_then_ok, map_err_ok}
-use Rattle.picky_wire_base.specs.Outcome.{map_err}
-use Rattle.picky_wire_base.specs.Grammar.{Fits}
-use Rattle.picky_wire_base.specs.Numbers.{IsBytes}
-use Rattle.picky_wire_base.specs.Table.{find_entry}
-use Rattle.picky_text.specs.Base64.{base64_of, decoded}
+use Rattle.std.proofs.{lemmas.Bool.{ltb-true, lt-ltb, and_parts}, lemmas.List.{append-nil, length-append}}
+use Rattle.picky_wire_base.specs.{carried.Outcome.{and_then_ok, map_err_ok}, Outcome.{map_err}, Grammar.{Fits}}
+use Rattle.picky_wire_base.specs.{Numbers.{IsBytes}, Table.{find_entry}}
+use Rattle.picky_text.specs.{Base64.{base64_of, decoded}, declared.lines.LineEnd.TheVariants.{CrLf}}
+use Rattle.picky_text.specs.Words.{first_word, after_word, body_word, after_body, comment_of, AreParts, HasParts}
 use Rattle.picky_text.proofs.Base64Laws.{base64_is_read_back, base64_is_of_what_it_gives, decoded_is_bytes}
-use Rattle.picky_text.specs.declared.lines.LineEnd.TheVariants.{CrLf}
-use Rattle.picky_text.specs.Words.{first_word, after_word, body_word, after_body, comment_of, AreParts}
-use Rattle.picky_text.specs.Words.{HasParts}
-use Rattle.picky_text.proofs.WordLaws.{key_line_is_read_back, key_line_alone, base64_is_word, rest_text_is}
-use Rattle.picky_text.proofs.WordLaws.{rest_text_says}
-use Rattle.picky_keys.specs.declared.kind.KeyKind.{KeyKind}
-use Rattle.picky_keys.specs.declared.curve.EcCurve.TheVariants.{NistP256}
-use Rattle.picky_keys.specs.KeyNameTables.{key_types}
-use Rattle.picky_keys.specs.KeyNames.{kind_name}
-use Rattle.picky_keys.proofs.KeyNames.{kind_of_name, name_of_kind}
-use Rattle.picky_keys.specs.declared.error.SshPublicKeyError.TheVariants as errors
+use Rattle.picky_text.proofs.WordLaws.{key_line_is_read_back, key_line_alone, base64_is_word, rest_text_is, rest_text_says}
+use Rattle.picky_keys.specs.{declared.kind.KeyKind.{KeyKind}, declared.curve.EcCurve.TheVariants.{NistP256}}
+use Rattle.picky_keys.specs.{KeyNameTables.{key_types}, KeyNames.{kind_name}}
 use Rattle.picky_keys.specs.declared.key.SshBasePublicKey.{SshBasePublicKey}
-use Rattle.picky_keys.specs.declared.key.SshBasePublicKey.TheVariants as keys
-use Rattle.picky_keys.specs.declared.key.SshPublicKey.{SshPublicKey}
-use Rattle.picky_keys.specs.Key.{IsKey, kind_of}
-use Rattle.picky_keys.specs.Blob.{blob, blob_of, fields_spelled}
-use Rattle.picky_keys.specs.BlobRefusal.{blob_error, read_blob}
+use Rattle.picky_keys.specs.{declared.key.SshPublicKey.{SshPublicKey}, Key.{IsKey, kind_of}}
+use Rattle.picky_keys.specs.{Blob.{blob, blob_of, fields_spelled}, BlobRefusal.{blob_error, read_blob}}
 use Rattle.picky_keys.specs.carried.Blob.{blob_spells}
 use Rattle.picky_keys.specs.Line.{IsPublicLine, line_of, line_name, line_body, IsReadBackPublicKey}
-use Rattle.picky_keys.specs.LineRefusal.{blob_key, body_key, is_key_type, is_short, line_meaning}
-use Rattle.picky_keys.specs.LineRefusal.{words_meaning, is_short_text, comment_text}
-use Rattle.picky_keys.proofs.ByteLaws.{bytes_joined, string_bytes_each, mpint_bytes_each, no_bytes}
-use Rattle.picky_keys.proofs.ByteLaws.{word_is_bytes, after_bytes, name_is_word, name_bytes, identifier_bytes}
+use Rattle.picky_keys.specs.LineRefusal.{blob_key, body_key, is_key_type, is_short, line_meaning, words_meaning, is_short_text}
+use Rattle.picky_keys.specs.LineRefusal.{comment_text}
+use Rattle.picky_keys.proofs.KeyNames.{kind_of_name, name_of_kind}
+use Rattle.picky_keys.proofs.ByteLaws.{bytes_joined, string_bytes_each, mpint_bytes_each, no_bytes, word_is_bytes, after_bytes}
+use Rattle.picky_keys.proofs.ByteLaws.{name_is_word, name_bytes, identifier_bytes}
+use Rattle.picky_keys.specs.declared.error.SshPublicKeyError.TheVariants as errors
+use Rattle.picky_keys.specs.declared.key.SshBasePublicKey.TheVariants as keys
 
 -- ---- a blob and its key
 

@@ -1,34 +1,25 @@
 -- What is written has no CR and no LF.
-use Rattle.std.proofs.Common.{◌≡◌, ◌≢◌, ℕ, ◌^◌, ◌<◌, ◌/◌, ◌%◌, true, List, [], ◌∷◌, None, refl}
-use Rattle.std.proofs.Common.{sym, ◌∙◌, ap, arith}
-use Rattle.std.specs.Fmt.{decimal}
-use Rattle.std.specs.List.{AllByRecursion}
+use Rattle.std.proofs.Common.{◌≡◌, ◌≢◌, ℕ, ◌^◌, ◌<◌, ◌/◌, ◌%◌, true, List, [], ◌∷◌, None, refl, sym, ◌∙◌, ap, arith}
 use Rattle.std.proofs.lemmas.Fmt.{decimal_is_IsNumeral}
+use Rattle.std.specs.{Fmt.{decimal}, List.{AllByRecursion}}
 use Rattle.hex.specs.Hex.{encode_lower, hex_digit_value}
 use Rattle.hex.proofs.HexLemmas.{IsDigits-lower_digits}
 use Rattle.picky_wire_base.specs.Numbers.{IsBytes}
-use Rattle.picky_text.proofs.Base64Laws.{base64_has_no}
-use Rattle.picky_text.specs.Lines.{HasNo}
-use Rattle.picky_text.specs.Rows.{rows_of}
-use Rattle.picky_text.proofs.RowLaws.{rows_have_no}
-use Rattle.picky_kv.specs.Algorithm.{algorithm_literal}
-use Rattle.picky_kv.specs.AlgorithmField.{algorithm_field}
-use Rattle.picky_kv_words.specs.ChoiceFields.{encryption_field, flavour_field}
-use Rattle.picky_kv_words.specs.Choices.{encryption_literal, flavour_literal}
-use Rattle.picky_kv_words.specs.Literal.{is_plain}
-use Rattle.picky_kv.specs.NumberFields.{u32_field, count_field}
-use Rattle.picky_kv.specs.Parts.{HasNoLineEnd, AreOneLine}
-use Rattle.picky_kv_words.specs.ValueFields.{base64_field, hex_field}
-use Rattle.picky_kv_words.specs.Values.{padded_base64, AreHexPairs}
-use Rattle.picky_kv_words.specs.Values.{IsLowerDigit}
+use Rattle.picky_text.proofs.{Base64Laws.{base64_has_no}, RowLaws.{rows_have_no}}
+use Rattle.picky_text.specs.{Lines.{HasNo}, Rows.{rows_of}}
+use Rattle.picky_kv.specs.{Algorithm.{algorithm_literal}, AlgorithmField.{algorithm_field}}
+use Rattle.picky_kv.specs.{NumberFields.{u32_field, count_field}, Parts.{HasNoLineEnd, AreOneLine}}
 use Rattle.picky_kv.specs.declared.algorithm.PpkKeyAlgorithmValue.{PpkKeyAlgorithmValue}
-use Rattle.picky_kv.specs.declared.algorithm.PpkKeyAlgorithmValue.TheVariants as algorithm
+use Rattle.picky_kv_words.specs.ChoiceFields.{encryption_field, flavour_field}
+use Rattle.picky_kv_words.specs.{Choices.{encryption_literal, flavour_literal}, Literal.{is_plain}}
+use Rattle.picky_kv_words.specs.ValueFields.{base64_field, hex_field}
+use Rattle.picky_kv_words.specs.Values.{padded_base64, AreHexPairs, IsLowerDigit}
 use Rattle.picky_kv_words.specs.declared.choices.PpkEncryptionValue.{PpkEncryptionValue}
-use Rattle.picky_kv_words.specs.declared.choices.PpkEncryptionValue.TheVariants as encryption
 use Rattle.picky_kv_words.specs.declared.choices.Argon2FlavourValue.{Argon2FlavourValue}
+use Rattle.picky_kv.specs.declared.algorithm.PpkKeyAlgorithmValue.TheVariants as algorithm
+use Rattle.picky_kv_words.specs.declared.choices.PpkEncryptionValue.TheVariants as encryption
 use Rattle.picky_kv_words.specs.declared.choices.Argon2FlavourValue.TheVariants as flavour
-use Rattle.picky_kv.proofs.ReadBackLemmas.{plain, digits_have_no}
-use Rattle.picky_kv.proofs.ValueLemmas.{hex_is_lower, base64_is_padded}
+use Rattle.picky_kv.proofs.{ReadBackLemmas.{plain, digits_have_no}, ValueLemmas.{hex_is_lower, base64_is_padded}}
 
 -- ---- literals
 

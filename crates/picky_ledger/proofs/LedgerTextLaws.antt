@@ -1,34 +1,24 @@
 -- A ledger's text is read as that ledger, and only a ledger's text is read.
-use Rattle.std.proofs.Common.{◌≡◌, ◌≢◌, ◌<◌, ◌^◌, ◌+◌, ◌∙◌, ◌++◌, ◌∷◌, ℕ, Bool, List, [], Option, Some, None, Ok}
-use Rattle.std.proofs.Common.{true, ap, arith, flat_map, if◌then◌else◌, length, nat_lt, refl, subst, sym, take, drop}
-use Rattle.std.proofs.lemmas.Bool.Decides.{nat_tests}
-use Rattle.std.proofs.lemmas.Fmt.{decimal_by_steps}
-use Rattle.std.proofs.lemmas.Grind.{flat_map-append}
+use Rattle.std.proofs.Common.{◌≡◌, ◌≢◌, ◌<◌, ◌^◌, ◌+◌, ◌∙◌, ◌++◌, ◌∷◌, ℕ, Bool, List, [], Option, Some, None, Ok, true, ap}
+use Rattle.std.proofs.Common.{arith, flat_map, if◌then◌else◌, length, nat_lt, refl, subst, sym, take, drop}
+use Rattle.std.proofs.{lemmas.Bool.Decides.{nat_tests}, lemmas.Fmt.{decimal_by_steps}, lemmas.Grind.{flat_map-append}}
 use Rattle.std.proofs.lemmas.List.{append_assoc, append-nil, length-append, take-append-drop}
 use Rattle.std.proofs.lemmas.Slice.Eq.{bytes_eq-Decides}
-use Rattle.std.specs.Fmt.{decimal}
-use Rattle.std.specs.List.{AllByRecursion}
-use Rattle.std.specs.Str.{IsUtf8, bytes_eq}
+use Rattle.std.specs.{Fmt.{decimal}, List.{AllByRecursion}, Str.{IsUtf8, bytes_eq}}
 use Rattle.picky_text.specs.Lines.{HasNo}
 use Rattle.picky_text.proofs.ListLaws.{all_append}
-use Rattle.picky_issuing.specs.Parts.{lines_with_ends}
-use Rattle.picky_issuing.proofs.PartsLemmas.{by_lines}
-use Rattle.picky_issuing.specs.Steps.{some_then}
-use Rattle.picky_issuing.specs.Value.{number_named}
-use Rattle.picky_issuing.proofs.NumberLaws.{decimal_names, named_is_decimal}
-use Rattle.picky_ledger.specs.declared.entry.Entry.{Entry}
-use Rattle.picky_ledger.specs.Entry.{IsEntry, entry_front, entry_in, entry_line}
+use Rattle.picky_issuing.specs.{Parts.{lines_with_ends}, Steps.{some_then}, Value.{number_named}}
+use Rattle.picky_issuing.proofs.{PartsLemmas.{by_lines}, NumberLaws.{decimal_names, named_is_decimal}}
+use Rattle.picky_ledger.specs.{declared.entry.Entry.{Entry}, Entry.{IsEntry, entry_front, entry_in, entry_line}}
 use Rattle.picky_ledger.specs.LedgerText.{after_word, entries_from, entry_said, if_follows, if_some, ledger_in, ledger_text}
 use Rattle.picky_ledger.specs.LedgerText.{may_follow, next_said, next_word}
 use Rattle.picky_ledger.specs.State.{Differ, Increase, IsLedger, State}
 use Rattle.picky_request.proofs.LineLaws.{chosen, goes_on, some_same}
-use Rattle.picky_ledger.proofs.EntryLaws.{entry_is_read, entry_read_is}
-use Rattle.picky_ledger.proofs.EntryLineLemmas.{entry_has_no_lf}
+use Rattle.picky_ledger.proofs.{EntryLaws.{entry_is_read, entry_read_is}, EntryLineLemmas.{entry_has_no_lf}}
 use Rattle.picky_ledger.proofs.FollowLemmas.{follows, follows_amid}
-use Rattle.picky_ledger.proofs.LedgerTextLemmas.{entry_goes_on, entry_is_bad, last_is_bad}
-use Rattle.picky_ledger.proofs.LedgerTextLemmas.{next_goes_on, next_is_bad, no_line_is_bad, ok_of_next, with_next}
-use Rattle.picky_ledger.proofs.SidesLemmas.{sides_are_text}
-use Rattle.picky_ledger.proofs.StateLemmas.{all_more, differ_more}
+use Rattle.picky_ledger.proofs.LedgerTextLemmas.{entry_goes_on, entry_is_bad, last_is_bad, next_goes_on, next_is_bad}
+use Rattle.picky_ledger.proofs.LedgerTextLemmas.{no_line_is_bad, ok_of_next, with_next}
+use Rattle.picky_ledger.proofs.{SidesLemmas.{sides_are_text}, StateLemmas.{all_more, differ_more}}
 
 -- ---- the first line
 

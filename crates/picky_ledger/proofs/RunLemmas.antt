@@ -1,16 +1,13 @@
 -- What the bytes of a source come to, status by status.
-use Rattle.std.proofs.Common.{◌≡◌, ◌≢◌, ◌↔◌, ◌⊎◌, ◌<◌, ◌≤◌, ◌^◌, ◌++◌, ◌+◌, ◌∷◌, ℕ, List, [], length}
-use Rattle.std.proofs.Common.{Option, Some, None, IfErr, IfOk, Result, Ok, Err, refl, sym, ◌∙◌, ap, arith, inl, inr, subst}
-use Rattle.std.proofs.Common.{Bool, true, false, replicate, if◌then◌else◌}
-use Rattle.std.proofs.lemmas.Bool.Decides.{nat_tests}
-use Rattle.std.proofs.lemmas.Result.{IfErr-at_err}
+use Rattle.std.proofs.Common.{◌≡◌, ◌≢◌, ◌↔◌, ◌⊎◌, ◌<◌, ◌≤◌, ◌^◌, ◌++◌, ◌+◌, ◌∷◌, ℕ, List, [], length, Option, Some, None, IfErr}
+use Rattle.std.proofs.Common.{IfOk, Result, Ok, Err, refl, sym, ◌∙◌, ap, arith, inl, inr, subst, Bool, true, false, replicate}
+use Rattle.std.proofs.Common.{if◌then◌else◌}
+use Rattle.std.proofs.{lemmas.Bool.Decides.{nat_tests}, lemmas.Result.{IfErr-at_err}}
 use Rattle.std.proofs.lemmas.List.{drop_all, length-append, length-replicate}
-use Rattle.std.specs.Option.{ok_or}
-use Rattle.std.specs.Str.{IsUtf8, chars, is_utf8}
+use Rattle.std.specs.{Option.{ok_or}, Str.{IsUtf8, chars, is_utf8}}
 use Rattle.picky_wire_base.specs.Outcome.{and_then, map_err, map_ok}
 use Rattle.picky_input.specs.Extent.{Anywhere, Extent, LeavesAt, PastLimit, ReadsInput, ToEnd, ToFault, Untouched}
-use Rattle.picky_input.specs.Input.{input_limit}
-use Rattle.picky_input.specs.SourceText.{Reads, TakesText, text_of}
+use Rattle.picky_input.specs.{Input.{input_limit}, SourceText.{Reads, TakesText, text_of}}
 use Rattle.picky_input.specs.declared.source_text.SourceError.{SourceError}
 use Rattle.picky_input.specs.declared.source_text.SourceError.TheVariants as source
 use Rattle.picky_input.proofs.TextLaws.{is_source_text, no_text_exactly, text_err, too_long_exactly}
@@ -18,19 +15,17 @@ use Rattle.picky_wire.specs.Count.{Rose}
 use Rattle.picky_wire_base.specs.declared.error.SizeError.TheVariants as sizes
 use Rattle.picky_keys.specs.LineRefusal.{is_short, line_meaning}
 use Rattle.picky_suite.specs.Signs.{Relation}
-use Rattle.picky_issuing.specs.Parts.{cut, mark_lf}
-use Rattle.picky_issuing.specs.Steps.{some_then}
+use Rattle.picky_issuing.specs.{Parts.{cut, mark_lf}, Steps.{some_then}}
 use Rattle.picky_issuing.proofs.PartsLaws.{cut_both_ways}
 use Rattle.picky_ledger.specs.LedgerText.{ledger_in, ledger_text, read, written}
-use Rattle.picky_ledger.specs.Run.{Asked, Ends, Parts, Stops, asked, of_parts, of_text, parts_in}
-use Rattle.picky_ledger.specs.Run.{moment, source_status, text_status}
-use Rattle.picky_ledger.specs.State.{IsLedger, State}
-use Rattle.picky_ledger.specs.declared.ledger.LedgerTextError.{LedgerTextError}
-use Rattle.picky_ledger.specs.declared.ledger.LedgerTextError.TheVariants as texts
+use Rattle.picky_ledger.specs.Run.{Asked, Ends, Parts, Stops, asked, of_parts, of_text, parts_in, moment, source_status}
+use Rattle.picky_ledger.specs.Run.{text_status}
+use Rattle.picky_ledger.specs.{State.{IsLedger, State}, declared.ledger.LedgerTextError.{LedgerTextError}}
 use Rattle.picky_ledger.specs.declared.status.LedgerStatus.{LedgerStatus}
+use Rattle.picky_ledger.specs.inner.Comes.{AnswersRequests, Comes, extent_at}
+use Rattle.picky_ledger.specs.declared.ledger.LedgerTextError.TheVariants as texts
 use Rattle.picky_ledger.specs.declared.status.LedgerStatus.TheVariants as statuses
 use Rattle.picky_ledger.proofs.AfterLaws.{runs_leave}
-use Rattle.picky_ledger.specs.inner.Comes.{AnswersRequests, Comes, extent_at}
 
 -- ---- bytes that ask for nothing
 

@@ -1,36 +1,29 @@
 -- What the bytes of a source come to, status by status.
-use Rattle.std.proofs.Common.{◌≡◌, ◌⊎◌, ◌<◌, ◌++◌, ℕ, List, length, Bool, true, false}
-use Rattle.std.proofs.Common.{take, IfErr, IfOk, Result, Ok, Err, Some, refl, sym, ◌∙◌, ap, inl, inr, subst, if◌then◌else◌}
+use Rattle.std.proofs.Common.{◌≡◌, ◌⊎◌, ◌<◌, ◌++◌, ℕ, List, length, Bool, true, false, take, IfErr, IfOk, Result, Ok, Err, Some}
+use Rattle.std.proofs.Common.{refl, sym, ◌∙◌, ap, inl, inr, subst, if◌then◌else◌}
 use Rattle.picky_wire_base.specs.Outcome.{map_err, map_ok}
-use Rattle.picky_input.specs.Extent.{Anywhere, ToEnd}
-use Rattle.picky_input.specs.SourceText.{Reads, text_of}
+use Rattle.picky_input.specs.{Extent.{Anywhere, ToEnd}, SourceText.{Reads, text_of}}
 use Rattle.picky_input.specs.declared.source_text.SourceError.{SourceError}
 use Rattle.picky_input.specs.declared.source_text.SourceError.TheVariants as source
 use Rattle.picky_input.proofs.TextLaws.{is_source_text}
 use Rattle.picky_wire.specs.declared.timestamp.Timestamp.{Timestamp}
 use Rattle.picky_keys.specs.LineRefusal.{is_short}
-use Rattle.picky_authorized.specs.Entries.{entries_in, keys_in}
-use Rattle.picky_authorized.specs.declared.entry.AuthEntry.{AuthEntry}
+use Rattle.picky_authorized.specs.{Entries.{entries_in, keys_in}, declared.entry.AuthEntry.{AuthEntry}}
 use Rattle.picky_authorized.specs.declared.keys.PolicyError.TheVariants as keys
 use Rattle.picky_key_text.specs.declared.error.ReadError.{ReadError}
 use Rattle.picky_key_text.specs.declared.error.ReadError.TheVariants as reading
 use Rattle.picky_policy.specs.Command.{Asked, Deciding, Printing}
 use Rattle.picky_policy.specs.Decided.{Accepts, Allows, Decides, IsDecision, asks, decided}
-use Rattle.picky_policy.specs.Offer.{message_of, offer_in}
-use Rattle.picky_policy.specs.Printed.{decision_text, message_text}
-use Rattle.picky_policy.specs.Run.{Ends, Gives, IsAnswer, IsDecided, IsFaultOf, IsSpared, asks_with, bad_offer, extent_of, file_part}
-use Rattle.picky_policy.specs.Run.{is_asked, offer_part, offered_in, source_status}
-use Rattle.picky_policy.specs.Verifies.{Relation}
-use Rattle.picky_policy.specs.declared.answer.Answer.{Answer}
-use Rattle.picky_policy.specs.declared.deciding.DecideError.{DecideError}
-use Rattle.picky_policy.specs.declared.decision.Decision.{Decision}
-use Rattle.picky_policy.specs.declared.decision.Decision.TheVariants as decisions
-use Rattle.picky_policy.specs.declared.decision.Denial.{Denial}
-use Rattle.picky_policy.specs.declared.decision.Grant.{Grant}
-use Rattle.picky_policy.specs.declared.offer.Offer.{Offer}
-use Rattle.picky_policy.specs.declared.status.PolicyStatus.{PolicyStatus}
-use Rattle.picky_policy.specs.declared.status.PolicyStatus.TheVariants as statuses
+use Rattle.picky_policy.specs.{Offer.{message_of, offer_in}, Printed.{decision_text, message_text}}
+use Rattle.picky_policy.specs.Run.{Ends, Gives, IsAnswer, IsDecided, IsFaultOf, IsSpared, asks_with, bad_offer, extent_of}
+use Rattle.picky_policy.specs.Run.{file_part, is_asked, offer_part, offered_in, source_status}
+use Rattle.picky_policy.specs.{Verifies.{Relation}, declared.answer.Answer.{Answer}}
+use Rattle.picky_policy.specs.{declared.deciding.DecideError.{DecideError}, declared.decision.Decision.{Decision}}
+use Rattle.picky_policy.specs.{declared.decision.Denial.{Denial}, declared.decision.Grant.{Grant}}
+use Rattle.picky_policy.specs.{declared.offer.Offer.{Offer}, declared.status.PolicyStatus.{PolicyStatus}}
 use Rattle.picky_policy.specs.inner.Comes.{AnswersOffer, AnswersText, Comes, answer_shown, decision_status, extent_for}
+use Rattle.picky_policy.specs.declared.decision.Decision.TheVariants as decisions
+use Rattle.picky_policy.specs.declared.status.PolicyStatus.TheVariants as statuses
 use Rattle.picky_policy.proofs.SourceLaws.{Bad, NoText, TooLong, no_offer, offered_of, offered_without}
 
 -- ---- an answer

@@ -1,37 +1,27 @@
 -- The fields that a text of bytes has are in their ranges.
 use Rattle.std.proofs.Common.{◌≡◌, ◌^◌, ◌<◌, ℕ, List, ◌++◌, codes, length, false, Some, Ok, sym, subst, arith}
 use Rattle.std.proofs.lemmas.Bool.Decides.{nat_tests}
-use Rattle.std.specs.Result.{result_ok}
-use Rattle.std.specs.Prelude.{Result, Err}
+use Rattle.std.specs.{Result.{result_ok}, Prelude.{Result, Err}}
 use Rattle.hex.specs.Hex.{decode_of}
 use Rattle.hex.proofs.HexLemmas.{decode_of-ok}
 use Rattle.picky_wire_base.specs.Numbers.{IsBytes}
 use Rattle.picky_text.specs.Base64.{decoded}
-use Rattle.picky_text.proofs.Base64Laws.{decoded_is_bytes}
-use Rattle.picky_text.proofs.ListLaws.{all_front, all_back}
-use Rattle.picky_kv.specs.Field.{Field, field_value}
-use Rattle.picky_kv.specs.declared.PpkVersionKey.{PpkVersionKey}
+use Rattle.picky_text.proofs.{Base64Laws.{decoded_is_bytes}, ListLaws.{all_front, all_back}}
+use Rattle.picky_kv.specs.{Field.{Field, field_value}, declared.PpkVersionKey.{PpkVersionKey}}
 use Rattle.picky_kv.specs.declared.PpkVersionKey.TheVariants.{V2, V3}
 use Rattle.picky_kv.specs.declared.PpkEncryptionValue.{PpkEncryptionValue}
 use Rattle.picky_kv.specs.declared.PpkEncryptionValue.TheVariants.{None, Aes256Cbc}
 use Rattle.picky_kv.specs.Values.{AreFewBytes, is_long, comment_row, base64_row, hex_row, hex_decoded}
-use Rattle.picky_kv.specs.ValueFields.{comment_field, base64_field, hex_field}
-use Rattle.picky_kv.specs.NumberFields.{u32_field}
-use Rattle.picky_kv.specs.Numbers.{u32_row, number_below}
-use Rattle.picky_kv.specs.Parts.{IsPair, IsBlock}
-use Rattle.picky_kv.specs.carried.Numbers.{u32_is_narrow}
-use Rattle.picky_kv.proofs.NumberLemmas.{number_field_is}
+use Rattle.picky_kv.specs.{ValueFields.{comment_field, base64_field, hex_field}, NumberFields.{u32_field}}
+use Rattle.picky_kv.specs.{Numbers.{u32_row, number_below}, Parts.{IsPair, IsBlock}, carried.Numbers.{u32_is_narrow}}
+use Rattle.picky_kv.proofs.{NumberLemmas.{number_field_is}, LineBytes.{AreBytes, lines_are_bytes, joined_is_bytes}}
 use Rattle.picky_ppk_parts.specs.declared.material.Argon2Params.{Argon2Params}
 use Rattle.picky_ppk_file.specs.declared.file.PpkSealing.{PpkSealing}
 use Rattle.picky_ppk_file.specs.declared.file.PpkSealing.TheVariants.{Unsealed, SealedV2, SealedV3}
-use Rattle.picky_ppk_file.specs.declared.file.PpkFile.{PpkFile}
-use Rattle.picky_ppk_file.specs.File.{AreParams, IsSealing, IsFile}
-use Rattle.picky_ppk_file.specs.FileText.{SaysArgon2, SaysSealing}
-use Rattle.picky_ppk_file.specs.FileRefusal.{file_meaning}
-use Rattle.picky_ppk_file.proofs.LineSteps.{judged_ok}
+use Rattle.picky_ppk_file.specs.{declared.file.PpkFile.{PpkFile}, File.{AreParams, IsSealing, IsFile}}
+use Rattle.picky_ppk_file.specs.{FileText.{SaysArgon2, SaysSealing}, FileRefusal.{file_meaning}}
+use Rattle.picky_ppk_file.proofs.{LineSteps.{judged_ok}, FileLaws.{meaning_is_said}}
 use Rattle.picky_wire_base.proofs.Numbers.{EachByte, each_by_place}
-use Rattle.picky_kv.proofs.LineBytes.{AreBytes, lines_are_bytes, joined_is_bytes}
-use Rattle.picky_ppk_file.proofs.FileLaws.{meaning_is_said}
 
 -- ---- what each text gives
 

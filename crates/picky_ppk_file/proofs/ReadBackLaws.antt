@@ -1,31 +1,22 @@
 -- What is written of a file is read back.
-use Rattle.std.proofs.Common.{◌≡◌, ◌^◌, ◌<◌, ◌&&◌, ℕ, List, [], ◌∷◌, ◌++◌, length, Bool, true, false, Ok, Err}
-use Rattle.std.proofs.Common.{refl, sym, ap, ◌∙◌, subst, arith}
+use Rattle.std.proofs.Common.{◌≡◌, ◌^◌, ◌<◌, ◌&&◌, ℕ, List, [], ◌∷◌, ◌++◌, length, Bool, true, false, Ok, Err, refl, sym, ap}
+use Rattle.std.proofs.Common.{◌∙◌, subst, arith}
+use Rattle.std.proofs.{lemmas.Bool.{and_parts}, lemmas.Bool.Decides.{nat_tests}, lemmas.List.{append_assoc}}
 use Rattle.std.specs.Prelude.{if◌then◌else◌}
-use Rattle.std.proofs.lemmas.Bool.{and_parts}
-use Rattle.std.proofs.lemmas.Bool.Decides.{nat_tests}
-use Rattle.std.proofs.lemmas.List.{append_assoc}
 use Rattle.picky_wire_base.specs.carried.Outcome.{passed_ok}
-use Rattle.picky_text.specs.Lines.{IsLine}
-use Rattle.picky_text.specs.declared.lines.LineEnd.{LineEnd}
+use Rattle.picky_text.specs.{Lines.{IsLine}, declared.lines.LineEnd.{LineEnd}}
 use Rattle.picky_kv.specs.Keys.{encryption_key, comment_key, public_lines_key, private_lines_key, private_mac_key}
 use Rattle.picky_kv.specs.Keys.{encryption_key_row, comment_key_row, public_lines_key_row, private_lines_key_row}
 use Rattle.picky_kv.specs.Keys.{private_mac_key_row}
-use Rattle.picky_kv.specs.Argon2Keys.{key_derivation_key, argon2_memory_key, argon2_passes_key}
-use Rattle.picky_kv.specs.Argon2Keys.{argon2_parallelism_key, argon2_salt_key, key_derivation_key_row}
-use Rattle.picky_kv.specs.Argon2Keys.{argon2_memory_key_row, argon2_passes_key_row, argon2_parallelism_key_row}
-use Rattle.picky_kv.specs.Argon2Keys.{argon2_salt_key_row}
-use Rattle.picky_kv.specs.Choices.{version_row}
-use Rattle.picky_kv.specs.ChoiceFields.{version_field, encryption_field, flavour_field}
-use Rattle.picky_kv.specs.declared.PpkVersionKey.TheVariants.{V2, V3}
-use Rattle.picky_kv.specs.ValueFields.{comment_field, hex_field}
-use Rattle.picky_kv.specs.AlgorithmField.{algorithm_field}
-use Rattle.picky_kv.specs.NumberFields.{u32_field}
+use Rattle.picky_kv.specs.Argon2Keys.{key_derivation_key, argon2_memory_key, argon2_passes_key, argon2_parallelism_key}
+use Rattle.picky_kv.specs.Argon2Keys.{argon2_salt_key, key_derivation_key_row, argon2_memory_key_row, argon2_passes_key_row}
+use Rattle.picky_kv.specs.Argon2Keys.{argon2_parallelism_key_row, argon2_salt_key_row}
+use Rattle.picky_kv.specs.{Choices.{version_row}, ChoiceFields.{version_field, encryption_field, flavour_field}}
+use Rattle.picky_kv.specs.{declared.PpkVersionKey.TheVariants.{V2, V3}, ValueFields.{comment_field, hex_field}}
+use Rattle.picky_kv.specs.{AlgorithmField.{algorithm_field}, NumberFields.{u32_field}}
 use Rattle.picky_kv.specs.carried.Pairs.{version_field_is_plain, encryption_key_is_plain, comment_key_is_plain}
-use Rattle.picky_kv.specs.carried.Pairs.{public_lines_key_is_plain, private_lines_key_is_plain}
-use Rattle.picky_kv.specs.carried.Pairs.{private_mac_key_is_plain}
-use Rattle.picky_kv.specs.carried.Pairs.{key_derivation_key_is_plain, argon2_memory_key_is_plain}
-use Rattle.picky_kv.specs.carried.Pairs.{argon2_passes_key_is_plain}
+use Rattle.picky_kv.specs.carried.Pairs.{public_lines_key_is_plain, private_lines_key_is_plain, private_mac_key_is_plain}
+use Rattle.picky_kv.specs.carried.Pairs.{key_derivation_key_is_plain, argon2_memory_key_is_plain, argon2_passes_key_is_plain}
 use Rattle.picky_kv.specs.carried.Pairs.{argon2_parallelism_key_is_plain, argon2_salt_key_is_plain}
 use Rattle.picky_kv.proofs.OneLineLemmas.{algorithms_are_one_line, encryptions_are_one_line, flavours_are_one_line}
 use Rattle.picky_kv.proofs.OneLineLemmas.{numbers_are_one_line, hex_is_one_line}
@@ -34,17 +25,14 @@ use Rattle.picky_ppk_parts.specs.declared.error.PuttyError.TheVariants as errors
 use Rattle.picky_ppk_parts.specs.declared.material.Argon2Params.{Argon2Params}
 use Rattle.picky_ppk_file.specs.declared.file.PpkSealing.{PpkSealing}
 use Rattle.picky_ppk_file.specs.declared.file.PpkSealing.TheVariants.{Unsealed, SealedV2, SealedV3}
-use Rattle.picky_ppk_file.specs.declared.file.PpkFile.{PpkFile}
-use Rattle.picky_ppk_file.specs.declared.reading.Front.{Front}
+use Rattle.picky_ppk_file.specs.{declared.file.PpkFile.{PpkFile}, declared.reading.Front.{Front}}
 use Rattle.picky_ppk_file.specs.File.{version_of, encryption_of, AreParams, IsSealing, IsFile}
 use Rattle.picky_ppk_file.specs.FileRefusal.{argon2_in, front_in, sealing_in, file_in, file_meaning}
-use Rattle.picky_ppk_file.specs.Written.{line_of, rows_under, argon2_lines, sealing_lines, file_lines, end_of}
-use Rattle.picky_ppk_file.specs.Written.{file_text}
+use Rattle.picky_ppk_file.specs.Written.{line_of, rows_under, argon2_lines, sealing_lines, file_lines, end_of, file_text}
 use Rattle.picky_ppk_file.specs.Written.{fits_block, written}
-use Rattle.picky_ppk_file.proofs.LineSteps.{then_ok}
-use Rattle.picky_ppk_file.proofs.FileLaws.{read_is_meant}
-use Rattle.picky_text.proofs.LineLaws.{one_line}
+use Rattle.picky_ppk_file.proofs.{LineSteps.{then_ok}, FileLaws.{read_is_meant}}
 use Rattle.picky_ppk_file.proofs.BackLemmas.{lines_at, pair_back, value_back, bytes_back}
+use Rattle.picky_text.proofs.LineLaws.{one_line}
 
 -- ---- a derivation by Argon2
 

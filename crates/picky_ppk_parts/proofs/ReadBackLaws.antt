@@ -1,35 +1,26 @@
 -- The parts that a private key makes are read back as it.
-use Rattle.std.specs.Prelude.{◌≡◌, Bool, true, false, List, [], ◌∷◌, ℕ, suc, ◌≤◌, ◌<◌, ◌^◌, length}
-use Rattle.std.specs.Prelude.{nat_le, slice_index, if◌then◌else◌, Ok, Err}
-use Rattle.std.proofs.Common.{refl, sym, ap, subst, ◌∙◌, arith}
-use Rattle.std.proofs.lemmas.List.{append-nil}
-use Rattle.picky_wire_base.specs.carried.Outcome.{and_then_ok, passed_ok}
-use Rattle.picky_wire_base.specs.Zeros.{BeginsWithNoZero, without_zeros}
+use Rattle.std.specs.Prelude.{◌≡◌, Bool, true, false, List, [], ◌∷◌, ℕ, suc, ◌≤◌, ◌<◌, ◌^◌, length, nat_le, slice_index}
+use Rattle.std.specs.Prelude.{if◌then◌else◌, Ok, Err}
+use Rattle.std.proofs.{Common.{refl, sym, ap, subst, ◌∙◌, arith}, lemmas.List.{append-nil}}
+use Rattle.picky_wire_base.specs.{carried.Outcome.{and_then_ok, passed_ok}, Zeros.{BeginsWithNoZero, without_zeros}}
 use Rattle.picky_wire_base.specs.carried.Zeros.{all_is_kept, no_zero_begins, zeros_in_front}
-use Rattle.picky_wire_base.proofs.Zeros.{length_with_zeros}
-use Rattle.picky_wire_base.specs.Magnitude.{IsMagnitude}
-use Rattle.picky_wire_base.specs.Mpint.{mpint_of, with_sign}
-use Rattle.picky_wire_base.proofs.Strings.{string_spells}
-use Rattle.picky_wire_base.proofs.MpintLaws.{mpint_spells}
+use Rattle.picky_wire_base.specs.{Magnitude.{IsMagnitude}, Mpint.{mpint_of, with_sign}}
+use Rattle.picky_wire_base.proofs.{Zeros.{length_with_zeros}, Strings.{string_spells}, MpintLaws.{mpint_spells}}
 use Rattle.picky_kv.specs.declared.algorithm.PpkKeyAlgorithmValue.{PpkKeyAlgorithmValue}
 use Rattle.picky_kv.specs.declared.algorithm.PpkKeyAlgorithmValue.TheVariants as algorithms
-use Rattle.picky_keys.specs.declared.curve.EcCurve.{EcCurve}
-use Rattle.picky_keys.specs.declared.public_key.PublicKey.{PublicKey}
+use Rattle.picky_keys.specs.{declared.curve.EcCurve.{EcCurve}, declared.public_key.PublicKey.{PublicKey}, Key.{IsKey}}
+use Rattle.picky_keys.specs.{Blob.{blob as blob_layout, blob_of}, carried.Blob.{blob_spells}, LineRefusal.{is_short}}
 use Rattle.picky_keys.specs.declared.public_key.PublicKey.TheVariants as plain
-use Rattle.picky_keys.specs.Key.{IsKey}
-use Rattle.picky_keys.specs.Blob.{blob as blob_layout, blob_of}
-use Rattle.picky_keys.specs.carried.Blob.{blob_spells}
-use Rattle.picky_keys.specs.LineRefusal.{is_short}
 use Rattle.picky_sshkey_blob.specs.declared.key.SshBasePrivateKey.{SshBasePrivateKey}
-use Rattle.picky_sshkey_blob.specs.declared.key.SshBasePrivateKey.TheVariants as keys
 use Rattle.picky_sshkey_blob.specs.Key.{IsPrivateKey, public_part}
+use Rattle.picky_sshkey_blob.specs.declared.key.SshBasePrivateKey.TheVariants as keys
 use Rattle.picky_sshkey_blob.proofs.KeyLaws.{public_part_is_key}
 use Rattle.picky_ppk_parts.specs.declared.error.PuttyError.TheVariants as errors
 use Rattle.picky_ppk_parts.specs.declared.key_parts.KeyParts.{KeyParts}
 use Rattle.picky_ppk_parts.specs.Algorithm.{algorithm_of, curve_algorithm, ssh_key_of}
-use Rattle.picky_ppk_parts.specs.Secret.{rsa_secret, ed_secret, rsa_fields, ec_fields, ed_fields, ppk_secret_fields, secret_bytes}
-use Rattle.picky_ppk_parts.specs.Parts.{StandsForKey}
-use Rattle.picky_ppk_parts.specs.PartsRefusal.{parts_key}
+use Rattle.picky_ppk_parts.specs.Secret.{rsa_secret, ed_secret, rsa_fields, ec_fields, ed_fields, ppk_secret_fields}
+use Rattle.picky_ppk_parts.specs.Secret.{secret_bytes}
+use Rattle.picky_ppk_parts.specs.{Parts.{StandsForKey}, PartsRefusal.{parts_key}}
 use Rattle.picky_ppk_parts.specs.KeyParts.{blob_within, parts_under, key_parts}
 use Rattle.picky_ppk_parts.proofs.PartsLaws.{parts_complete}
 

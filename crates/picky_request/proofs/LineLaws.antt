@@ -1,16 +1,11 @@
 -- A line says a request exactly where it is its line.
-use Rattle.std.proofs.Common.{◌≡◌, ◌≢◌, ◌↔◌, ℕ, ◌<◌, ◌^◌, ◌==◌, Bool, true, false, List, [], ◌∷◌, ◌++◌, length}
-use Rattle.std.proofs.Common.{Option, Some, None, Result, Ok, Err, refl, sym, ◌∙◌, ap, inl, inr, subst, arith, if◌then◌else◌}
-use Rattle.std.specs.Prelude.{nat_lt}
-use Rattle.std.specs.Fmt.{decimal}
-use Rattle.std.specs.List.{AllByRecursion, after_first, before_first, position_or_len}
-use Rattle.std.specs.Result.{result_ok}
+use Rattle.std.proofs.Common.{◌≡◌, ◌≢◌, ◌↔◌, ℕ, ◌<◌, ◌^◌, ◌==◌, Bool, true, false, List, [], ◌∷◌, ◌++◌, length, Option, Some}
+use Rattle.std.proofs.Common.{None, Result, Ok, Err, refl, sym, ◌∙◌, ap, inl, inr, subst, arith, if◌then◌else◌}
+use Rattle.std.proofs.{lemmas.Bool.{cases_Bool, eqb-false}, lemmas.Bool.Decides.{nat_tests}}
+use Rattle.std.proofs.{lemmas.Fmt.{decimal_by_steps}, lemmas.List.{append_assoc}, lemmas.Slice.Eq.{bytes_eq-Decides}}
+use Rattle.std.specs.{Prelude.{nat_lt}, Fmt.{decimal}}
+use Rattle.std.specs.{List.{AllByRecursion, after_first, before_first, position_or_len}, Result.{result_ok}}
 use Rattle.std.specs.Str.{bytes_eq}
-use Rattle.std.proofs.lemmas.Bool.{cases_Bool, eqb-false}
-use Rattle.std.proofs.lemmas.Bool.Decides.{nat_tests}
-use Rattle.std.proofs.lemmas.Fmt.{decimal_by_steps}
-use Rattle.std.proofs.lemmas.List.{append_assoc}
-use Rattle.std.proofs.lemmas.Slice.Eq.{bytes_eq-Decides}
 use Rattle.picky_wire_base.specs.Numbers.{IsBytes}
 use Rattle.picky_wire_base.proofs.Numbers.{bytes_behind}
 use Rattle.picky_text.specs.Lines.{HasNo}
@@ -19,17 +14,13 @@ use Rattle.picky_cert_parts.specs.declared.cert_type.SshCertType.{SshCertType}
 use Rattle.picky_cert_parts.specs.declared.cert_type.SshCertType.TheVariants.{Client, Host}
 use Rattle.picky_wire.specs.Moment.{moment}
 use Rattle.picky_keys.specs.declared.error.SshPublicKeyError.{SshPublicKeyError}
-use Rattle.picky_keys.specs.declared.key.SshPublicKey.{SshPublicKey}
-use Rattle.picky_keys.specs.LineRefusal.{is_short, line_meaning}
+use Rattle.picky_keys.specs.{declared.key.SshPublicKey.{SshPublicKey}, LineRefusal.{is_short, line_meaning}}
 use Rattle.picky_keys.proofs.LineLaws.{line_meaning_of, line_meaning_says}
-use Rattle.picky_issuing.specs.Steps.{some_then}
-use Rattle.picky_issuing.specs.Value.{cert_type_named, client, host, number_named}
-use Rattle.picky_request.specs.declared.request.CertRequestLine.{CertRequestLine}
-use Rattle.picky_request.specs.Names.{is_id, principals_in}
+use Rattle.picky_issuing.specs.{Steps.{some_then}, Value.{cert_type_named, client, host, number_named}}
+use Rattle.picky_request.specs.{declared.request.CertRequestLine.{CertRequestLine}, Names.{is_id, principals_in}}
 use Rattle.picky_request.specs.Request.{IsRequestLine, Words, cut_at_space, is_space, named, request_in, said_by, words_in}
-use Rattle.picky_request.proofs.CutLaws.{first_of, none_passes}
+use Rattle.picky_request.proofs.{CutLaws.{first_of, none_passes}, NameLaws.{principals_are, principals_say}}
 use Rattle.picky_issuing.proofs.NumberLaws.{decimal_names, named_is_decimal}
-use Rattle.picky_request.proofs.NameLaws.{principals_are, principals_say}
 
 -- ---- a cut at a space
 

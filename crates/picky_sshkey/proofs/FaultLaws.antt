@@ -1,39 +1,27 @@
 -- No order of refusals answers a fault of the suite or want of memory, which are the code's alone.
-use Rattle.std.specs.Prelude.{◌≢◌, ◌==◌, Bool, true, false, List, ℕ, Option, None, Some, Result, Ok, Err, if◌then◌else◌}
-use Rattle.std.specs.Prelude.{length}
-use Rattle.std.specs.Option.{ok_or}
-use Rattle.std.specs.Str.{bytes_eq}
+use Rattle.std.specs.Prelude.{◌≢◌, ◌==◌, Bool, true, false, List, ℕ, Option, None, Some, Result, Ok, Err, if◌then◌else◌, length}
+use Rattle.std.specs.{Option.{ok_or}, Str.{bytes_eq}}
 use Rattle.std.proofs.Common.{refl, subst}
-use Rattle.picky_wire_base.specs.Combine.{tag}
-use Rattle.picky_wire_base.specs.Fixed.{is_number}
+use Rattle.picky_wire_base.specs.{Combine.{tag}, Fixed.{is_number}}
 use Rattle.picky_wire_base.specs.Flaw.{Flaw, Short, NotUtf8, Big, Flawed, Length, Magic, Name, Number, Reason}
-use Rattle.picky_wire_base.specs.Front.{read_front}
-use Rattle.picky_wire_base.specs.Outcome.{map_err}
-use Rattle.picky_wire_base.specs.Table.{find_entry}
+use Rattle.picky_wire_base.specs.{Front.{read_front}, Outcome.{map_err}, Table.{find_entry}}
 use Rattle.picky_wire_base.specs.Wire.{text as utf8, uint32}
 use Rattle.picky_sshkey_blob.specs.PemRefusal.{after_header, before_footer, of_body, pem_content, short_content}
-use Rattle.picky_sshkey_blob.specs.Pem.{packed}
-use Rattle.picky_sshkey_blob.specs.declared.pem_error.PemError.{PemError}
-use Rattle.picky_sshkey_blob.specs.declared.pem_error.PemError.TheVariants as pem
-use Rattle.picky_suite.specs.Meanings.{Meanings}
-use Rattle.picky_suite.specs.Ranges.{bcrypt_fits}
-use Rattle.picky_text.specs.Base64.{decoded}
-use Rattle.picky_sshkey_blob.specs.Blob.{secret}
+use Rattle.picky_sshkey_blob.specs.{Pem.{packed}, declared.pem_error.PemError.{PemError}, Blob.{secret}}
 use Rattle.picky_sshkey_blob.specs.BlobRefusal.{private_error}
 use Rattle.picky_sshkey_blob.specs.declared.error.SshPrivateKeyError.{SshPrivateKeyError}
+use Rattle.picky_sshkey_blob.specs.declared.pem_error.PemError.TheVariants as pem
+use Rattle.picky_suite.specs.{Meanings.{Meanings}, Ranges.{bcrypt_fits}}
+use Rattle.picky_text.specs.Base64.{decoded}
 use Rattle.picky_sshkey_blob.specs.declared.error.SshPrivateKeyError.TheVariants as errors
-use Rattle.picky_sshkey_blob.proofs.RefusedLemmas.{RefusesAs, both_refuses, done_refuses, narrow_refuses}
-use Rattle.picky_sshkey_blob.proofs.RefusedLemmas.{test_refused}
-use Rattle.picky_sshkey.specs.declared.private_key.SshPrivateKey.{SshPrivateKey}
-use Rattle.picky_sshkey.specs.declared.cipher.Cipher.{Cipher}
-use Rattle.picky_sshkey.specs.Cipher.{ciphers}
-use Rattle.picky_sshkey.specs.Envelope.{Envelope}
-use Rattle.picky_sshkey.specs.Kdf.{bcrypt}
+use Rattle.picky_sshkey_blob.proofs.RefusedLemmas.{RefusesAs, both_refuses, done_refuses, narrow_refuses, test_refused}
+use Rattle.picky_sshkey.specs.{declared.private_key.SshPrivateKey.{SshPrivateKey}, declared.cipher.Cipher.{Cipher}}
+use Rattle.picky_sshkey.specs.{Cipher.{ciphers}, Envelope.{Envelope}, Kdf.{bcrypt}}
 use Rattle.picky_sshkey.specs.PrivateBlock.{PrivateBlock, check_numbers, flaw_error, private_block}
 use Rattle.picky_sshkey.specs.PrivateRefusal.{Closed, closed, content_key, envelope_error, envelope_under, key_closed}
 use Rattle.picky_sshkey.specs.PrivateRefusal.{key_of_block, lock_of, lock_under, sealed_under, takes_block, text_key}
-use Rattle.picky_sshkey.proofs.RefusalLaws.{Refuses, err_as, front_as, if_as, map_as, ok_as, some_as, tag_as, then_as}
 use Rattle.picky_sshkey.specs.Written.{key_content, key_text, sealable, text_len}
+use Rattle.picky_sshkey.proofs.RefusalLaws.{Refuses, err_as, front_as, if_as, map_as, ok_as, some_as, tag_as, then_as}
 
 -- ---- which errors are no faults
 

@@ -1,40 +1,29 @@
 -- What is written of a private key is read back, sealed or not, under its own passphrase.
 use Rattle.std.specs.Prelude.{◌≡◌, ◌<◌, ◌^◌, ◌++◌, true, List, [], ℕ, Option, None, Some, Ok, length}
-use Rattle.std.specs.Option.{IfSome}
-use Rattle.std.specs.Str.{trim_end}
-use Rattle.std.proofs.Common.{◌∙◌, ap, arith, inl, inr, refl, subst, sym}
-use Rattle.std.proofs.lemmas.Bool.{ltb-true}
+use Rattle.std.specs.{Option.{IfSome}, Str.{trim_end}}
+use Rattle.std.proofs.{Common.{◌∙◌, ap, arith, inl, inr, refl, subst, sym}, lemmas.Bool.{ltb-true}}
 use Rattle.std.proofs.lemmas.List.{append-nil, length-append}
-use Rattle.picky_wire_base.specs.Numbers.{IsBytes}
-use Rattle.picky_wire_base.specs.Outcome.{and_then, map_err}
-use Rattle.picky_wire_base.specs.carried.Outcome.{and_then_ok}
+use Rattle.picky_wire_base.specs.{Numbers.{IsBytes}, Outcome.{and_then, map_err}, carried.Outcome.{and_then_ok}}
 use Rattle.picky_wire_base.proofs.Numbers.{bytes_in_front}
-use Rattle.picky_sshkey_blob.specs.Pem.{pem_text}
-use Rattle.picky_sshkey_blob.proofs.TextLaws.{text_is_long, text_read_back}
+use Rattle.picky_sshkey_blob.specs.{Pem.{pem_text}, Key.{public_part}}
+use Rattle.picky_sshkey_blob.proofs.{TextLaws.{text_is_long, text_read_back}, KeyLaws.{public_part_is_key}}
 use Rattle.picky_suite.specs.Meanings.{Meanings}
 use Rattle.picky_suite.proofs.RangeLemmas.{bcrypt_decides}
 use Rattle.picky_text.proofs.WordLaws.{IsUtf8-trim_end, trim_end-trim_end, trim_end_front}
-use Rattle.picky_keys.specs.Blob.{blob_of}
-use Rattle.picky_keys.specs.Key.{IsText}
-use Rattle.picky_keys.specs.carried.Blob.{blob_spells}
+use Rattle.picky_keys.specs.{Blob.{blob_of}, Key.{IsText}, carried.Blob.{blob_spells}}
 use Rattle.picky_keys.proofs.LineLaws.{chosen}
-use Rattle.picky_sshkey_blob.specs.Key.{public_part}
 use Rattle.picky_sshkey_blob.specs.declared.error.SshPrivateKeyError.TheVariants as errors
-use Rattle.picky_sshkey_blob.proofs.KeyLaws.{public_part_is_key}
-use Rattle.picky_sshkey.specs.declared.cipher.Cipher.TheVariants.{Aes256Ctr}
-use Rattle.picky_sshkey.specs.declared.kdf.KdfOption.{KdfOption}
-use Rattle.picky_sshkey.specs.declared.private_key.SshPrivateKey.{SshPrivateKey}
-use Rattle.picky_sshkey.specs.Kept.{IsSshPrivateKey, read_again}
-use Rattle.picky_sshkey.specs.Opened.{Lock, opened}
-use Rattle.picky_sshkey.specs.PrivateRefusal.{content_key, text_key}
+use Rattle.picky_sshkey.specs.{declared.cipher.Cipher.TheVariants.{Aes256Ctr}, declared.kdf.KdfOption.{KdfOption}}
+use Rattle.picky_sshkey.specs.{declared.private_key.SshPrivateKey.{SshPrivateKey}, Kept.{IsSshPrivateKey, read_again}}
+use Rattle.picky_sshkey.specs.{Opened.{Lock, opened}, PrivateRefusal.{content_key, text_key}}
 use Rattle.picky_sshkey.specs.PrivateText.{IsOpened, IsPrivateContent, IsShortPass}
 use Rattle.picky_sshkey.specs.Written.{content_under, envelope_of, unpadded_block, key_content, key_text, lock_kept, may_derive}
-use Rattle.picky_sshkey.specs.Written.{padding_of, plain_block, sealable, sealed_block, text_len, unit_of}
-use Rattle.picky_sshkey.specs.Written.{written_cipher, written_kdf, written_option}
-use Rattle.picky_sshkey.proofs.LockLaws.{length-opened, opened-opened, opened_bytes}
-use Rattle.picky_sshkey.proofs.MeaningLaws.{content_means}
+use Rattle.picky_sshkey.specs.Written.{padding_of, plain_block, sealable, sealed_block, text_len, unit_of, written_cipher}
+use Rattle.picky_sshkey.specs.Written.{written_kdf, written_option}
+use Rattle.picky_sshkey.proofs.{LockLaws.{length-opened, opened-opened, opened_bytes}, MeaningLaws.{content_means}}
 use Rattle.picky_sshkey.proofs.BlockLaws.{block_is_bytes, block_read, block_spells}
-use Rattle.picky_sshkey.proofs.WrittenLaws.{envelope_is_bytes, envelope_read, envelope_spells, length-envelope_of, written_keeps}
+use Rattle.picky_sshkey.proofs.WrittenLaws.{envelope_is_bytes, envelope_read, envelope_spells, length-envelope_of}
+use Rattle.picky_sshkey.proofs.WrittenLaws.{written_keeps}
 
 -- ---- sealing
 

@@ -1,28 +1,20 @@
 -- A private key's content, and its text, mean a key exactly where they say it, and they say one.
-use Rattle.std.specs.Prelude.{◌≡◌, true, false, List, ℕ, Option, None, Some, Result, Ok, Err}
-use Rattle.std.specs.Option.{IfSome}
-use Rattle.std.proofs.Common.{◌∙◌, ap, inl, inr, refl, subst, sym}
-use Rattle.std.proofs.lemmas.Bool.{ltb-true, lt-ltb}
-use Rattle.picky_wire_base.specs.Flaw.{Reason}
-use Rattle.picky_wire_base.specs.Front.{Begins, read_front}
-use Rattle.picky_wire_base.specs.Numbers.{IsBytes}
-use Rattle.picky_wire_base.specs.Outcome.{and_then, map_err}
-use Rattle.picky_wire_base.specs.carried.Inside.{front_complete, front_sound}
+use Rattle.std.specs.{Prelude.{◌≡◌, true, false, List, ℕ, Option, None, Some, Result, Ok, Err}, Option.{IfSome}}
+use Rattle.std.proofs.{Common.{◌∙◌, ap, inl, inr, refl, subst, sym}, lemmas.Bool.{ltb-true, lt-ltb}}
+use Rattle.picky_wire_base.specs.{Flaw.{Reason}, Front.{Begins, read_front}, Numbers.{IsBytes}}
+use Rattle.picky_wire_base.specs.{Outcome.{and_then, map_err}, carried.Inside.{front_complete, front_sound}}
 use Rattle.picky_wire_base.specs.carried.Outcome.{and_then_ok, map_err_ok}
 use Rattle.picky_wire_base.proofs.Numbers.{bytes_in_front}
-use Rattle.picky_sshkey_blob.specs.PemRefusal.{pem_content}
+use Rattle.picky_sshkey_blob.specs.{PemRefusal.{pem_content}, Key.{IsPrivateKey, public_part}}
+use Rattle.picky_sshkey_blob.specs.declared.key.SshBasePrivateKey.{SshBasePrivateKey}
 use Rattle.picky_sshkey_blob.proofs.MeaningLaws.{pem_means, pem_says}
 use Rattle.picky_suite.specs.Meanings.{Meanings}
-use Rattle.picky_keys.specs.Blob.{blob}
-use Rattle.picky_keys.specs.LineRefusal.{is_short_text}
+use Rattle.picky_keys.specs.{Blob.{blob}, LineRefusal.{is_short_text}}
 use Rattle.picky_keys.specs.declared.key.SshBasePublicKey.{SshBasePublicKey}
 use Rattle.picky_keys.proofs.LineLaws.{chosen}
-use Rattle.picky_sshkey_blob.specs.Key.{IsPrivateKey, public_part}
 use Rattle.picky_sshkey_blob.specs.declared.error.SshPrivateKeyError.TheVariants as errors
-use Rattle.picky_sshkey_blob.specs.declared.key.SshBasePrivateKey.{SshBasePrivateKey}
 use Rattle.picky_sshkey.specs.declared.private_key.SshPrivateKey.{SshPrivateKey}
-use Rattle.picky_sshkey.specs.Envelope.{Envelope, envelope as layout}
-use Rattle.picky_sshkey.specs.Opened.{Lock}
+use Rattle.picky_sshkey.specs.{Envelope.{Envelope, envelope as layout}, Opened.{Lock}}
 use Rattle.picky_sshkey.specs.PrivateBlock.{PrivateBlock, private_block}
 use Rattle.picky_sshkey.specs.PrivateRefusal.{Closed, closed, content_key, envelope_error, envelope_under, is_public_part}
 use Rattle.picky_sshkey.specs.PrivateRefusal.{key_closed, key_of_block, lock_of, plain_of, text_key}

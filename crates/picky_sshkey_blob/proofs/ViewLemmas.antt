@@ -2,39 +2,23 @@
 use Rattle.std.specs.Prelude.{◌≡◌, List, ℕ, ◌+◌, ◌-◌, ◌++◌, ◌≤◌, ⊤, ◌==◌, length, take, drop, IfOk, IfErr, Result, Ok, Err}
 use Rattle.std.proofs.Common.{refl, sym, ap, subst, ◌∙◌, arith, inl, inr}
 use Rattle.std.proofs.lemmas.List.{take-append-drop, length-take-le, length-drop, take-take}
-use Rattle.picky_wire_base.specs.Flaw.{Why, Reason, Flawed, Length, Name}
-use Rattle.picky_wire_base.specs.Grammar.{Grammar}
-use Rattle.picky_wire_base.specs.Outcome.{and_then, map_err}
-use Rattle.picky_wire_base.specs.Narrowed.{meant}
-use Rattle.picky_wire_base.specs.Combine.{at}
-use Rattle.picky_wire_base.specs.Numbers.{IsBytes}
-use Rattle.picky_wire_base.proofs.Numbers.{bytes_in_front, back_bytes}
-use Rattle.picky_wire_base.proofs.Narrowed.{place_cases}
-use Rattle.picky_wire_base.specs.Entry.{entry}
-use Rattle.picky_wire_base.specs.Table.{find_entry}
-use Rattle.picky_wire_base.specs.Wire.{string, text, of_length}
-use Rattle.picky_keys.specs.declared.kind.KeyKind.{KeyKind}
-use Rattle.picky_keys.specs.KeyNameTables.{key_types}
-use Rattle.picky_wire_base.specs.declared.view.Stuck.{Stuck}
-use Rattle.picky_wire_base.specs.declared.view.Stuck.TheVariants as stucks
-use Rattle.picky_wire_base.specs.declared.view.Part.{Part}
-use Rattle.picky_wire_base.specs.View.{Seen, Lies, end_of, part_bytes, why_in, why_of}
-use Rattle.picky_keys.specs.Key.{IsText}
-use Rattle.picky_keys.specs.Blob.{key_type, ed_key}
-use Rattle.picky_keys.proofs.KeyLaws.{text_keeps}
-use Rattle.picky_sshkey_blob.specs.declared.view.PrivateView.{PrivateView}
+use Rattle.picky_wire_base.specs.{Flaw.{Why, Reason, Flawed, Length, Name}, Grammar.{Grammar}}
+use Rattle.picky_wire_base.specs.{Outcome.{and_then, map_err}, Narrowed.{meant}, Combine.{at}, Numbers.{IsBytes}}
+use Rattle.picky_wire_base.specs.{Entry.{entry}, Table.{find_entry}, Wire.{string, text, of_length}}
+use Rattle.picky_wire_base.specs.{declared.view.Stuck.{Stuck}, declared.view.Part.{Part}}
+use Rattle.picky_wire_base.specs.View.{Seen, Lies, end_of, part_bytes, why_in, why_of, SeenAt}
 use Rattle.picky_wire_base.specs.declared.stopped.Stopped.{Stopped}
-use Rattle.picky_sshkey_blob.specs.Key.{IsPrivateKey}
-use Rattle.picky_sshkey_blob.specs.Copy.{before_copy}
-use Rattle.picky_sshkey_blob.specs.carried.Before.{before_complete}
-use Rattle.picky_sshkey_blob.specs.Blob.{ed_secret}
-use Rattle.picky_sshkey_blob.specs.Blob.{private_key_fields, secret}
-use Rattle.picky_wire_base.specs.View.{SeenAt}
+use Rattle.picky_wire_base.proofs.{Numbers.{bytes_in_front, back_bytes}, Narrowed.{place_cases}}
+use Rattle.picky_keys.specs.{declared.kind.KeyKind.{KeyKind}, KeyNameTables.{key_types}, Key.{IsText}}
+use Rattle.picky_keys.specs.Blob.{key_type, ed_key}
+use Rattle.picky_wire_base.specs.declared.view.Stuck.TheVariants as stucks
+use Rattle.picky_keys.proofs.KeyLaws.{text_keeps}
+use Rattle.picky_sshkey_blob.specs.{declared.view.PrivateView.{PrivateView}, Key.{IsPrivateKey}, Copy.{before_copy}}
+use Rattle.picky_sshkey_blob.specs.{carried.Before.{before_complete}, Blob.{ed_secret, private_key_fields, secret}}
 use Rattle.picky_sshkey_blob.specs.View.{key_seen, PartsLie, NamesText, IsRefusal}
-use Rattle.picky_sshkey_blob.proofs.KeyLaws.{spelled_is_key}
-use Rattle.picky_sshkey_blob.proofs.NoNameLemmas.{fields_no_name}
-use Rattle.picky_sshkey_blob.proofs.RefusedLemmas.{RefusesAs, and_then_err, narrow_refuses}
-use Rattle.picky_sshkey_blob.proofs.RefusedLemmas.{at_refuses, entry_refused, test_refused}
+use Rattle.picky_sshkey_blob.proofs.{KeyLaws.{spelled_is_key}, NoNameLemmas.{fields_no_name}}
+use Rattle.picky_sshkey_blob.proofs.RefusedLemmas.{RefusesAs, and_then_err, narrow_refuses, at_refuses, entry_refused}
+use Rattle.picky_sshkey_blob.proofs.RefusedLemmas.{test_refused}
 
 -- ---- fields whose place is known
 

@@ -1,36 +1,26 @@
 -- OpenSSH's text that is written is read back.
-use Rattle.std.proofs.Common.{◌≡◌, ◌∙◌, ◌<◌, ◌≤◌, ◌^◌, ℕ, List, [], true, Option, None, Some, Ok, length, take, refl, ap, sym, subst, arith}
-use Rattle.std.specs.Option.{IfSome}
-use Rattle.std.specs.Str.{IsUtf8, trim_end}
-use Rattle.std.proofs.lemmas.Bool.{lt-ltb}
-use Rattle.std.proofs.lemmas.List.{append-nil, length-take}
+use Rattle.std.proofs.Common.{◌≡◌, ◌∙◌, ◌<◌, ◌≤◌, ◌^◌, ℕ, List, [], true, Option, None, Some, Ok, length, take, refl, ap, sym}
+use Rattle.std.proofs.Common.{subst, arith}
+use Rattle.std.proofs.{lemmas.Bool.{lt-ltb}, lemmas.List.{append-nil, length-take}}
+use Rattle.std.specs.{Option.{IfSome}, Str.{IsUtf8, trim_end}}
 use Rattle.picky_wire_base.specs.Numbers.{IsBytes}
-use Rattle.picky_sshkey_blob.specs.Pem.{pem_text}
+use Rattle.picky_sshkey_blob.specs.{Pem.{pem_text}, declared.key.SshBasePrivateKey.{SshBasePrivateKey}}
+use Rattle.picky_sshkey_blob.specs.Key.{IsPrivateKey}
 use Rattle.picky_sshkey_blob.proofs.TextLaws.{text_is_ascii}
 use Rattle.picky_suite.specs.Meanings.{Meanings}
 use Rattle.picky_suite.proofs.RangeLemmas.{bcrypt_decides}
 use Rattle.picky_keys.specs.Key.{IsText}
-use Rattle.picky_sshkey_blob.specs.declared.key.SshBasePrivateKey.{SshBasePrivateKey}
-use Rattle.picky_sshkey_blob.specs.Key.{IsPrivateKey}
-use Rattle.picky_sshkey.specs.declared.private_key.SshPrivateKey.{SshPrivateKey}
-use Rattle.picky_sshkey.specs.Kept.{read_again}
-use Rattle.picky_sshkey.specs.Made.{made_option}
-use Rattle.picky_sshkey.specs.PrivateRefusal.{text_key}
+use Rattle.picky_sshkey.specs.{declared.private_key.SshPrivateKey.{SshPrivateKey}, Kept.{read_again}}
+use Rattle.picky_sshkey.specs.{Made.{made_option}, PrivateRefusal.{text_key}}
 use Rattle.picky_sshkey.specs.Written.{content_under, envelope_of, key_text, lock_kept, may_derive, plain_block, sealable}
-use Rattle.picky_sshkey.proofs.KeptLaws.{text_reads_back}
-use Rattle.picky_sshkey.proofs.MeaningLaws.{text_says}
-use Rattle.picky_sshkey.proofs.ReadLaws.{made_is_kept}
+use Rattle.picky_sshkey.proofs.{KeptLaws.{text_reads_back}, MeaningLaws.{text_says}, ReadLaws.{made_is_kept}}
 use Rattle.picky_key_text.specs.declared.meaning.Key.TheVariants as keys
-use Rattle.picky_key_text.specs.Key.{private_meaning}
-use Rattle.picky_key_text.specs.Reads.{Means, Reads}
+use Rattle.picky_key_text.specs.{Key.{private_meaning}, Reads.{Means, Reads}}
 use Rattle.picky_target.specs.declared.target.KeyTarget.TheVariants as targets
 use Rattle.picky_target.specs.Output.{Output}
 use Rattle.picky_target.specs.Carried.{Carries, Comment, Derivation, Derives, Fresh, Length, need_under}
-use Rattle.picky_target.specs.Drafts.{openssh_key}
-use Rattle.picky_target.specs.ReadBack.{under}
-use Rattle.picky_target.specs.Texts.{envelope_text}
-use Rattle.picky_target.proofs.ByteLemmas.{ascii_is_bytes, pass_is_bytes, take_bytes}
-use Rattle.picky_target.proofs.FormLaws.{envelope_form}
+use Rattle.picky_target.specs.{Drafts.{openssh_key}, ReadBack.{under}, Texts.{envelope_text}}
+use Rattle.picky_target.proofs.{ByteLemmas.{ascii_is_bytes, pass_is_bytes, take_bytes}, FormLaws.{envelope_form}}
 use Rattle.picky_target.proofs.PlaceLemmas.{envelope_len}
 use Rattle.picky_keys.proofs.ByteLaws.{utf8_is_bytes}
 

@@ -1,32 +1,24 @@
 -- No refusal of PuTTY's file that comes before the suite is asked, or after it answered, is the suite's fault.
-use Rattle.std.proofs.Common.{◌≡◌, ◌≢◌, ℕ, ◌+◌, List, Bool, true, false, Result, Ok, Err, length, refl, sym, ◌∙◌, ◌⊎◌, inl, inr, arith}
+use Rattle.std.proofs.Common.{◌≡◌, ◌≢◌, ℕ, ◌+◌, List, Bool, true, false, Result, Ok, Err, length, refl, sym, ◌∙◌, ◌⊎◌, inl, inr}
+use Rattle.std.proofs.Common.{arith}
 use Rattle.std.specs.Prelude.{◌&&◌, nat_le, codes}
-use Rattle.picky_wire_base.specs.Outcome.{map_err}
+use Rattle.picky_wire_base.specs.{Outcome.{map_err}, Gives.{Gives}}
 use Rattle.picky_kv.specs.declared.PpkVersionKey.{PpkVersionKey}
-use Rattle.picky_suite.specs.Asked.{LeavesSuite}
-use Rattle.picky_suite.specs.Meanings.{Meanings}
-use Rattle.picky_wire_base.specs.Gives.{Gives}
-use Rattle.picky_keys.specs.Blob.{blob_of}
-use Rattle.picky_keys.specs.LineRefusal.{is_short}
-use Rattle.picky_sshkey_blob.specs.declared.key.SshBasePrivateKey.{SshBasePrivateKey}
-use Rattle.picky_sshkey_blob.specs.Key.{public_part}
+use Rattle.picky_suite.specs.{Asked.{LeavesSuite}, Meanings.{Meanings}}
+use Rattle.picky_keys.specs.{Blob.{blob_of}, LineRefusal.{is_short}}
+use Rattle.picky_sshkey_blob.specs.{declared.key.SshBasePrivateKey.{SshBasePrivateKey}, Key.{public_part}}
 use Rattle.picky_ppk_parts.specs.declared.config.PpkEncryptionConfig.{PpkEncryptionConfig}
-use Rattle.picky_ppk_parts.specs.declared.error.PuttyError.{PuttyError}
+use Rattle.picky_ppk_parts.specs.{declared.error.PuttyError.{PuttyError}, KeyParts.{key_parts}, Secret.{secret_bytes}}
 use Rattle.picky_ppk_parts.specs.declared.error.PuttyError.TheVariants as putty
-use Rattle.picky_ppk_parts.specs.KeyParts.{key_parts}
-use Rattle.picky_ppk_parts.specs.Secret.{secret_bytes}
-use Rattle.picky_ppk_file.specs.PuttyRefusal.{is_hardware}
-use Rattle.picky_ppk_file.specs.declared.file.PpkFile.{PpkFile}
+use Rattle.picky_ppk_file.specs.{PuttyRefusal.{is_hardware}, declared.file.PpkFile.{PpkFile}}
 use Rattle.picky_ppk_file.specs.Written.{file_text, fits_block, written}
-use Rattle.picky_ppk.specs.Changed.{file_of_parts, of_base_key}
-use Rattle.picky_target.specs.declared.error.ConvertError.{ConvertError}
-use Rattle.picky_target.specs.declared.error.ConvertError.TheVariants as errors
-use Rattle.picky_target.specs.declared.target.KeyTarget.TheVariants as targets
-use Rattle.picky_ppk.specs.Fresh.{salt_len}
-use Rattle.picky_target.specs.Drafts.{padding_len, parts_of}
+use Rattle.picky_ppk.specs.{Changed.{file_of_parts, of_base_key}, Fresh.{salt_len}}
+use Rattle.picky_target.specs.{declared.error.ConvertError.{ConvertError}, Drafts.{padding_len, parts_of}}
 use Rattle.picky_target.specs.Judged.{derives_under}
 use Rattle.picky_target.specs.inner.File.{text_of_file, drawn, measured, plain_of, plain_drafted, plain_written}
 use Rattle.picky_target.specs.inner.Public.{putty_refusal}
+use Rattle.picky_target.specs.declared.error.ConvertError.TheVariants as errors
+use Rattle.picky_target.specs.declared.target.KeyTarget.TheVariants as targets
 use Rattle.picky_target.proofs.TestLemmas.{refuses, step_refuses}
 use Rattle.picky_target.proofs.FileLemmas.{key_parts_is, hardware_is_refused, tested}
 

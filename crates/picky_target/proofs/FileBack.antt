@@ -1,58 +1,36 @@
 -- PuTTY's private key file that is written is read back.
 use Rattle.std.proofs.Common.{◌≡◌, ◌∙◌, ◌<◌, ◌≤◌, ◌+◌, ◌^◌, ℕ, List, [], true, false, Option, None, Some, Ok, length, take}
 use Rattle.std.proofs.Common.{drop, refl, ap, sym, subst, arith, inl, inr}
-use Rattle.std.specs.Prelude.{◌++◌, ◌&&◌}
-use Rattle.std.specs.Option.{IfSome}
-use Rattle.std.specs.Str.{IsUtf8}
-use Rattle.std.proofs.Math.Seq.{take-length}
-use Rattle.std.proofs.lemmas.Bool.{le-leb, lt-ltb}
+use Rattle.std.proofs.{Math.Seq.{take-length}, lemmas.Bool.{le-leb, lt-ltb}}
 use Rattle.std.proofs.lemmas.List.{append-nil, length-append, length-drop, length-take}
+use Rattle.std.specs.{Prelude.{◌++◌, ◌&&◌}, Option.{IfSome}, Str.{IsUtf8}}
 use Rattle.picky_wire_base.specs.Numbers.{IsBytes}
 use Rattle.picky_text.specs.Lines.{IsLine}
-use Rattle.picky_kv.specs.declared.PpkVersionKey.{PpkVersionKey}
-use Rattle.picky_kv.specs.declared.PpkVersionKey.TheVariants.{V2, V3}
-use Rattle.picky_suite.specs.Meanings.{Meanings}
-use Rattle.picky_suite.specs.Ranges.{IsWhole}
-use Rattle.picky_keys.specs.Blob.{blob_of}
-use Rattle.picky_keys.specs.Key.{IsText}
-use Rattle.picky_keys.proofs.ByteLaws.{bytes_joined}
-use Rattle.picky_keys.proofs.LineLaws.{blob_is_bytes}
+use Rattle.picky_kv.specs.{declared.PpkVersionKey.{PpkVersionKey}, declared.PpkVersionKey.TheVariants.{V2, V3}}
+use Rattle.picky_suite.specs.{Meanings.{Meanings}, Ranges.{IsWhole}}
+use Rattle.picky_keys.specs.{Blob.{blob_of}, Key.{IsText}}
+use Rattle.picky_keys.proofs.{ByteLaws.{bytes_joined, utf8_is_bytes}, LineLaws.{blob_is_bytes}}
 use Rattle.picky_sshkey_blob.specs.declared.key.SshBasePrivateKey.{SshBasePrivateKey}
 use Rattle.picky_sshkey_blob.specs.Key.{IsPrivateKey, public_part}
 use Rattle.picky_sshkey_blob.proofs.KeyLaws.{public_part_is_key}
-use Rattle.picky_ppk_parts.specs.declared.config.PpkEncryptionConfig.{PpkEncryptionConfig}
-use Rattle.picky_ppk_parts.specs.KeyParts.{key_parts}
-use Rattle.picky_ppk_parts.specs.Mac.{mac_of}
-use Rattle.picky_ppk_parts.specs.Parts.{StandsForKey}
-use Rattle.picky_ppk_parts.specs.Secret.{secret_bytes}
-use Rattle.picky_ppk_parts.proofs.CountedLaws.{cut_stands, made_is_counted}
-use Rattle.picky_ppk_parts.proofs.PartsLaws.{parts_sound}
+use Rattle.picky_ppk_parts.specs.{declared.config.PpkEncryptionConfig.{PpkEncryptionConfig}, KeyParts.{key_parts}}
+use Rattle.picky_ppk_parts.specs.{Mac.{mac_of}, Parts.{StandsForKey}, Secret.{secret_bytes}}
+use Rattle.picky_ppk_parts.proofs.{CountedLaws.{cut_stands, made_is_counted}, PartsLaws.{parts_sound}}
 use Rattle.picky_ppk_parts.proofs.ReadBackLaws.{parts_read_back}
-use Rattle.picky_ppk_file.specs.declared.file.PpkFile.{PpkFile}
-use Rattle.picky_ppk_file.specs.File.{IsFile, IsSealing, version_of}
-use Rattle.picky_ppk_file.specs.FileText.{SaysFile}
-use Rattle.picky_ppk_file.specs.FileRefusal.{file_meaning}
-use Rattle.picky_ppk_file.specs.Written.{end_of, file_text, fits_block}
-use Rattle.picky_ppk_file.proofs.FileLaws.{meaning_is_said}
-use Rattle.picky_ppk_file.proofs.ReadBackLaws.{text_is_read_back}
-use Rattle.picky_ppk_file.specs.PuttyRefusal.{is_hardware}
-use Rattle.picky_ppk.specs.Keyed.{keys_under}
-use Rattle.picky_ppk.specs.Mac.{own_mac}
-use Rattle.picky_ppk.specs.Sealed.{sealing_under}
+use Rattle.picky_ppk_file.specs.{declared.file.PpkFile.{PpkFile}, File.{IsFile, IsSealing, version_of}}
+use Rattle.picky_ppk_file.specs.{FileText.{SaysFile}, FileRefusal.{file_meaning}}
+use Rattle.picky_ppk_file.specs.{Written.{end_of, file_text, fits_block}, PuttyRefusal.{is_hardware}}
+use Rattle.picky_ppk_file.proofs.{FileLaws.{meaning_is_said}, ReadBackLaws.{text_is_read_back}}
+use Rattle.picky_ppk.specs.{Keyed.{keys_under}, Mac.{own_mac}, Sealed.{sealing_under}, Fresh.{salt_len}}
 use Rattle.picky_ppk.proofs.CheckedLaws.{made_file_carries}
-use Rattle.picky_key_text.specs.Key.{private_meaning}
-use Rattle.picky_key_text.specs.PpkText.{CanOpen, IsPpkText}
-use Rattle.picky_key_text.specs.Reads.{Means, Reads}
+use Rattle.picky_key_text.specs.{Key.{private_meaning}, PpkText.{CanOpen, IsPpkText}, Reads.{Means, Reads}}
 use Rattle.picky_target.specs.declared.target.KeyTarget.TheVariants as targets
 use Rattle.picky_target.specs.Output.{Output}
 use Rattle.picky_target.specs.Carried.{Carries, Comment, Derivation, DerivesUnder, Fresh, Kind, Length, Lines}
-use Rattle.picky_ppk.specs.Fresh.{salt_len}
 use Rattle.picky_target.specs.Drafts.{parts_of, plain_file, ppk_file, sealed_file, padding_len}
 use Rattle.picky_target.specs.ReadBack.{IsConfig, under}
 use Rattle.picky_target.proofs.ByteLemmas.{drop_bytes, each_is_byte, keys_are_bytes, secret_is_bytes, take_bytes}
-use Rattle.picky_target.proofs.FileLemmas.{key_parts_is}
-use Rattle.picky_target.proofs.FormLaws.{file_form}
-use Rattle.picky_keys.proofs.ByteLaws.{utf8_is_bytes}
+use Rattle.picky_target.proofs.{FileLemmas.{key_parts_is}, FormLaws.{file_form}}
 
 -- ---- the parts
 

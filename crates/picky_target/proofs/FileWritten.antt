@@ -1,44 +1,32 @@
 -- What is written of PuTTY's private key file step by step is what its conditions say.
 use Rattle.std.proofs.Common.{◌≡◌, ◌∙◌, ◌+◌, ◌^◌, ℕ, List, Bool, true, false, Option, None, Some, Result, Ok, Err, length, take}
 use Rattle.std.proofs.Common.{drop, refl, ap, sym, arith, inl, inr}
-use Rattle.std.specs.Prelude.{◌++◌, ◌&&◌, is_some, nat_le, nat_lt, replicate, if◌then◌else◌}
 use Rattle.std.proofs.lemmas.Bool.{cases_Bool, leb-true, le-leb, ltb-true, ltb-false, le-ltb}
 use Rattle.std.proofs.lemmas.List.{length-append, length-take, length-replicate}
+use Rattle.std.specs.Prelude.{◌++◌, ◌&&◌, is_some, nat_le, nat_lt, replicate, if◌then◌else◌}
 use Rattle.picky_wire_base.specs.Outcome.{and_then}
-use Rattle.picky_kv.specs.declared.PpkVersionKey.{PpkVersionKey}
-use Rattle.picky_kv.specs.declared.PpkVersionKey.TheVariants.{V2, V3}
+use Rattle.picky_kv.specs.{declared.PpkVersionKey.{PpkVersionKey}, declared.PpkVersionKey.TheVariants.{V2, V3}}
 use Rattle.picky_suite.specs.Meanings.{Meanings}
-use Rattle.picky_keys.specs.Blob.{blob_of}
-use Rattle.picky_keys.specs.LineRefusal.{is_short}
-use Rattle.picky_sshkey_blob.specs.declared.key.SshBasePrivateKey.{SshBasePrivateKey}
-use Rattle.picky_sshkey_blob.specs.Key.{public_part}
-use Rattle.picky_ppk_parts.specs.declared.config.PpkEncryptionConfig.{PpkEncryptionConfig}
-use Rattle.picky_ppk_parts.specs.declared.error.PuttyError.TheVariants as putty
-use Rattle.picky_ppk_parts.specs.Mac.{mac_of}
+use Rattle.picky_keys.specs.{Blob.{blob_of}, LineRefusal.{is_short}}
+use Rattle.picky_sshkey_blob.specs.{declared.key.SshBasePrivateKey.{SshBasePrivateKey}, Key.{public_part}}
+use Rattle.picky_ppk_parts.specs.{declared.config.PpkEncryptionConfig.{PpkEncryptionConfig}, Mac.{mac_of}}
 use Rattle.picky_ppk_parts.specs.Secret.{secret_bytes}
-use Rattle.picky_ppk_file.specs.declared.file.PpkFile.{PpkFile}
-use Rattle.picky_ppk_file.specs.File.{version_of}
-use Rattle.picky_ppk_file.specs.Written.{file_text, fits_block, written as file_written}
-use Rattle.picky_ppk_file.specs.PuttyRefusal.{is_hardware}
-use Rattle.picky_ppk.specs.Changed.{of_base_key}
-use Rattle.picky_ppk.specs.Keyed.{keys_under}
-use Rattle.picky_ppk.specs.Mac.{own_mac}
-use Rattle.picky_ppk.specs.Sealed.{encrypted, file_to_seal, sealing_under}
+use Rattle.picky_ppk_parts.specs.declared.error.PuttyError.TheVariants as putty
+use Rattle.picky_ppk_file.specs.{declared.file.PpkFile.{PpkFile}, File.{version_of}}
+use Rattle.picky_ppk_file.specs.{Written.{file_text, fits_block, written as file_written}, PuttyRefusal.{is_hardware}}
+use Rattle.picky_ppk.specs.{Changed.{of_base_key}, Keyed.{keys_under}, Mac.{own_mac}}
+use Rattle.picky_ppk.specs.{Sealed.{encrypted, file_to_seal, sealing_under}, Fresh.{salt_len}}
 use Rattle.picky_ppk.proofs.SealedLemmas.{draft_fits}
 use Rattle.picky_key_text.specs.Key.{private_meaning}
-use Rattle.picky_target.specs.declared.error.ConvertError.{ConvertError}
-use Rattle.picky_target.specs.declared.error.ConvertError.TheVariants as errors
-use Rattle.picky_target.specs.declared.target.KeyTarget.TheVariants as targets
-use Rattle.picky_target.specs.Output.{Output}
-use Rattle.picky_ppk.specs.Fresh.{salt_len}
+use Rattle.picky_target.specs.{declared.error.ConvertError.{ConvertError}, Output.{Output}}
 use Rattle.picky_target.specs.Drafts.{plain_file, padding_len, sealed_file, private_bytes}
 use Rattle.picky_target.specs.Judged.{carries_comment, derives_under, judged_meaning, mac_len, measured_file}
 use Rattle.picky_target.specs.Written.{goes_on, written, writing_asks}
-use Rattle.picky_target.specs.inner.File.{plain_written, Sealable}
-use Rattle.picky_target.specs.inner.File.{sealable, sealed_text, ppk_written, ppk_asks}
+use Rattle.picky_target.specs.inner.File.{plain_written, Sealable, sealable, sealed_text, ppk_written, ppk_asks}
 use Rattle.picky_target.specs.inner.File.{is_sealable as has_passed}
-use Rattle.picky_target.proofs.FileLemmas.{key_parts_is, salt_size}
-use Rattle.picky_target.proofs.LengthLemmas.{same_length, sealing_version}
+use Rattle.picky_target.specs.declared.error.ConvertError.TheVariants as errors
+use Rattle.picky_target.specs.declared.target.KeyTarget.TheVariants as targets
+use Rattle.picky_target.proofs.{FileLemmas.{key_parts_is, salt_size}, LengthLemmas.{same_length, sealing_version}}
 
 -- ---- lengths
 

@@ -1,46 +1,35 @@
 -- How long the text of PuTTY's private key file is.
 use Rattle.std.proofs.Common.{◌≡◌, ◌∙◌, ℕ, ◌+◌, ◌*◌, ◌^◌, ◌<◌, ◌≤◌, List, [], ◌∷◌, ◌++◌, length, codes, ap, refl, sym, arith}
-use Rattle.std.specs.Fmt.{decimal}
-use Rattle.std.specs.Int.{div_ceil}
-use Rattle.std.specs.List.{concat}
 use Rattle.std.proofs.lemmas.Fmt.{decimal_step, decimal_digit, length-decimal-le}
 use Rattle.std.proofs.lemmas.List.{length-append, length-replicate}
+use Rattle.std.specs.{Fmt.{decimal}, Int.{div_ceil}, List.{concat}}
 use Rattle.hex.specs.Hex.{encode_lower}
 use Rattle.hex.proofs.HexLemmas.{length-encode_with}
-use Rattle.picky_text.specs.Base64.{base64_of}
-use Rattle.picky_text.specs.Lines.{text_of, end_bytes}
-use Rattle.picky_text.specs.Rows.{rows_of}
-use Rattle.picky_text.specs.declared.lines.LineEnd.{LineEnd}
-use Rattle.picky_text.specs.declared.lines.LineEnd.TheVariants.{Lf, CrLf}
-use Rattle.picky_text.proofs.Base64Laws.{length_base64}
-use Rattle.picky_text.proofs.RowLaws.{rows_of_are_rows}
+use Rattle.picky_text.specs.{Base64.{base64_of}, Lines.{text_of, end_bytes}, Rows.{rows_of}}
+use Rattle.picky_text.specs.{declared.lines.LineEnd.{LineEnd}, declared.lines.LineEnd.TheVariants.{Lf, CrLf}}
+use Rattle.picky_text.proofs.{Base64Laws.{length_base64}, RowLaws.{rows_of_are_rows}}
 use Rattle.picky_kv.specs.AlgorithmField.{algorithm_field}
-use Rattle.picky_kv.specs.Argon2Keys.{key_derivation_key, argon2_memory_key, argon2_passes_key}
-use Rattle.picky_kv.specs.Argon2Keys.{argon2_parallelism_key, argon2_salt_key}
+use Rattle.picky_kv.specs.Argon2Keys.{key_derivation_key, argon2_memory_key, argon2_passes_key, argon2_parallelism_key}
+use Rattle.picky_kv.specs.Argon2Keys.{argon2_salt_key}
 use Rattle.picky_kv.specs.ChoiceFields.{version_field, encryption_field, flavour_field}
 use Rattle.picky_kv.specs.Keys.{encryption_key, comment_key, public_lines_key, private_lines_key, private_mac_key}
-use Rattle.picky_kv.specs.NumberFields.{u32_field}
-use Rattle.picky_kv.specs.Output.{pair_line, block_lines}
+use Rattle.picky_kv.specs.{NumberFields.{u32_field}, Output.{pair_line, block_lines}}
 use Rattle.picky_kv.specs.ValueFields.{comment_field, base64_field, hex_field}
 use Rattle.picky_kv.specs.declared.Argon2FlavourValue.{Argon2FlavourValue}
-use Rattle.picky_kv.specs.declared.Argon2FlavourValue.TheVariants as flavours
-use Rattle.picky_kv.specs.declared.PpkEncryptionValue.{PpkEncryptionValue}
-use Rattle.picky_kv.specs.declared.PpkEncryptionValue.TheVariants as encryptions
-use Rattle.picky_kv.specs.declared.PpkVersionKey.{PpkVersionKey}
+use Rattle.picky_kv.specs.{declared.PpkEncryptionValue.{PpkEncryptionValue}, declared.PpkVersionKey.{PpkVersionKey}}
 use Rattle.picky_kv.specs.declared.PpkVersionKey.TheVariants.{V2, V3}
 use Rattle.picky_kv.specs.declared.algorithm.PpkKeyAlgorithmValue.{PpkKeyAlgorithmValue}
+use Rattle.picky_kv.specs.declared.Argon2FlavourValue.TheVariants as flavours
+use Rattle.picky_kv.specs.declared.PpkEncryptionValue.TheVariants as encryptions
 use Rattle.picky_kv.specs.declared.algorithm.PpkKeyAlgorithmValue.TheVariants as algorithms
 use Rattle.picky_kv.proofs.WriteLemmas.{length-rows_of}
 use Rattle.picky_ppk_parts.specs.declared.config.PpkEncryptionConfig.{PpkEncryptionConfig}
 use Rattle.picky_ppk_parts.specs.declared.material.Argon2Params.{Argon2Params}
-use Rattle.picky_ppk_file.specs.declared.file.PpkFile.{PpkFile}
-use Rattle.picky_ppk_file.specs.File.{version_of, encryption_of}
+use Rattle.picky_ppk_file.specs.{declared.file.PpkFile.{PpkFile}, File.{version_of, encryption_of}}
 use Rattle.picky_ppk_file.specs.Written.{argon2_lines, end_of, file_lines, file_text, sealing_lines}
 use Rattle.picky_ppk_file.proofs.TextLemmas.{text_of-append, text_of-nil}
 use Rattle.picky_ppk.specs.Sealed.{sealing_under}
-use Rattle.picky_target.specs.Judged.{mac_len}
-use Rattle.picky_target.specs.inner.File.{draft_of}
-use Rattle.picky_target.specs.inner.Lengths.{line_len, block_len}
+use Rattle.picky_target.specs.{Judged.{mac_len}, inner.File.{draft_of}, inner.Lengths.{line_len, block_len}}
 
 -- ---- numbers and words
 

@@ -1,45 +1,34 @@
 -- Each place's test is its condition.
 use Rattle.std.proofs.Common.{◌≡◌, ◌<◌, ◌^◌, ◌-◌, ℕ, List, true, not, Option, None, Some, length, refl, ap, arith}
-use Rattle.std.specs.Prelude.{◌&&◌, slice_index}
-use Rattle.std.specs.List.{list_any}
-use Rattle.std.specs.Str.{trim_end}
 use Rattle.std.proofs.lemmas.Bool.{and_parts, eq-eqb, ne_eqb, leb-true, le-leb, ltb-true, lt-ltb}
 use Rattle.std.proofs.lemmas.Slice.Eq.{bytes_eq-Decides}
-use Rattle.picky_kv.specs.declared.PpkVersionKey.{PpkVersionKey}
-use Rattle.picky_kv.specs.declared.PpkVersionKey.TheVariants.{V2, V3}
-use Rattle.picky_sshkey_blob.specs.Pem.{pem_text}
+use Rattle.std.specs.{Prelude.{◌&&◌, slice_index}, List.{list_any}, Str.{trim_end}}
+use Rattle.picky_kv.specs.{declared.PpkVersionKey.{PpkVersionKey}, declared.PpkVersionKey.TheVariants.{V2, V3}}
+use Rattle.picky_sshkey_blob.specs.{Pem.{pem_text}, declared.key.SshBasePrivateKey.{SshBasePrivateKey}}
+use Rattle.picky_sshkey_blob.specs.Key.{public_part as public_part_of}
 use Rattle.picky_sshkey_blob.proofs.TextLaws.{length_text, length_lines}
-use Rattle.picky_text.specs.Lines.{HasNo}
-use Rattle.picky_text.specs.Words.{ends_line}
+use Rattle.picky_text.specs.{Lines.{HasNo}, Words.{ends_line}}
 use Rattle.picky_suite.specs.Meanings.{Meanings, plain}
 use Rattle.picky_suite.proofs.RangeLemmas.{bcrypt_decides, argon2_decides}
-use Rattle.picky_keys.specs.Blob.{blob_of}
-use Rattle.picky_keys.specs.Line.{line_of}
-use Rattle.picky_keys.specs.LineRefusal.{is_short}
+use Rattle.picky_keys.specs.{Blob.{blob_of}, Line.{line_of}, LineRefusal.{is_short}}
 use Rattle.picky_keys.proofs.ByteLaws.{no_by_test}
-use Rattle.picky_sshkey_blob.specs.declared.key.SshBasePrivateKey.{SshBasePrivateKey}
-use Rattle.picky_sshkey_blob.specs.Key.{public_part as public_part_of}
 use Rattle.picky_sshkey.specs.declared.private_key.SshPrivateKey.{SshPrivateKey}
 use Rattle.picky_sshkey.specs.Written.{content_under, envelope_of, lock_kept, plain_block, sealed_block}
 use Rattle.picky_sshkey.proofs.KeptLaws.{envelopes_alike, sealed_len as block_sealed_len}
 use Rattle.picky_ppk_parts.specs.declared.config.PpkEncryptionConfig.{PpkEncryptionConfig}
-use Rattle.picky_ppk_file.specs.Written.{file_text, fits_block}
-use Rattle.picky_ppk_file.specs.PuttyPublic.{putty_public}
+use Rattle.picky_ppk_file.specs.{Written.{file_text, fits_block}, PuttyPublic.{putty_public}}
 use Rattle.picky_ppk_file.specs.PuttyRefusal.{is_hardware}
-use Rattle.picky_key_text.specs.declared.meaning.Key.{Key}
-use Rattle.picky_key_text.specs.declared.meaning.Key.TheVariants as keys
-use Rattle.picky_key_text.specs.declared.meaning.Meaning.{Meaning}
+use Rattle.picky_key_text.specs.{declared.meaning.Key.{Key}, declared.meaning.Meaning.{Meaning}}
 use Rattle.picky_key_text.specs.Key.{public_part, public_key}
-use Rattle.picky_target.specs.declared.target.KeyTarget.{KeyTarget}
-use Rattle.picky_target.specs.declared.target.KeyTarget.TheVariants as targets
-use Rattle.picky_target.specs.Output.{Output}
-use Rattle.picky_target.specs.Drafts.{openssh_key, ppk_file, private_bytes}
-use Rattle.picky_target.specs.Texts.{envelope_text}
+use Rattle.picky_key_text.specs.declared.meaning.Key.TheVariants as keys
+use Rattle.picky_target.specs.{declared.target.KeyTarget.{KeyTarget}, Output.{Output}}
+use Rattle.picky_target.specs.{Drafts.{openssh_key, ppk_file, private_bytes}, Texts.{envelope_text}}
 use Rattle.picky_target.specs.Carried.{CarriesComment, Derives, HasFileLines, HasFileRoom, HasKind, HasLines, HasRoom}
-use Rattle.picky_target.specs.Carried.{HasNeededSecret, HasSecretRoom, Holds, Place, need}
-use Rattle.picky_target.specs.Carried.{PrivateKey, Kind, Comment, Derivation, Fresh, Length, Lines}
+use Rattle.picky_target.specs.Carried.{HasNeededSecret, HasSecretRoom, Holds, Place, need, PrivateKey, Kind, Comment}
+use Rattle.picky_target.specs.Carried.{Derivation, Fresh, Length, Lines}
 use Rattle.picky_target.specs.Judged.{carries_comment, derives, ends_in_cr, file_has_lines, has_kind, has_lf, has_lines}
 use Rattle.picky_target.specs.Judged.{has_room, has_needed_secret, is_trimmed, measured_file, passes, secret_has_room}
+use Rattle.picky_target.specs.declared.target.KeyTarget.TheVariants as targets
 use Rattle.picky_target.proofs.FileWritten.{plain_len, sealed_len}
 use Rattle.picky_target.proofs.TestLemmas.{not_true, test_from_has_no, no_end_from_test, test_from_no_end}
 

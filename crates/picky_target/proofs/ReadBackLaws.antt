@@ -1,35 +1,25 @@
 -- What is written is read back.
-use Rattle.std.proofs.Common.{ℕ, List, [], refl, sym, subst}
-use Rattle.std.specs.Option.{IfSome}
-use Rattle.std.specs.Str.{IsUtf8}
-use Rattle.std.proofs.lemmas.List.{append-nil}
+use Rattle.std.proofs.{Common.{ℕ, List, [], refl, sym, subst}, lemmas.List.{append-nil}}
+use Rattle.std.specs.{Option.{IfSome}, Str.{IsUtf8}}
 use Rattle.picky_wire_base.specs.Numbers.{IsBytes}
 use Rattle.picky_suite.specs.Meanings.{Meanings}
-use Rattle.picky_keys.specs.Key.{IsKey}
-use Rattle.picky_keys.specs.Blob.{blob_of}
-use Rattle.picky_keys.specs.Line.{IsPublicLine, line_of}
+use Rattle.picky_keys.specs.{Key.{IsKey}, Blob.{blob_of}, Line.{IsPublicLine, line_of}}
 use Rattle.picky_keys.proofs.LineLaws.{line_says}
 use Rattle.picky_sshkey_blob.proofs.KeyLaws.{public_part_is_key}
 use Rattle.picky_kv.specs.declared.PpkVersionKey.{PpkVersionKey}
 use Rattle.picky_ppk_parts.specs.declared.config.PpkEncryptionConfig.{PpkEncryptionConfig}
 use Rattle.picky_ppk_file.specs.PuttyPublic.{putty_public}
 use Rattle.picky_ppk_file.proofs.PuttyLaws.{putty_public_means}
-use Rattle.picky_key_text.specs.declared.meaning.Key.{Key}
-use Rattle.picky_key_text.specs.declared.meaning.Key.TheVariants as keys
-use Rattle.picky_key_text.specs.declared.meaning.Meaning.{Meaning}
-use Rattle.picky_key_text.specs.Kept.{IsKeptMeaning, IsKeptKey}
-use Rattle.picky_key_text.specs.Key.{public_key, public_meaning, public_part}
+use Rattle.picky_key_text.specs.{declared.meaning.Key.{Key}, declared.meaning.Meaning.{Meaning}}
+use Rattle.picky_key_text.specs.{Kept.{IsKeptMeaning, IsKeptKey}, Key.{public_key, public_meaning, public_part}}
 use Rattle.picky_key_text.specs.Reads.{Means, Reads}
-use Rattle.picky_target.specs.declared.target.KeyTarget.{KeyTarget}
-use Rattle.picky_target.specs.declared.target.KeyTarget.TheVariants as targets
-use Rattle.picky_target.specs.Output.{Output}
+use Rattle.picky_key_text.specs.declared.meaning.Key.TheVariants as keys
+use Rattle.picky_target.specs.{declared.target.KeyTarget.{KeyTarget}, Output.{Output}}
 use Rattle.picky_target.specs.Carried.{Carries, Comment, Length, PrivateKey}
-use Rattle.picky_target.specs.ReadBack.{IsConfig, IsTarget, kept, under}
-use Rattle.picky_target.specs.Texts.{Spells, text_for}
-use Rattle.picky_target.proofs.EnvelopeBack.{envelope_is_read_back}
-use Rattle.picky_target.proofs.FileBack.{file_is_read_back}
-use Rattle.picky_target.proofs.FormLaws.{line_form, putty_form}
-use Rattle.picky_target.proofs.TextLaws.{text_only}
+use Rattle.picky_target.specs.{ReadBack.{IsConfig, IsTarget, kept, under}, Texts.{Spells, text_for}}
+use Rattle.picky_target.specs.declared.target.KeyTarget.TheVariants as targets
+use Rattle.picky_target.proofs.{EnvelopeBack.{envelope_is_read_back}, FileBack.{file_is_read_back}}
+use Rattle.picky_target.proofs.{FormLaws.{line_form, putty_form}, TextLaws.{text_only}}
 
 part_is_key : (key : Key) → IsKeptKey key → IsKey (public_part key)
 part_is_key (keys.Private key) is = public_part_is_key key is

@@ -1,40 +1,31 @@
 -- What each target's writer answers is what is written of a meaning.
 use Rattle.std.proofs.Common.{◌≡◌, inl, inr, ℕ, List, Bool, true, Option, None, Some, Result, Ok, Err, refl, ap, sym, subst}
 use Rattle.std.proofs.Common.{◌∙◌, length, arith}
-use Rattle.std.specs.Prelude.{◌&&◌, nat_le}
 use Rattle.std.proofs.lemmas.Bool.{cases_Bool, le-leb}
-use Rattle.picky_suite.specs.Asked.{GivesAsked, LeavesSuite}
-use Rattle.picky_suite.specs.Meanings.{Meanings}
+use Rattle.std.specs.Prelude.{◌&&◌, nat_le}
+use Rattle.picky_suite.specs.{Asked.{GivesAsked, LeavesSuite}, Meanings.{Meanings}}
 use Rattle.picky_wire_base.specs.Gives.{Gives}
 use Rattle.picky_keys.specs.declared.key.SshBasePublicKey.{SshBasePublicKey}
-use Rattle.picky_keys.specs.declared.key.SshPublicKey.{SshPublicKey}
-use Rattle.picky_keys.specs.Blob.{blob_of}
-use Rattle.picky_keys.specs.Line.{line_of}
+use Rattle.picky_keys.specs.{declared.key.SshPublicKey.{SshPublicKey}, Blob.{blob_of}, Line.{line_of}}
 use Rattle.picky_keys.specs.LineRefusal.{is_short}
 use Rattle.picky_sshkey_blob.specs.declared.error.SshPrivateKeyError.TheVariants as private
 use Rattle.picky_sshkey_blob.specs.declared.key.SshBasePrivateKey.{SshBasePrivateKey}
 use Rattle.picky_ppk_parts.specs.declared.config.PpkEncryptionConfig.{PpkEncryptionConfig}
 use Rattle.picky_ppk_parts.specs.declared.error.PuttyError.TheVariants as putty
 use Rattle.picky_kv.specs.declared.PpkVersionKey.{PpkVersionKey}
-use Rattle.picky_ppk_file.specs.PuttyPublic.{putty_public}
-use Rattle.picky_ppk_file.specs.PuttyRefusal.{is_hardware}
-use Rattle.picky_key_text.specs.declared.meaning.Key.{Key}
-use Rattle.picky_key_text.specs.declared.meaning.Key.TheVariants as keys
-use Rattle.picky_key_text.specs.declared.meaning.Meaning.{Meaning}
+use Rattle.picky_ppk_file.specs.{PuttyPublic.{putty_public}, PuttyRefusal.{is_hardware}}
+use Rattle.picky_key_text.specs.{declared.meaning.Key.{Key}, declared.meaning.Meaning.{Meaning}}
 use Rattle.picky_key_text.specs.Key.{private_meaning, public_key, public_part}
-use Rattle.picky_target.specs.declared.error.ConvertError.{ConvertError}
-use Rattle.picky_target.specs.declared.error.ConvertError.TheVariants as errors
-use Rattle.picky_target.specs.declared.target.KeyTarget.{KeyTarget}
-use Rattle.picky_target.specs.declared.target.KeyTarget.TheVariants as targets
-use Rattle.picky_target.specs.Output.{Output}
-use Rattle.picky_target.specs.Carried.{need_under}
+use Rattle.picky_key_text.specs.declared.meaning.Key.TheVariants as keys
+use Rattle.picky_target.specs.{declared.error.ConvertError.{ConvertError}, declared.target.KeyTarget.{KeyTarget}}
+use Rattle.picky_target.specs.{Output.{Output}, Carried.{need_under}}
 use Rattle.picky_target.specs.Judged.{carries_comment, derives, judged_meaning}
 use Rattle.picky_target.specs.Written.{fault_of, written, writing_asks}
-use Rattle.picky_target.specs.inner.Envelope.{envelope_written, envelope_asks}
-use Rattle.picky_target.specs.inner.File.{ppk_written, ppk_asks}
+use Rattle.picky_target.specs.{inner.Envelope.{envelope_written, envelope_asks}, inner.File.{ppk_written, ppk_asks}}
 use Rattle.picky_target.specs.inner.Public.{line_written, putty_written}
-use Rattle.picky_target.proofs.EnvelopeWritten.{envelope_is_written}
-use Rattle.picky_target.proofs.FileWritten.{file_is_written}
+use Rattle.picky_target.specs.declared.error.ConvertError.TheVariants as errors
+use Rattle.picky_target.specs.declared.target.KeyTarget.TheVariants as targets
+use Rattle.picky_target.proofs.{EnvelopeWritten.{envelope_is_written}, FileWritten.{file_is_written}}
 
 -- ---- from one form of words to the other
 

@@ -1,34 +1,18 @@
 -- Lemmas on lists of elements: their spellings joined, and their values read one after another.
 use Rattle.std.proofs.Common.{◌≡◌, ◌≢◌, ◌⊎◌, inl, inr, ℕ, ◌+◌, ◌≤◌, ◌<◌, ◌^◌, ◌-◌, List, [], ◌∷◌, ◌++◌, length, take, drop}
 use Rattle.std.proofs.Common.{get_or, min, sym, ap, ◌∙◌, arith, refl, add-one, Result, Ok, Err}
-use Rattle.std.proofs.Math.Seq.{drop-cons}
-use Rattle.std.proofs.lemmas.List.{take-append-drop}
-use Rattle.std.proofs.lemmas.Grind.{flat_map-append}
-use Rattle.std.proofs.lemmas.List.Concat.{flat_map-cons}
-use Rattle.std.proofs.lemmas.List.Folds.{length-flat_map-take}
-use Rattle.std.specs.List.{All, flat_map}
-use Rattle.std.specs.Prelude.{Option, Some, None, IfErr, MatchOption}
-use Rattle.picky_wire_base.specs.Flaw.{Flaw}
-use Rattle.picky_wire_base.specs.Grammar.{Grammar}
-use Rattle.picky_wire_base.specs.Short.{EndsInString}
-use Rattle.picky_wire_base.proofs.Short.{string_refused}
-use Rattle.picky_wire_base.specs.Row.{Row, read_all}
-use Rattle.picky_wire_base.proofs.Row.{row_spells}
-use Rattle.picky_wire_base.proofs.Steps.{following, taking_refused}
-use Rattle.picky_wire_base.specs.Outcome.{map_err}
-use Rattle.picky_wire_base.specs.carried.Outcome.{map_err_ok}
-use Rattle.picky_wire_base.specs.Many.{read_many}
+use Rattle.std.proofs.{Math.Seq.{drop-cons}, lemmas.List.{take-append-drop}, lemmas.Grind.{flat_map-append}}
+use Rattle.std.proofs.{lemmas.List.Concat.{flat_map-cons}, lemmas.List.Folds.{length-flat_map-take}}
+use Rattle.std.specs.{List.{All, flat_map}, Prelude.{Option, Some, None, IfErr, MatchOption}}
+use Rattle.picky_wire_base.specs.{Flaw.{Flaw}, Grammar.{Grammar}, Short.{EndsInString}, Row.{Row, read_all}}
+use Rattle.picky_wire_base.specs.{Outcome.{map_err}, carried.Outcome.{map_err_ok}, Many.{read_many}}
+use Rattle.picky_wire_base.specs.{Wire.{string, string_of}, Gives.{Gives}}
+use Rattle.picky_wire_base.proofs.{Short.{string_refused}, Row.{row_spells}, Steps.{following, taking_refused}}
 use Rattle.picky_wire_base.proofs.Strings.{string_reads_back}
-use Rattle.picky_wire_base.specs.Wire.{string, string_of}
-use Rattle.picky_wire.specs.declared.error.WireError.{WireError}
+use Rattle.picky_wire.specs.{declared.error.WireError.{WireError}, Count.{Rose}, Flaws.{TakesField, wire_error}}
+use Rattle.picky_wire.specs.{Puts.{Puts}, Takes.{Takes, TakesString, HasCause, causes_of}}
 use Rattle.picky_wire.specs.declared.error.WireError.TheVariants as errors
-use Rattle.picky_wire.specs.Count.{Rose}
-use Rattle.picky_wire.specs.Flaws.{TakesField, wire_error}
-use Rattle.picky_wire_base.specs.Gives.{Gives}
-use Rattle.picky_wire.specs.Puts.{Puts}
-use Rattle.picky_wire.specs.Takes.{Takes, TakesString, HasCause, causes_of}
-use Rattle.picky_wire.proofs.ThenLemmas.{judged_takes, judged_cause}
-use Rattle.picky_wire.proofs.WriteLemmas.{front_writes, writes_second}
+use Rattle.picky_wire.proofs.{ThenLemmas.{judged_takes, judged_cause}, WriteLemmas.{front_writes, writes_second}}
 
 -- ---- spellings joined
 
