@@ -147,10 +147,8 @@ impl Agent {
             Some(place) => {
                 let identity = identity_of(self.alloc, key, comment)?;
                 let reply = success(self.alloc)?;
-                match self.keyring.replace(self.alloc, place, identity) {
-                    Ok(()) => Ok(reply),
-                    Err(NoMemory) => Err(NoMemory),
-                }
+                self.keyring.replace(self.alloc, place, identity)?;
+                Ok(reply)
             }
             None => self.append(key, comment),
         }
@@ -170,10 +168,8 @@ impl Agent {
         }
         let identity = identity_of(self.alloc, key, comment)?;
         let reply = success(self.alloc)?;
-        match self.keyring.push(self.alloc, identity) {
-            Ok(()) => Ok(reply),
-            Err(NoMemory) => Err(NoMemory),
-        }
+        self.keyring.push(self.alloc, identity)?;
+        Ok(reply)
     }
 
     fn remove(&mut self, key: &PublicView<'_>) -> Result<Bytes, NoMemory>
@@ -251,10 +247,10 @@ fn identity_of(alloc: Global, key: &PrivateView<'_>, comment: &str) -> Result<Id
     ensures { IfOk result (λ identity. identity ≡ record { key = private_seen key.now; comment = comment.now }) }
 {
     match Text::new(alloc, comment) {
-        Ok(comment) => match key.to_key(alloc) {
-            Ok(key) => Ok(Identity { key, comment }),
-            Err(NoMemory) => Err(NoMemory),
-        },
+        Ok(comment) => {
+            let key = key.to_key(alloc)?;
+            Ok(Identity { key, comment })
+        }
         Err(_) => Err(NoMemory),
     }
 }

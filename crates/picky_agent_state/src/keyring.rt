@@ -87,10 +87,7 @@ impl Keyring {
         ensures ok { OnOk result (self.new ≡ self.old ++ identity ∷ []) }
         ensures unchanged { OnErr result (self.new ≡ self.old) }
     {
-        let entry = match entry_of(alloc, &identity) {
-            Ok(entry) => entry,
-            Err(NoMemory) => return Err(NoMemory),
-        };
+        let entry = entry_of(alloc, &identity)?;
         match self.identities.reserve(1) {
             Ok(()) => {}
             Err(_) => return Err(NoMemory),

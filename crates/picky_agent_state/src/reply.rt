@@ -83,20 +83,16 @@ pub(crate) fn entry_of(alloc: Global, identity: &Identity) -> Result<Bytes, NoMe
     requires { HasEntry identity.now }
     ensures { IfOk result (λ bytes. bytes ≡ entry identity.now) }
 {
-    match blob_in(alloc, &identity.key) {
-        Ok(blob) => strings_of(alloc, blob.as_slice(), &identity.comment),
-        Err(NoMemory) => Err(NoMemory),
-    }
+    let blob = blob_in(alloc, &identity.key)?;
+    strings_of(alloc, blob.as_slice(), &identity.comment)
 }
 
 /// The blob of the public key in a private one. Refuses: `NoMemory`.
 fn blob_in(alloc: Global, key: &SshBasePrivateKey) -> Result<Vec<u8>, NoMemory>
     ensures { IfOk result (λ blob. blob.items ≡ blob_of (public_part key.now)) }
 {
-    match key.base_public_key(alloc) {
-        Ok(public) => bytes_of(alloc, &public),
-        Err(NoMemory) => Err(NoMemory),
-    }
+    let public = key.base_public_key(alloc)?;
+    bytes_of(alloc, &public)
 }
 
 /// A blob and a comment, each as a string. Refuses: `NoMemory`.

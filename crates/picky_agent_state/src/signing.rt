@@ -95,12 +95,10 @@ fn ask<G: Signer>(
     ensures signs { (k : PublicKey) (a : Algorithm) (m s : List ℕ) → G.signs signer.new k a m s ↔ G.signs signer.old k a m s }
     ensures never_falls { G.faults signer.old ≤ G.faults signer.new }
 {
-    match private_issuer(alloc, key) {
-        Ok(issuer) => match signer.sign(alloc, &issuer, algorithm, message) {
-            Ok(signature) => signed_of(alloc, format, &signature),
-            Err(SignError::Failed) => failure(alloc),
-            Err(SignError::NoMemory) => Err(NoMemory),
-        },
-        Err(NoMemory) => Err(NoMemory),
+    let issuer = private_issuer(alloc, key)?;
+    match signer.sign(alloc, &issuer, algorithm, message) {
+        Ok(signature) => signed_of(alloc, format, &signature),
+        Err(SignError::Failed) => failure(alloc),
+        Err(SignError::NoMemory) => Err(NoMemory),
     }
 }

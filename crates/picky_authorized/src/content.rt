@@ -46,10 +46,8 @@ pub fn content_of(alloc: Global, line: &str) -> Result<Option<AuthContent>, NoMe
     if says_nothing(line.as_bytes()) {
         return Ok(None);
     }
-    match content_said(alloc, line) {
-        Ok(content) => Ok(Some(content)),
-        Err(NoMemory) => Err(NoMemory),
-    }
+    let content = content_said(alloc, line)?;
+    Ok(Some(content))
 }
 
 /// The line is empty, or begins with `#`.

@@ -53,11 +53,8 @@ fn one_spelling(alloc: Global, certificate: &SshCertificate) -> Result<Bytes, Ss
     if !fits_subject(certificate.cert_key_type, &certificate.public_key.inner_key) {
         return Err(SshCertificateError::SubjectMismatch);
     }
-    match signed_vec(alloc, certificate) {
-        Ok(bytes) => Ok(Bytes::from_vec(bytes)),
-        Err(SizeError::TooLong) => Err(SshCertificateError::TooLong),
-        Err(SizeError::NoMemory) => Err(SshCertificateError::NoMemory),
-    }
+    let bytes = signed_vec(alloc, certificate)?;
+    Ok(Bytes::from_vec(bytes))
 }
 
 /// All bytes before the signature.

@@ -44,24 +44,23 @@ impl TryClone for SshCertificate {
         let issuer = self.signature_key.try_clone(alloc);
         let seal = both(issuer, self.signature.try_clone(alloc));
         let copied = both(both(subject, terms), both(grants, seal));
-        match both(copied, self.comment.try_clone(alloc)) {
-            Ok((((subject, terms), (grants, seal)), comment)) => Ok(SshCertificate {
-                cert_key_type: self.cert_key_type,
-                public_key: subject.0,
-                nonce: subject.1,
-                serial: self.serial,
-                cert_type: self.cert_type,
-                key_id: terms.0,
-                valid_principals: terms.1,
-                valid_after: self.valid_after,
-                valid_before: self.valid_before,
-                critical_options: grants.0,
-                extensions: grants.1,
-                signature_key: seal.0,
-                signature: seal.1,
-                comment,
-            }),
-            Err(NoMemory) => Err(NoMemory),
-        }
+        let comment = self.comment.try_clone(alloc);
+        let (((subject, terms), (grants, seal)), comment) = both(copied, comment)?;
+        Ok(SshCertificate {
+            cert_key_type: self.cert_key_type,
+            public_key: subject.0,
+            nonce: subject.1,
+            serial: self.serial,
+            cert_type: self.cert_type,
+            key_id: terms.0,
+            valid_principals: terms.1,
+            valid_after: self.valid_after,
+            valid_before: self.valid_before,
+            critical_options: grants.0,
+            extensions: grants.1,
+            signature_key: seal.0,
+            signature: seal.1,
+            comment,
+        })
     }
 }

@@ -36,25 +36,23 @@ impl<'a> CertView<'a> {
         let issuer = copied_key(alloc, &self.signature_key);
         let signature = copied_signature(alloc, self.format, &self.signature, self.sk);
         let seal = both(issuer, signature);
-        match both(both(subject, terms), both(grants, seal)) {
-            Ok(((subject, terms), (grants, seal))) => Ok(SshCertificate {
-                cert_key_type: self.cert_key_type,
-                public_key: subject.0,
-                nonce: subject.1,
-                serial: self.serial,
-                cert_type: self.cert_type,
-                key_id: terms.0,
-                valid_principals: terms.1,
-                valid_after: self.valid_after,
-                valid_before: self.valid_before,
-                critical_options: grants.0,
-                extensions: grants.1,
-                signature_key: seal.0,
-                signature: seal.1,
-                comment: no_text(alloc),
-            }),
-            Err(NoMemory) => Err(NoMemory),
-        }
+        let ((subject, terms), (grants, seal)) = both(both(subject, terms), both(grants, seal))?;
+        Ok(SshCertificate {
+            cert_key_type: self.cert_key_type,
+            public_key: subject.0,
+            nonce: subject.1,
+            serial: self.serial,
+            cert_type: self.cert_type,
+            key_id: terms.0,
+            valid_principals: terms.1,
+            valid_after: self.valid_after,
+            valid_before: self.valid_before,
+            critical_options: grants.0,
+            extensions: grants.1,
+            signature_key: seal.0,
+            signature: seal.1,
+            comment: no_text(alloc),
+        })
     }
 }
 

@@ -21,7 +21,7 @@ use crate::view::certificate_at;
 use picky_cert_parts::{SshCertKeyType, SshCertificateError};
 use picky_keys::{SshBasePublicKey, SshPublicKey};
 use picky_text::{Base64Error, decode, rest_of_line, rest_of_text, split_word};
-use picky_wire::{MAX_LEN, NoMemory, Text};
+use picky_wire::{MAX_LEN, Text};
 use std::alloc::Global;
 use std::str;
 
@@ -104,10 +104,7 @@ fn subject_of_blob(alloc: Global, blob: &[u8]) -> Result<SshBasePublicKey, SshCe
     ensures { Gives SshCertificateError.NoMemory (λ key. key) result (map_ok subject_key (blob_certificate blob.now)) }
 {
     match certificate_at(blob) {
-        Ok((view, _)) => match view.public_key.to_key(alloc) {
-            Ok(key) => Ok(key),
-            Err(NoMemory) => Err(SshCertificateError::NoMemory),
-        },
+        Ok((view, _)) => Ok(view.public_key.to_key(alloc)?),
         Err(stopped) => Err(certificate_view_refusal(alloc, &stopped)),
     }
 }
@@ -230,10 +227,7 @@ fn certificate_of_blob(alloc: Global, blob: &[u8]) -> Result<SshCertificate, Ssh
     ensures no_fault { IfErr result (λ e. e ≢ SshCertificateError.CertificateProcessingError io_kinds.ReadFault) }
 {
     match certificate_at(blob) {
-        Ok((view, _)) => match view.to_certificate(alloc) {
-            Ok(certificate) => Ok(certificate),
-            Err(NoMemory) => Err(SshCertificateError::NoMemory),
-        },
+        Ok((view, _)) => Ok(view.to_certificate(alloc)?),
         Err(stopped) => Err(certificate_view_refusal(alloc, &stopped)),
     }
 }

@@ -34,16 +34,11 @@ impl SshCertificate {
         if !self.signature.blob.fits(self.signature.format) {
             return Err(SshCertificateError::SshSignatureError(SshSignatureError::BlobMismatch));
         }
-        match line_string(alloc, self) {
-            Ok(line) => {
-                if line.len() > MAX_LEN {
-                    return Err(SshCertificateError::TooLong);
-                }
-                Ok(Text::from_string(line))
-            }
-            Err(SizeError::TooLong) => Err(SshCertificateError::TooLong),
-            Err(SizeError::NoMemory) => Err(SshCertificateError::NoMemory),
+        let line = line_string(alloc, self)?;
+        if line.len() > MAX_LEN {
+            return Err(SshCertificateError::TooLong);
         }
+        Ok(Text::from_string(line))
     }
 
     /// Writes the line. Refuses, in order: as `to_string`, and `CertificateProcessingError(WriteFault)`.

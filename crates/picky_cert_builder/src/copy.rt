@@ -15,24 +15,25 @@ impl TryClone for SshCertificateBuilder {
         let grants = both(options, where_set(alloc, &self.extensions));
         let issuer = where_set(alloc, &self.issuer);
         let rest = both(issuer, where_set(alloc, &self.comment));
-        match both(both(subject, principals), both(grants, rest)) {
-            Ok(((subject, valid_principals), (grants, rest))) => Ok(SshCertificateBuilder {
-                cert_key_type: self.cert_key_type,
-                public_key: subject.0,
-                serial: self.serial,
-                cert_type: self.cert_type,
-                key_id: subject.1,
-                valid_principals,
-                valid_after: self.valid_after,
-                valid_before: self.valid_before,
-                critical_options: grants.0,
-                extensions: grants.1,
-                issuer: rest.0,
-                signature_algo: self.signature_algo,
-                comment: rest.1,
-            }),
-            Err(NoMemory) => Err(NoMemory),
-        }
+        let ((subject, valid_principals), (grants, rest)) = both(
+            both(subject, principals),
+            both(grants, rest),
+        )?;
+        Ok(SshCertificateBuilder {
+            cert_key_type: self.cert_key_type,
+            public_key: subject.0,
+            serial: self.serial,
+            cert_type: self.cert_type,
+            key_id: subject.1,
+            valid_principals,
+            valid_after: self.valid_after,
+            valid_before: self.valid_before,
+            critical_options: grants.0,
+            extensions: grants.1,
+            issuer: rest.0,
+            signature_algo: self.signature_algo,
+            comment: rest.1,
+        })
     }
 }
 

@@ -90,10 +90,8 @@ fn certificate_draft(
     ensures whole { IfOk result IsWhole }
     ensures issuer { IfOk result (λ draft. draft.issuer ≡ issuer_of issuer.now) }
 {
-    match unsigned_certificate(alloc, builder, fit, key, issuer, nonce) {
-        Ok(certificate) => draft_by(alloc, certificate, fit.signature_algo, issuer),
-        Err(NoMemory) => Err(SshCertificateGenerationError::NoMemory),
-    }
+    let certificate = unsigned_certificate(alloc, builder, fit, key, issuer, nonce)?;
+    draft_by(alloc, certificate, fit.signature_algo, issuer)
 }
 
 /// The certificate, for this issuer to sign. Refuses: as `certificate_draft`.
@@ -135,13 +133,9 @@ fn issuer_and_message(
         (if is_short (signed_of certificate.now) then Ok (issuer_of issuer.now, signed_of certificate.now)
         else Err SshCertificateGenerationError.TooLong) }
 {
-    match message_of(alloc, certificate) {
-        Ok(message) => match issuer.issuer_for_signer(alloc) {
-            Ok(issuer) => Ok((issuer, message)),
-            Err(NoMemory) => Err(SshCertificateGenerationError::NoMemory),
-        },
-        Err(e) => Err(e),
-    }
+    let message = message_of(alloc, certificate)?;
+    let issuer = issuer.issuer_for_signer(alloc)?;
+    Ok((issuer, message))
 }
 
 /// The bytes that are signed. Refuses: as `certificate_draft`.

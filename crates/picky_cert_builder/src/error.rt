@@ -2,8 +2,10 @@
 
 ghost use Rattle.std.specs.Prelude.{◌≡◌};
 ghost use Rattle.picky_cert_builder.specs.RefusalName.{request_name};
+ghost use Rattle.picky_cert_builder.specs.declared.error.SshCertificateGenerationError.TheVariants as errors;
 
 use picky_cert_parts::SshCertKeyType;
+use picky_wire::NoMemory;
 use thiserror::Error;
 
 /// Why a certificate is not made.
@@ -72,5 +74,13 @@ impl SshCertificateGenerationError {
             SshCertificateGenerationError::TooLong => "TooLong",
             SshCertificateGenerationError::NoMemory => "NoMemory",
         }
+    }
+}
+
+impl From<NoMemory> for SshCertificateGenerationError {
+    ghost from_gives = { λ _ e. e ≡ errors.NoMemory };
+
+    fn from(_e: NoMemory) -> SshCertificateGenerationError {
+        SshCertificateGenerationError::NoMemory
     }
 }

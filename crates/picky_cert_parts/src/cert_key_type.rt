@@ -7,7 +7,7 @@ ghost use Rattle.picky_cert_parts.specs.declared.error.SshCertificateError.TheVa
 
 use crate::error::SshCertificateError;
 use crate::names;
-use picky_wire::{NoMemory, SizeError, Text, TryClone};
+use picky_wire::{NoMemory, Text, TryClone};
 use std::alloc::Global;
 
 /// A type of certificates by the kind of its subject's key (OpenSSH's PROTOCOL.certkeys).
@@ -71,11 +71,10 @@ impl SshCertKeyType {
     {
         match SshCertKeyType::of_name(name) {
             Some(row) => Ok(row),
-            None => match Text::new(alloc, name) {
-                Ok(name) => Err(SshCertificateError::InvalidCertificateKeyType(name)),
-                Err(SizeError::TooLong) => Err(SshCertificateError::TooLong),
-                Err(SizeError::NoMemory) => Err(SshCertificateError::NoMemory),
-            },
+            None => {
+                let name = Text::new(alloc, name)?;
+                Err(SshCertificateError::InvalidCertificateKeyType(name))
+            }
         }
     }
 }

@@ -1,11 +1,13 @@
 //! Why the parts of a certificate, and a certificate, are not read or written.
 
-ghost use Rattle.std.specs.Prelude.{◌≡◌};
+ghost use Rattle.std.specs.Prelude.{◌≡◌, ◌⊎◌};
+ghost use Rattle.picky_wire_base.specs.declared.error.SizeError.TheVariants as sizes;
 ghost use Rattle.picky_cert_parts.specs.CertFromWire.{cert_type_error, option_error, extension_error, signature_error, certificate_error};
 ghost use Rattle.picky_cert_parts.specs.carried.CertFromWire.{cert_type_error_apart, option_error_apart, extension_error_apart, signature_error_apart, certificate_error_apart};
+ghost use Rattle.picky_cert_parts.specs.declared.error.SshCertificateError.TheVariants as errors;
 
 use picky_keys::SshPublicKeyError;
-use picky_wire::{CodecError, IoKind, Text, WireError, error_of_wire};
+use picky_wire::{CodecError, IoKind, NoMemory, SizeError, Text, WireError, error_of_wire};
 use thiserror::Error;
 
 /// Why the type of a certificate is not read or written.
@@ -237,5 +239,25 @@ impl CodecError for SshCertificateError {
 
     fn is_no_memory(&self) -> bool {
         matches!(self, SshCertificateError::NoMemory)
+    }
+}
+
+impl From<NoMemory> for SshCertificateError {
+    ghost from_gives = { λ _ e. e ≡ errors.NoMemory };
+
+    fn from(_e: NoMemory) -> SshCertificateError {
+        SshCertificateError::NoMemory
+    }
+}
+
+impl From<SizeError> for SshCertificateError {
+    ghost from_gives = { λ size e. ((size ≡ sizes.TooLong) × (e ≡ errors.TooLong))
+        ⊎ ((size ≡ sizes.NoMemory) × (e ≡ errors.NoMemory)) };
+
+    fn from(size: SizeError) -> SshCertificateError {
+        match size {
+            SizeError::TooLong => SshCertificateError::TooLong,
+            SizeError::NoMemory => SshCertificateError::NoMemory,
+        }
     }
 }

@@ -41,21 +41,19 @@ impl TryClone for CertOptions {
         let names = both(key_id, self.principals.try_clone(alloc));
         let extensions = self.extensions.try_clone(alloc);
         let items = both(self.critical_options.try_clone(alloc), extensions);
-        match both(names, items) {
-            Ok(((key_id, principals), (critical_options, extensions))) => Ok(CertOptions {
-                cert_key_type: self.cert_key_type,
-                cert_type: self.cert_type,
-                serial: self.serial,
-                key_id,
-                principals,
-                valid_after: self.valid_after,
-                valid_before: self.valid_before,
-                critical_options,
-                extensions,
-                signature_algo: self.signature_algo,
-            }),
-            Err(NoMemory) => Err(NoMemory),
-        }
+        let ((key_id, principals), (critical_options, extensions)) = both(names, items)?;
+        Ok(CertOptions {
+            cert_key_type: self.cert_key_type,
+            cert_type: self.cert_type,
+            serial: self.serial,
+            key_id,
+            principals,
+            valid_after: self.valid_after,
+            valid_before: self.valid_before,
+            critical_options,
+            extensions,
+            signature_algo: self.signature_algo,
+        })
     }
 }
 

@@ -29,10 +29,7 @@ impl SshBasePublicKey {
             Ok((view, _)) => view,
             Err(stuck) => return Err(SshPublicKeyError::from(stuck)),
         };
-        match view.to_key(alloc) {
-            Ok(key) => Ok(key),
-            Err(NoMemory) => Err(SshPublicKeyError::NoMemory),
-        }
+        Ok(view.to_key(alloc)?)
     }
 
     /// The key's one blob. Refuses, in order: `TooLong`, where it has 2^32 bytes or more.
@@ -40,15 +37,11 @@ impl SshBasePublicKey {
     pub fn to_blob(&self, alloc: Global) -> Result<Bytes, SshPublicKeyError>
         ensures { Gives SshPublicKeyError.NoMemory (λ bytes. bytes) result (blob_bytes self.now) }
     {
-        match bytes_of(alloc, self) {
-            Ok(bytes) => {
-                if bytes.len() > MAX_LEN {
-                    return Err(SshPublicKeyError::TooLong);
-                }
-                Ok(Bytes::from_vec(bytes))
-            }
-            Err(NoMemory) => Err(SshPublicKeyError::NoMemory),
+        let bytes = bytes_of(alloc, self)?;
+        if bytes.len() > MAX_LEN {
+            return Err(SshPublicKeyError::TooLong);
         }
+        Ok(Bytes::from_vec(bytes))
     }
 }
 

@@ -1,6 +1,6 @@
 //! Why a public key is not read or written.
 
-use picky_wire::{CodecError, IoKind, Stop, Stuck, WireError, error_of_wire};
+use picky_wire::{CodecError, IoKind, NoMemory, Stop, Stuck, WireError, error_of_wire};
 use thiserror::Error;
 
 /// Why a public key, or its line, is not read or written.
@@ -53,6 +53,17 @@ impl CodecError for SshPublicKeyError {
 
     fn is_no_memory(&self) -> bool {
         matches!(self, SshPublicKeyError::NoMemory)
+    }
+}
+
+impl From<NoMemory> for SshPublicKeyError {
+    ghost use Rattle.std.specs.Prelude.{◌≡◌};
+    ghost use Rattle.picky_keys.specs.declared.error.SshPublicKeyError.TheVariants as errors;
+
+    ghost from_gives = { λ _ e. e ≡ errors.NoMemory };
+
+    fn from(_e: NoMemory) -> SshPublicKeyError {
+        SshPublicKeyError::NoMemory
     }
 }
 

@@ -70,10 +70,8 @@ impl TryClone for SshBasePublicKey {
     fn try_clone(&self, alloc: Global) -> Result<SshBasePublicKey, NoMemory> {
         match self {
             SshBasePublicKey::Rsa { e, n } => {
-                match both(e.try_clone(alloc), n.try_clone(alloc)) {
-                    Ok((e, n)) => Ok(SshBasePublicKey::Rsa { e, n }),
-                    Err(NoMemory) => Err(NoMemory),
-                }
+                let (e, n) = both(e.try_clone(alloc), n.try_clone(alloc))?;
+                Ok(SshBasePublicKey::Rsa { e, n })
             }
             SshBasePublicKey::Ec { curve, point } => {
                 let point = point.try_clone(alloc)?;
@@ -84,12 +82,11 @@ impl TryClone for SshBasePublicKey {
             }
             SshBasePublicKey::Ed { key } => Ok(SshBasePublicKey::Ed { key: *key }),
             SshBasePublicKey::SkEcdsaSha2NistP256 { point, application } => {
-                match both(point.try_clone(alloc), application.try_clone(alloc)) {
-                    Ok((point, application)) => {
-                        Ok(SshBasePublicKey::SkEcdsaSha2NistP256 { point, application })
-                    }
-                    Err(NoMemory) => Err(NoMemory),
-                }
+                let (point, application) = both(
+                    point.try_clone(alloc),
+                    application.try_clone(alloc),
+                )?;
+                Ok(SshBasePublicKey::SkEcdsaSha2NistP256 { point, application })
             }
             SshBasePublicKey::SkEd25519 { key, application } => {
                 let application = application.try_clone(alloc)?;
@@ -104,12 +101,10 @@ impl TryClone for SshBasePublicKey {
 
 impl TryClone for SshPublicKey {
     fn try_clone(&self, alloc: Global) -> Result<SshPublicKey, NoMemory> {
-        match both(
+        let (inner_key, comment) = both(
             self.inner_key.try_clone(alloc),
             self.comment.try_clone(alloc),
-        ) {
-            Ok((inner_key, comment)) => Ok(SshPublicKey { inner_key, comment }),
-            Err(NoMemory) => Err(NoMemory),
-        }
+        )?;
+        Ok(SshPublicKey { inner_key, comment })
     }
 }

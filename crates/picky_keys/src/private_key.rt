@@ -71,17 +71,15 @@ impl TryClone for PrivateKey {
                 let public = both(n.try_clone(alloc), e.try_clone(alloc));
                 let secret = both(d.try_clone(alloc), iqmp.try_clone(alloc));
                 let primes = both(p.try_clone(alloc), q.try_clone(alloc));
-                match both(both(public, secret), primes) {
-                    Ok((((n, e), (d, iqmp)), (p, q))) => Ok(PrivateKey::Rsa {
-                        n,
-                        e,
-                        d,
-                        iqmp,
-                        p,
-                        q,
-                    }),
-                    Err(NoMemory) => Err(NoMemory),
-                }
+                let (((n, e), (d, iqmp)), (p, q)) = both(both(public, secret), primes)?;
+                Ok(PrivateKey::Rsa {
+                    n,
+                    e,
+                    d,
+                    iqmp,
+                    p,
+                    q,
+                })
             }
             PrivateKey::Ec {
                 curve,

@@ -56,10 +56,8 @@ impl<'a> PublicView<'a> {
     {
         match self {
             PublicView::Rsa { e, n } => {
-                match both(e.to_mpint(alloc), n.to_mpint(alloc)) {
-                    Ok((e, n)) => Ok(SshBasePublicKey::Rsa { e, n }),
-                    Err(NoMemory) => Err(NoMemory),
-                }
+                let (e, n) = both(e.to_mpint(alloc), n.to_mpint(alloc))?;
+                Ok(SshBasePublicKey::Rsa { e, n })
             }
             PublicView::Ec { curve, point } => {
                 let point = point.to_bytes(alloc)?;
@@ -73,12 +71,8 @@ impl<'a> PublicView<'a> {
                 Ok(SshBasePublicKey::Ed { key })
             }
             PublicView::SkEcdsaSha2NistP256 { point, application } => {
-                match both(point.to_bytes(alloc), application.to_text(alloc)) {
-                    Ok((point, application)) => {
-                        Ok(SshBasePublicKey::SkEcdsaSha2NistP256 { point, application })
-                    }
-                    Err(NoMemory) => Err(NoMemory),
-                }
+                let (point, application) = both(point.to_bytes(alloc), application.to_text(alloc))?;
+                Ok(SshBasePublicKey::SkEcdsaSha2NistP256 { point, application })
             }
             PublicView::SkEd25519 { key, application } => {
                 let key = ed_key_of(key);

@@ -12,7 +12,6 @@ use crate::joined::JoinedLines;
 use crate::reader::read_in;
 use picky_kv_words::{PpkBlock, PpkLiteral};
 use picky_text::LineReader;
-use picky_wire_base::NoMemory;
 use std::alloc::Global;
 
 /// The next lines, as many as are counted. Refuses, in order: `EndOfInput`.
@@ -29,10 +28,7 @@ pub(crate) fn take_counted(
     let mut block = JoinedLines::new(alloc);
     'lines: for _ in 0..count {
         match lines.next_line() {
-            Some(line) => match block.push(line) {
-                Ok(()) => {}
-                Err(NoMemory) => return Err(KvError::NoMemory),
-            },
+            Some(line) => block.push(line)?,
             None => return Err(KvError::EndOfInput),
         }
     }
@@ -47,9 +43,8 @@ pub(crate) fn block_value<K: PpkLiteral, V: PpkBlock>(
     ensures { Gives KvError.NoMemory (λ value. value) result
         (in_context K.name (field_value V.field (joined_text block))) }
 {
-    match block.finish() {
-        Ok(Ok(bytes)) => Ok(V::from_block(bytes)),
-        Ok(Err(text)) => read_in::<K, V>(alloc, text.as_str()),
-        Err(NoMemory) => Err(KvError::NoMemory),
+    match block.finish()? {
+        Ok(bytes) => Ok(V::from_block(bytes)),
+        Err(text) => read_in::<K, V>(alloc, text.as_str()),
     }
 }

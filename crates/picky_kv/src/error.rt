@@ -1,6 +1,9 @@
 //! What the lines of a PuTTY private key file can be refused for.
 
-use picky_wire_base::Text;
+ghost use Rattle.std.specs.Prelude.{◌≡◌};
+ghost use Rattle.picky_kv.specs.declared.error.KvError.TheVariants as errors;
+
+use picky_wire_base::{NoMemory, Text};
 use thiserror::Error;
 
 /// Why a line is not read or written.
@@ -31,4 +34,12 @@ pub enum KvError {
     /// Memory ran out.
     #[error("NoMemory")]
     NoMemory,
+}
+
+impl From<NoMemory> for KvError {
+    ghost from_gives = { λ _ e. e ≡ errors.NoMemory };
+
+    fn from(_e: NoMemory) -> KvError {
+        KvError::NoMemory
+    }
 }

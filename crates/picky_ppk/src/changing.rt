@@ -31,10 +31,10 @@ impl Ppk {
             return Err(PuttyError::Encrypted);
         }
         match Text::new(alloc, comment) {
-            Ok(comment) => match commented_file(alloc, self.file(), comment) {
-                Ok(file) => remade(alloc, suite, file),
-                Err(NoMemory) => Err(PuttyError::NoMemory),
-            },
+            Ok(comment) => {
+                let file = commented_file(alloc, self.file(), comment)?;
+                remade(alloc, suite, file)
+            }
             Err(SizeError::TooLong) => Err(PuttyError::TooLong),
             Err(SizeError::NoMemory) => Err(PuttyError::NoMemory),
         }
@@ -54,10 +54,8 @@ impl Ppk {
         if self.is_encrypted() {
             return Err(PuttyError::Encrypted);
         }
-        match unsealed_file(alloc, self.file(), version) {
-            Ok(unsealed) => remade(alloc, suite, unsealed),
-            Err(NoMemory) => Err(PuttyError::NoMemory),
-        }
+        let unsealed = unsealed_file(alloc, self.file(), version)?;
+        remade(alloc, suite, unsealed)
     }
 }
 
@@ -73,17 +71,15 @@ fn commented_file(alloc: Global, file: &PpkFile, comment: Text) -> Result<PpkFil
         file.private_bytes.try_clone(alloc),
         file.mac.try_clone(alloc),
     );
-    match both(front, back) {
-        Ok(((sealing, public_key), (private_bytes, mac))) => Ok(PpkFile {
-            sealing,
-            algorithm: file.algorithm,
-            comment,
-            public_key,
-            private_bytes,
-            mac,
-        }),
-        Err(NoMemory) => Err(NoMemory),
-    }
+    let ((sealing, public_key), (private_bytes, mac)) = both(front, back)?;
+    Ok(PpkFile {
+        sealing,
+        algorithm: file.algorithm,
+        comment,
+        public_key,
+        private_bytes,
+        mac,
+    })
 }
 
 /// A copy of the fields in another version, where nothing seals them.
@@ -98,17 +94,15 @@ fn unsealed_file(alloc: Global, file: &PpkFile, version: PpkVersion) -> Result<P
         file.private_bytes.try_clone(alloc),
         file.mac.try_clone(alloc),
     );
-    match both(front, back) {
-        Ok(((comment, public_key), (private_bytes, mac))) => Ok(PpkFile {
-            sealing: PpkSealing::Unsealed(version),
-            algorithm: file.algorithm,
-            comment,
-            public_key,
-            private_bytes,
-            mac,
-        }),
-        Err(NoMemory) => Err(NoMemory),
-    }
+    let ((comment, public_key), (private_bytes, mac)) = both(front, back)?;
+    Ok(PpkFile {
+        sealing: PpkSealing::Unsealed(version),
+        algorithm: file.algorithm,
+        comment,
+        public_key,
+        private_bytes,
+        mac,
+    })
 }
 
 /// The file with its own MAC. Refuses: `NoMemory`.
@@ -118,8 +112,5 @@ pub fn remade<S: Suite>(alloc: Global, suite: &S, file: PpkFile) -> Result<Ppk, 
     ensures gives { Gives PuttyError.NoMemory (λ ppk. ppk) result (Ok (with_own_mac_of (S.meanings suite.now) file)) }
     ensures mac { IfOk result (λ ppk. CarriesMac (S.meanings suite.now) ppk) }
 {
-    match with_own_mac(alloc, suite, file) {
-        Ok(ppk) => Ok(ppk),
-        Err(NoMemory) => Err(PuttyError::NoMemory),
-    }
+    Ok(with_own_mac(alloc, suite, file)?)
 }

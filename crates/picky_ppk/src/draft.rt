@@ -29,17 +29,18 @@ pub fn file_draft(
         file.public_key.try_clone(alloc),
     );
     let private_bytes = joined(alloc, file.private_bytes.as_slice(), padding);
-    match both(both(sealing, texts), private_bytes) {
-        Ok(((sealing, (comment, public_key)), private_bytes)) => Ok(PpkFile {
-            sealing,
-            algorithm: file.algorithm,
-            comment,
-            public_key,
-            private_bytes,
-            mac: Bytes::from_vec(Vec::new(alloc)),
-        }),
-        Err(NoMemory) => Err(NoMemory),
-    }
+    let ((sealing, (comment, public_key)), private_bytes) = both(
+        both(sealing, texts),
+        private_bytes,
+    )?;
+    Ok(PpkFile {
+        sealing,
+        algorithm: file.algorithm,
+        comment,
+        public_key,
+        private_bytes,
+        mac: Bytes::from_vec(Vec::new(alloc)),
+    })
 }
 
 /// What seals a file.

@@ -1,6 +1,6 @@
 //! A file as PuTTY's own programs read and write it.
 
-ghost use Rattle.std.specs.Prelude.{◌≡◌, IfOk, IfErr, Ok};
+ghost use Rattle.std.specs.Prelude.{◌≡◌, IfOk};
 ghost use Rattle.picky_wire_base.specs.Gives.{Gives};
 ghost use Rattle.picky_wire_base.specs.Wire.{string_of};
 ghost use Rattle.picky_ppk.specs.Mac.{CarriesMac};
@@ -56,26 +56,15 @@ fn fields_for_putty(alloc: Global, ppk: &Ppk) -> Result<PpkFile, PuttyError>
     ensures sealing { IfOk result (λ file. file.sealing ≡ ppk.now.sealing) }
 {
     if !is_ed25519(ppk.algorithm()) {
-        return copied(ppk.file().try_clone(alloc));
+        return Ok(ppk.file().try_clone(alloc)?);
     }
     match ppk.base_key(alloc) {
         Ok(key) => {
             let fields = with_putty_secret(alloc, ppk.file(), &key);
             drop(key);
-            copied(fields)
+            Ok(fields?)
         }
         Err(e) => Err(e),
-    }
-}
-
-/// The fields, or why they aren't there.
-fn copied(fields: Result<PpkFile, NoMemory>) -> Result<PpkFile, PuttyError>
-    ensures ok { IfOk result (λ file. fields ≡ Ok file) }
-    ensures err { IfErr result (λ e. e ≡ PuttyError.NoMemory) }
-{
-    match fields {
-        Ok(file) => Ok(file),
-        Err(NoMemory) => Err(PuttyError::NoMemory),
     }
 }
 
@@ -115,14 +104,10 @@ fn with_putty_secret(
 fn with_secret_string(alloc: Global, file: &PpkFile, secret: &[u8; 32]) -> Result<PpkFile, NoMemory>
     ensures { IfOk result (λ fields. fields ≡ record file.now { private_bytes = string_of secret.now }) }
 {
-    match both(file.try_clone(alloc), secret_string(alloc, secret)) {
-        Ok((fields, bytes)) => {
-            let mut fields = fields;
-            drop(replace(&mut fields.private_bytes, bytes));
-            Ok(fields)
-        }
-        Err(NoMemory) => Err(NoMemory),
-    }
+    let (fields, bytes) = both(file.try_clone(alloc), secret_string(alloc, secret))?;
+    let mut fields = fields;
+    drop(replace(&mut fields.private_bytes, bytes));
+    Ok(fields)
 }
 
 /// The string of a secret. Refuses: `NoMemory`.

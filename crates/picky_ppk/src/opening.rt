@@ -139,15 +139,11 @@ fn opened_file<S: Suite>(
     ensures no_fault { result ≢ Err PuttyError.SuiteFault }
     ensures mac { IfOk result (λ ppk. CarriesMac (S.meanings suite.now) ppk) }
 {
-    match keys.mac(alloc, suite, file, plain.as_slice()) {
-        Ok(mac) => {
-            if mac.as_slice() != file.mac.as_slice() {
-                return Err(PuttyError::MacValidation);
-            }
-            cut(alloc, suite, file, plain)
-        }
-        Err(NoMemory) => Err(PuttyError::NoMemory),
+    let mac = keys.mac(alloc, suite, file, plain.as_slice())?;
+    if mac.as_slice() != file.mac.as_slice() {
+        return Err(PuttyError::MacValidation);
     }
+    cut(alloc, suite, file, plain)
 }
 
 /// The file of the opened bytes, cut after their counted strings.
@@ -168,10 +164,7 @@ fn cut<S: Suite>(
         Ok(len) => {
             let mut plain = plain;
             plain.truncate(len);
-            match unsealed(alloc, suite, file, Bytes::from_vec(plain)) {
-                Ok(ppk) => Ok(ppk),
-                Err(NoMemory) => Err(PuttyError::NoMemory),
-            }
+            Ok(unsealed(alloc, suite, file, Bytes::from_vec(plain))?)
         }
         Err(e) => Err(e),
     }
@@ -188,21 +181,17 @@ fn unsealed<S: Suite>(
     ensures is { IfOk result (λ ppk. ppk ≡ unsealed_of (S.meanings suite.now) file.now private_bytes) }
     ensures mac { IfOk result (λ ppk. CarriesMac (S.meanings suite.now) ppk) }
 {
-    match both(
+    let (comment, public_key) = both(
         file.comment.try_clone(alloc),
         file.public_key.try_clone(alloc),
-    ) {
-        Ok((comment, public_key)) => {
-            let file = PpkFile {
-                sealing: PpkSealing::Unsealed(file.sealing.version()),
-                algorithm: file.algorithm,
-                comment,
-                public_key,
-                private_bytes,
-                mac: Bytes::from_vec(Vec::new(alloc)),
-            };
-            with_own_mac(alloc, suite, file)
-        }
-        Err(NoMemory) => Err(NoMemory),
-    }
+    )?;
+    let file = PpkFile {
+        sealing: PpkSealing::Unsealed(file.sealing.version()),
+        algorithm: file.algorithm,
+        comment,
+        public_key,
+        private_bytes,
+        mac: Bytes::from_vec(Vec::new(alloc)),
+    };
+    with_own_mac(alloc, suite, file)
 }

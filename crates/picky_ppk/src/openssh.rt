@@ -21,7 +21,7 @@ use picky_ppk_parts::{
 };
 use picky_sshkey::{SshBasePrivateKey, SshPrivateKey, SshPrivateKeyError};
 use picky_suite::Suite;
-use picky_wire::{Bytes, NoMemory, Text, TryClone, both};
+use picky_wire::{Bytes, Text, TryClone, both};
 use std::alloc::Global;
 
 impl Ppk {
@@ -38,12 +38,8 @@ impl Ppk {
         ensures gives { Gives PuttyError.NoMemory (λ ppk. ppk) result (of_openssh (S.meanings suite.now) key.now) }
         ensures mac { IfOk result (λ ppk. CarriesMac (S.meanings suite.now) ppk) }
     {
-        match key.comment.try_clone(alloc) {
-            Ok(comment) => {
-                Ppk::from_base_key(alloc, suite, PpkVersion::V3, &key.base_key, comment)
-            }
-            Err(NoMemory) => Err(PuttyError::NoMemory),
-        }
+        let comment = key.comment.try_clone(alloc)?;
+        Ppk::from_base_key(alloc, suite, PpkVersion::V3, &key.base_key, comment)
     }
 
     /// A key and a comment as a file of this version that isn't sealed. Refuses as `from_openssh_private_key`.
@@ -124,13 +120,11 @@ impl Ppk {
             (Ok (record { blob = self.now.public_key; comment = self.now.comment })) }
     {
         let file = self.file();
-        match both(
+        let (blob, comment) = both(
             file.public_key.try_clone(alloc),
             file.comment.try_clone(alloc),
-        ) {
-            Ok((blob, comment)) => Ok(PuttyPublicKey::of_parts(blob, comment)),
-            Err(NoMemory) => Err(PuttyError::NoMemory),
-        }
+        )?;
+        Ok(PuttyPublicKey::of_parts(blob, comment))
     }
 }
 

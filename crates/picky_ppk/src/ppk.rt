@@ -183,10 +183,8 @@ pub fn with_own_mac<S: Suite>(alloc: Global, suite: &S, file: PpkFile) -> Result
 fn own_mac_bytes<S: Suite>(alloc: Global, suite: &S, file: &PpkFile) -> Result<Bytes, NoMemory>
     ensures { IfOk result (λ mac. mac ≡ own_mac_of (S.meanings suite.now) file.now) }
 {
-    match own_mac(alloc, suite, file) {
-        Ok(mac) => mac_bytes(alloc, &mac),
-        Err(NoMemory) => Err(NoMemory),
-    }
+    let mac = own_mac(alloc, suite, file)?;
+    mac_bytes(alloc, &mac)
 }
 
 /// The MAC of a file that isn't sealed.

@@ -52,10 +52,10 @@ impl Ppk {
             suite.old suite.new }
     {
         match sealable(self.file(), passphrase, config, salt, padding) {
-            Ok(()) => match file_draft(alloc, self.file(), config, salt, padding) {
-                Ok(draft) => sealed(alloc, suite, draft, passphrase),
-                Err(NoMemory) => Err(PuttyError::NoMemory),
-            },
+            Ok(()) => {
+                let draft = file_draft(alloc, self.file(), config, salt, padding)?;
+                sealed(alloc, suite, draft, passphrase)
+            }
             Err(e) => Err(e),
         }
     }
@@ -85,17 +85,17 @@ impl Ppk {
         ensures undrawn { can_draw passphrase.now config self.now ≡ false → rng.new ≡ rng.old }
     {
         match drawable(self.file(), passphrase, config) {
-            Ok(()) => match fresh(alloc, self, config, rng) {
-                Ok(SaltAndPadding { salt, padding }) => self.encrypt(
+            Ok(()) => {
+                let SaltAndPadding { salt, padding } = fresh(alloc, self, config, rng)?;
+                self.encrypt(
                     alloc,
                     suite,
                     passphrase,
                     config,
                     salt.as_slice(),
                     padding.as_slice(),
-                ),
-                Err(NoMemory) => Err(PuttyError::NoMemory),
-            },
+                )
+            }
             Err(e) => Err(e),
         }
     }

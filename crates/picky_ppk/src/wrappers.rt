@@ -141,17 +141,15 @@ impl PuttyBasePrivateKey {
 
 impl TryClone for PuttyBasePrivateKey {
     fn try_clone(&self, alloc: Global) -> Result<PuttyBasePrivateKey, NoMemory> {
-        match both(
+        let (public_key, private_bytes) = both(
             self.public_key.try_clone(alloc),
             self.private_bytes.try_clone(alloc),
-        ) {
-            Ok((public_key, private_bytes)) => Ok(PuttyBasePrivateKey {
-                algorithm: self.algorithm,
-                public_key,
-                private_bytes,
-            }),
-            Err(NoMemory) => Err(NoMemory),
-        }
+        )?;
+        Ok(PuttyBasePrivateKey {
+            algorithm: self.algorithm,
+            public_key,
+            private_bytes,
+        })
     }
 }
 
@@ -197,9 +195,7 @@ impl PuttyPrivateKey {
 
 impl TryClone for PuttyPrivateKey {
     fn try_clone(&self, alloc: Global) -> Result<PuttyPrivateKey, NoMemory> {
-        match both(self.base.try_clone(alloc), self.comment.try_clone(alloc)) {
-            Ok((base, comment)) => Ok(PuttyPrivateKey { base, comment }),
-            Err(NoMemory) => Err(NoMemory),
-        }
+        let (base, comment) = both(self.base.try_clone(alloc), self.comment.try_clone(alloc))?;
+        Ok(PuttyPrivateKey { base, comment })
     }
 }

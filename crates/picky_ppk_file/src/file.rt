@@ -68,10 +68,7 @@ impl TryClone for PpkSealing {
         match self {
             PpkSealing::Unsealed(version) => Ok(PpkSealing::Unsealed(*version)),
             PpkSealing::SealedV2 => Ok(PpkSealing::SealedV2),
-            PpkSealing::SealedV3(params) => match params.try_clone(alloc) {
-                Ok(params) => Ok(PpkSealing::SealedV3(params)),
-                Err(NoMemory) => Err(NoMemory),
-            },
+            PpkSealing::SealedV3(params) => Ok(PpkSealing::SealedV3(params.try_clone(alloc)?)),
         }
     }
 }

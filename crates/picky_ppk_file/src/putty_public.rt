@@ -89,10 +89,8 @@ impl PuttyPublicKey {
     pub fn from_openssh(alloc: Global, key: &SshPublicKey) -> Result<PuttyPublicKey, PuttyError>
         ensures { Gives PuttyError.NoMemory (λ key. key) result (of_openssh key.now) }
     {
-        match key.comment.try_clone(alloc) {
-            Ok(comment) => putty_key(alloc, &key.inner_key, comment),
-            Err(NoMemory) => Err(PuttyError::NoMemory),
-        }
+        let comment = key.comment.try_clone(alloc)?;
+        putty_key(alloc, &key.inner_key, comment)
     }
 
     /// The same of a key that is handed over, whose comment is moved and not copied. Refuses as `from_openssh`.
@@ -141,10 +139,8 @@ impl PuttyPublicKey {
             Err(SizeError::TooLong) => return Err(PuttyError::TooLong),
             Err(SizeError::NoMemory) => return Err(PuttyError::NoMemory),
         };
-        match self.blob.try_clone(alloc) {
-            Ok(blob) => Ok(PuttyPublicKey { blob, comment }),
-            Err(NoMemory) => Err(PuttyError::NoMemory),
-        }
+        let blob = self.blob.try_clone(alloc)?;
+        Ok(PuttyPublicKey { blob, comment })
     }
 
     /// The key in the blob. Refuses, in order: `SshPublicKey` with what is wrong with the blob;
@@ -200,10 +196,9 @@ fn after_comment(
 ) -> Result<PuttyPublicKey, PuttyError>
     ensures { Gives PuttyError.NoMemory (λ key. key) result (after_comment_of between.now lines.old) }
 {
-    match body(alloc, lines) {
-        Ok(Some(body)) => of_body(alloc, between, body),
-        Ok(None) => Err(PuttyError::EndOfInput),
-        Err(NoMemory) => Err(PuttyError::NoMemory),
+    match body(alloc, lines)? {
+        Some(body) => of_body(alloc, between, body),
+        None => Err(PuttyError::EndOfInput),
     }
 }
 
@@ -226,10 +221,9 @@ fn body(alloc: Global, lines: &mut LineReader<'_>) -> Result<Option<JoinedLines>
 fn of_body(alloc: Global, between: &str, body: JoinedLines) -> Result<PuttyPublicKey, PuttyError>
     ensures { Gives PuttyError.NoMemory (λ key. key) result (of_parts_of between.now (joined_text body)) }
 {
-    match body.finish() {
-        Ok(Ok(blob)) => of_blob(alloc, between, blob.into_vec()),
-        Ok(Err(text)) => of_text(alloc, between, text.as_str()),
-        Err(NoMemory) => Err(PuttyError::NoMemory),
+    match body.finish()? {
+        Ok(blob) => of_blob(alloc, between, blob.into_vec()),
+        Err(text) => of_text(alloc, between, text.as_str()),
     }
 }
 

@@ -1,7 +1,7 @@
 //! Why a PuTTY file is not read or made.
 
 use picky_keys::SshPublicKeyError;
-use picky_wire::{IoKind, Text};
+use picky_wire::{IoKind, NoMemory, Text};
 use thiserror::Error;
 
 /// Why a PuTTY file is not read or made.
@@ -77,4 +77,15 @@ pub enum PuttyError {
     /// Memory ran out.
     #[error("NoMemory")]
     NoMemory,
+}
+
+impl From<NoMemory> for PuttyError {
+    ghost use Rattle.std.specs.Prelude.{◌≡◌};
+    ghost use Rattle.picky_ppk_parts.specs.declared.error.PuttyError.TheVariants as errors;
+
+    ghost from_gives = { λ _ e. e ≡ errors.NoMemory };
+
+    fn from(_e: NoMemory) -> PuttyError {
+        PuttyError::NoMemory
+    }
 }

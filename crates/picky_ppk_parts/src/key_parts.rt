@@ -79,33 +79,25 @@ fn parts_under(
         Ok(blob) => blob,
         Err(e) => return Err(e),
     };
-    match secret_bytes(alloc, key) {
-        Ok(private) => {
-            if private.len() > MAX_LEN {
-                return Err(PuttyError::TooLong);
-            }
-            Ok(KeyParts {
-                algorithm,
-                blob,
-                private_bytes: Bytes::from_vec(private),
-            })
-        }
-        Err(NoMemory) => Err(PuttyError::NoMemory),
+    let private = secret_bytes(alloc, key)?;
+    if private.len() > MAX_LEN {
+        return Err(PuttyError::TooLong);
     }
+    Ok(KeyParts {
+        algorithm,
+        blob,
+        private_bytes: Bytes::from_vec(private),
+    })
 }
 
 /// The blob of the public key.
 fn public_blob(alloc: Global, key: &SshBasePrivateKey) -> Result<Bytes, PuttyError>
     ensures { Gives PuttyError.NoMemory (λ blob. blob) result (blob_within (public_part key.now)) }
 {
-    match key.base_public_key(alloc) {
-        Ok(public) => {
-            let blob = blob_of_public(alloc, &public);
-            drop(public);
-            blob
-        }
-        Err(NoMemory) => Err(PuttyError::NoMemory),
-    }
+    let public = key.base_public_key(alloc)?;
+    let blob = blob_of_public(alloc, &public);
+    drop(public);
+    blob
 }
 
 /// The one blob of a public key. Refuses, in order: `TooLong`, where it has 2^32 bytes or more.

@@ -9,7 +9,7 @@ use crate::error::PuttyError;
 use crate::joined::joined_pieces;
 use crate::names::PpkVersion;
 use picky_suite::Suite;
-use picky_wire::{MAX_LEN, NoMemory, Piece};
+use picky_wire::{MAX_LEN, Piece};
 use sha1::Sha1;
 use std::alloc::Global;
 
@@ -91,10 +91,7 @@ pub fn mac_input(
         Piece::string(public),
         Piece::string(private),
     ];
-    match joined_pieces(alloc, &fields) {
-        Ok(input) => Ok(input),
-        Err(NoMemory) => Err(PuttyError::NoMemory),
-    }
+    Ok(joined_pieces(alloc, &fields)?)
 }
 
 /// The MAC key of version 2: SHA-1 of a label and the passphrase, which is empty where the file isn't sealed.

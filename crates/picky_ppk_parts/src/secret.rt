@@ -60,10 +60,7 @@ fn rsa_key(
     ensures { Gives PuttyError.NoMemory (λ key. key) result (key_with_secret_of (plain.Rsa e n) private.now) }
 {
     match rsa_at(private) {
-        Ok((parts, _)) => match rsa_copy(alloc, e, n, &parts) {
-            Ok(key) => Ok(key),
-            Err(NoMemory) => Err(PuttyError::NoMemory),
-        },
+        Ok((parts, _)) => Ok(rsa_copy(alloc, e, n, &parts)?),
         Err(stuck) => Err(private_bytes_refusal(stuck)),
     }
 }
@@ -79,14 +76,14 @@ fn ec_key(
     ensures { Gives PuttyError.NoMemory (λ key. key) result (key_with_secret_of (plain.Ec curve point) private.now) }
 {
     match mpint_at(private, 0) {
-        Ok((part, _)) => match part.to_mpint(alloc) {
-            Ok(secret) => Ok(SshBasePrivateKey::Ec {
+        Ok((part, _)) => {
+            let secret = part.to_mpint(alloc)?;
+            Ok(SshBasePrivateKey::Ec {
                 curve,
                 point,
                 secret,
-            }),
-            Err(NoMemory) => Err(PuttyError::NoMemory),
-        },
+            })
+        }
         Err(stuck) => Err(private_bytes_refusal(stuck)),
     }
 }

@@ -160,20 +160,19 @@ impl TryClone for SshPrivateKey {
         let keys = both(base_key, self.public_key.try_clone(alloc));
         let passphrase = pass_clone(alloc, &self.passphrase);
         let texts = both(self.comment.try_clone(alloc), passphrase);
-        match both(both(envelope, keys), texts) {
-            Ok((((cipher_name, kdf), (base_key, public_key)), (comment, passphrase))) => {
-                Ok(SshPrivateKey {
-                    cipher_name,
-                    kdf,
-                    base_key,
-                    public_key,
-                    check: self.check,
-                    comment,
-                    passphrase,
-                })
-            }
-            Err(NoMemory) => Err(NoMemory),
-        }
+        let (((cipher_name, kdf), (base_key, public_key)), (comment, passphrase)) = both(
+            both(envelope, keys),
+            texts,
+        )?;
+        Ok(SshPrivateKey {
+            cipher_name,
+            kdf,
+            base_key,
+            public_key,
+            check: self.check,
+            comment,
+            passphrase,
+        })
     }
 }
 

@@ -116,17 +116,15 @@ impl TryClone for SshBasePrivateKey {
                 let public = both(n.try_clone(alloc), e.try_clone(alloc));
                 let secret = both(d.try_clone(alloc), iqmp.try_clone(alloc));
                 let primes = both(p.try_clone(alloc), q.try_clone(alloc));
-                match both(both(public, secret), primes) {
-                    Ok((((n, e), (d, iqmp)), (p, q))) => Ok(SshBasePrivateKey::Rsa {
-                        n,
-                        e,
-                        d,
-                        iqmp,
-                        p,
-                        q,
-                    }),
-                    Err(NoMemory) => Err(NoMemory),
-                }
+                let (((n, e), (d, iqmp)), (p, q)) = both(both(public, secret), primes)?;
+                Ok(SshBasePrivateKey::Rsa {
+                    n,
+                    e,
+                    d,
+                    iqmp,
+                    p,
+                    q,
+                })
             }
             SshBasePrivateKey::Ec {
                 curve,
@@ -152,17 +150,13 @@ impl TryClone for SshBasePrivateKey {
                 handle,
             } => {
                 let public = both(point.try_clone(alloc), application.try_clone(alloc));
-                match both(public, handle.try_clone(alloc)) {
-                    Ok(((point, application), handle)) => {
-                        Ok(SshBasePrivateKey::SkEcdsaSha2NistP256 {
-                            point,
-                            application,
-                            flags: *flags,
-                            handle,
-                        })
-                    }
-                    Err(NoMemory) => Err(NoMemory),
-                }
+                let ((point, application), handle) = both(public, handle.try_clone(alloc))?;
+                Ok(SshBasePrivateKey::SkEcdsaSha2NistP256 {
+                    point,
+                    application,
+                    flags: *flags,
+                    handle,
+                })
             }
             SshBasePrivateKey::SkEd25519 {
                 key,

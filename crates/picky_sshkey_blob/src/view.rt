@@ -91,17 +91,15 @@ impl<'a> PrivateView<'a> {
                 let public = both(n.to_mpint(alloc), e.to_mpint(alloc));
                 let secret = both(d.to_mpint(alloc), iqmp.to_mpint(alloc));
                 let primes = both(p.to_mpint(alloc), q.to_mpint(alloc));
-                match both(both(public, secret), primes) {
-                    Ok((((n, e), (d, iqmp)), (p, q))) => Ok(SshBasePrivateKey::Rsa {
-                        n,
-                        e,
-                        d,
-                        iqmp,
-                        p,
-                        q,
-                    }),
-                    Err(NoMemory) => Err(NoMemory),
-                }
+                let (((n, e), (d, iqmp)), (p, q)) = both(both(public, secret), primes)?;
+                Ok(SshBasePrivateKey::Rsa {
+                    n,
+                    e,
+                    d,
+                    iqmp,
+                    p,
+                    q,
+                })
             }
             PrivateView::Ec {
                 curve,
@@ -128,17 +126,13 @@ impl<'a> PrivateView<'a> {
                 handle,
             } => {
                 let public = both(point.to_bytes(alloc), application.to_text(alloc));
-                match both(public, handle.to_bytes(alloc)) {
-                    Ok(((point, application), handle)) => {
-                        Ok(SshBasePrivateKey::SkEcdsaSha2NistP256 {
-                            point,
-                            application,
-                            flags: *flags,
-                            handle,
-                        })
-                    }
-                    Err(NoMemory) => Err(NoMemory),
-                }
+                let ((point, application), handle) = both(public, handle.to_bytes(alloc))?;
+                Ok(SshBasePrivateKey::SkEcdsaSha2NistP256 {
+                    point,
+                    application,
+                    flags: *flags,
+                    handle,
+                })
             }
             PrivateView::SkEd25519 {
                 key,

@@ -3,9 +3,9 @@ use Rattle.std.proofs.Common.{sym, ◌∙◌, ap, Ok}
 use Rattle.picky_cert.proofs.LineLemmas.{blob_certificate_seen, refused_as}
 use Rattle.picky_cert.proofs.line.certificate_of_blob.Goals as goal
 
-pub returns-in-Ok-to_certificate-clause-gives : goal.returns-in-Ok-to_certificate-clause-gives
-returns-in-Ok-to_certificate-clause-gives c =
-    blob_certificate_seen c.args.blob.now _ _ c.in-Ok.ensures.seen.sees ∙ ap (λ v. Ok v) (sym c.in-Ok-to_certificate.ensures)
+pub returns-in_ok-to_certificate-in-Ok-clause-gives : goal.returns-in_ok-to_certificate-in-Ok-clause-gives
+returns-in_ok-to_certificate-in-Ok-clause-gives c =
+    blob_certificate_seen c.args.blob.now _ _ c.in-Ok.ensures.seen.sees ∙ ap (λ v. Ok v) (sym c.in_ok-to_certificate-in-Ok.ensures)
 
 pub returns-in-Err-clause-gives : goal.returns-in-Err-clause-gives
 returns-in-Err-clause-gives c =

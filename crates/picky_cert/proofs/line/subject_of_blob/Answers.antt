@@ -5,9 +5,9 @@ use Rattle.picky_cert.specs.Certificate.{subject_key}
 use Rattle.picky_cert.proofs.LineLemmas.{blob_certificate_seen, no_subject, refused_as}
 use Rattle.picky_cert.proofs.line.subject_of_blob.Goals as goal
 
-pub returns-in-Ok-to_key : goal.returns-in-Ok-to_key
-returns-in-Ok-to_key c =
-    ap (map_ok subject_key) (blob_certificate_seen c.args.blob.now _ _ c.in-Ok.ensures.seen.sees) ∙ ap (λ k. Ok k) (sym c.in-Ok-to_key.ensures)
+pub returns-in_ok-to_key-in-Ok : goal.returns-in_ok-to_key-in-Ok
+returns-in_ok-to_key-in-Ok c =
+    ap (map_ok subject_key) (blob_certificate_seen c.args.blob.now _ _ c.in-Ok.ensures.seen.sees) ∙ ap (λ k. Ok k) (sym c.in_ok-to_key-in-Ok.ensures)
 
 pub returns-in-Err : goal.returns-in-Err
 returns-in-Err c =
