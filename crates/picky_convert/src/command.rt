@@ -78,17 +78,15 @@ fn command_with(alloc: Global, word: &str, more: &[Text]) -> Result<Option<Comma
     ensures { IfOk result (λ command. command ≡ command_named (word.now ∷ more.now)) }
 {
     if word == CERT {
-        return match options_of(alloc, more) {
-            Ok(Some(options)) => Ok(Some(Command::Certify(options))),
-            Ok(None) => Ok(None),
-            Err(NoMemory) => Err(NoMemory),
+        return match options_of(alloc, more)? {
+            Some(options) => Ok(Some(Command::Certify(options))),
+            None => Ok(None),
         };
     }
     if word == TBS {
-        return match options_of(alloc, more) {
-            Ok(Some(options)) => Ok(Some(Command::PrintSigned(options))),
-            Ok(None) => Ok(None),
-            Err(NoMemory) => Err(NoMemory),
+        return match options_of(alloc, more)? {
+            Some(options) => Ok(Some(Command::PrintSigned(options))),
+            None => Ok(None),
         };
     }
     if word == SAMPLE {

@@ -39,10 +39,8 @@ impl TryClone for Key {
 
 impl TryClone for Meaning {
     fn try_clone(&self, alloc: Global) -> Result<Meaning, NoMemory> {
-        match both(self.key.try_clone(alloc), self.comment.try_clone(alloc)) {
-            Ok((key, comment)) => Ok(Meaning { key, comment }),
-            Err(NoMemory) => Err(NoMemory),
-        }
+        let (key, comment) = both(self.key.try_clone(alloc), self.comment.try_clone(alloc))?;
+        Ok(Meaning { key, comment })
     }
 }
 

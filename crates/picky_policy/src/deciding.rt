@@ -213,12 +213,10 @@ fn push_copy(
     if is_kept_back(option) {
         return Ok(());
     }
-    match option.try_clone(alloc) {
-        Ok(copy) => match copies.push(copy) {
-            Ok(()) => Ok(()),
-            Err(_) => Err(NoMemory),
-        },
-        Err(NoMemory) => Err(NoMemory),
+    let copy = option.try_clone(alloc)?;
+    match copies.push(copy) {
+        Ok(()) => Ok(()),
+        Err(_) => Err(NoMemory),
     }
 }
 
