@@ -6,7 +6,7 @@ use Rattle.std.proofs.lemmas.List.{append_assoc, length-append, take_all}
 use Rattle.std.specs.List.{position_or_len, list_any}
 use Rattle.std.specs.Option.{option_map}
 use Rattle.picky_text.specs.Lines.{HasNo}
-use Rattle.picky_text.proofs.ListLaws.{all_front}
+use Rattle.picky_text.proofs.ListLaws.{all_front, none_passes}
 use Rattle.picky_authorized.specs.declared.auth_option.AuthOption.{AuthOption}
 use Rattle.picky_authorized.specs.OptionText.{is_equals, is_name, named, option_in, quoted_text_in, text_in}
 
