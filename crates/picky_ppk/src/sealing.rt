@@ -85,17 +85,17 @@ impl Ppk {
         ensures undrawn { can_draw passphrase.now config self.now ≡ false → rng.new ≡ rng.old }
     {
         match drawable(self.file(), passphrase, config) {
-            Ok(()) => {
-                let SaltAndPadding { salt, padding } = fresh(alloc, self, config, rng)?;
-                self.encrypt(
+            Ok(()) => match fresh(alloc, self, config, rng) {
+                Ok(SaltAndPadding { salt, padding }) => self.encrypt(
                     alloc,
                     suite,
                     passphrase,
                     config,
                     salt.as_slice(),
                     padding.as_slice(),
-                )
-            }
+                ),
+                Err(NoMemory) => Err(PuttyError::NoMemory),
+            },
             Err(e) => Err(e),
         }
     }

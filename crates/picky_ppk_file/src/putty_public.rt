@@ -221,9 +221,10 @@ fn body(alloc: Global, lines: &mut LineReader<'_>) -> Result<Option<JoinedLines>
 fn of_body(alloc: Global, between: &str, body: JoinedLines) -> Result<PuttyPublicKey, PuttyError>
     ensures { Gives PuttyError.NoMemory (λ key. key) result (of_parts_of between.now (joined_text body)) }
 {
-    match body.finish()? {
-        Ok(blob) => of_blob(alloc, between, blob.into_vec()),
-        Err(text) => of_text(alloc, between, text.as_str()),
+    match body.finish() {
+        Ok(Ok(blob)) => of_blob(alloc, between, blob.into_vec()),
+        Ok(Err(text)) => of_text(alloc, between, text.as_str()),
+        Err(NoMemory) => Err(PuttyError::NoMemory),
     }
 }
 

@@ -4,7 +4,6 @@ use picky_cert_builder::SshCertificateGenerationError;
 use picky_key_text::ReadError;
 use picky_ppk::PuttyError;
 use picky_sshkey::SshPrivateKeyError;
-use picky_wire::NoMemory;
 use thiserror::Error;
 
 /// Why a key text is not converted.
@@ -43,15 +42,4 @@ pub enum ConvertError {
     /// Memory ran out.
     #[error("NoMemory")]
     NoMemory,
-}
-
-impl From<NoMemory> for ConvertError {
-    ghost use Rattle.std.specs.Prelude.{◌≡◌};
-    ghost use Rattle.picky_target.specs.declared.error.ConvertError.TheVariants as errors;
-
-    ghost from_gives = { λ _ e. e ≡ errors.NoMemory };
-
-    fn from(_e: NoMemory) -> ConvertError {
-        ConvertError::NoMemory
-    }
 }

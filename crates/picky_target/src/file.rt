@@ -191,7 +191,10 @@ fn drawn_under<'a>(
     if !can_derive_by(version, pass, config) {
         return Err(ConvertError::Putty(PuttyError::Argon2));
     }
-    let padding_len = padding_len(alloc, key)?;
+    let padding_len = match padding_len(alloc, key) {
+        Ok(len) => len,
+        Err(NoMemory) => return Err(ConvertError::NoMemory),
+    };
     let salt_len = salt_len(version, config);
     if fresh.len() < salt_len + padding_len {
         return Err(ConvertError::FreshTooShort);

@@ -15,7 +15,7 @@ use crate::public::{write_line, write_putty};
 use crate::target::KeyTarget;
 use picky_key_text::{Key, Meaning, public_key};
 use picky_suite::Suite;
-use picky_wire::Text;
+use picky_wire::{NoMemory, Text};
 use std::alloc::Global;
 
 /// The text of the target for a key and a comment: of a public target for the public part of the key.
@@ -70,15 +70,17 @@ pub fn write_text<S: Suite>(
                 }
             }
         }
-        KeyTarget::OpenSshPublic => {
-            let key = public_key(alloc, meaning)?;
-            let line = write_line(alloc, &key);
-            drop(key);
-            line
-        }
-        KeyTarget::PuttyPublic => {
-            let key = public_key(alloc, meaning)?;
-            write_putty(alloc, key)
-        }
+        KeyTarget::OpenSshPublic => match public_key(alloc, meaning) {
+            Ok(key) => {
+                let line = write_line(alloc, &key);
+                drop(key);
+                line
+            }
+            Err(NoMemory) => Err(ConvertError::NoMemory),
+        },
+        KeyTarget::PuttyPublic => match public_key(alloc, meaning) {
+            Ok(key) => write_putty(alloc, key),
+            Err(NoMemory) => Err(ConvertError::NoMemory),
+        },
     }
 }
