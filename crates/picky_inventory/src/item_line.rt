@@ -127,10 +127,8 @@ fn is_canonical_blob(alloc: Global, blob: &[u8]) -> Result<bool, NoMemory>
         Ok(key) => {
             let written = bytes_of(alloc, &key);
             drop(key);
-            match written {
-                Ok(written) => Ok(written.as_slice() == blob),
-                Err(NoMemory) => Err(NoMemory),
-            }
+            let written = written?;
+            Ok(written.as_slice() == blob)
         }
         Err(error) => no_key(error),
     }

@@ -6,6 +6,7 @@ ghost use Rattle.picky_issuing.specs.Parts.{lines_with_ends};
 ghost use Rattle.picky_wire_base.specs.Gives.{Gives};
 ghost use Rattle.picky_inventory.specs.Merging.{merging, or_empty as text_or_empty};
 ghost use Rattle.picky_inventory.specs.OrderedText.{merged};
+ghost use Rattle.picky_inventory.specs.declared.merging.Unmerged.TheVariants as errors;
 
 use crate::bad_lines::bad_line;
 use crate::ended::ended_lines;
@@ -24,6 +25,14 @@ pub enum Unmerged {
     NoMemory,
 }
 
+impl From<NoMemory> for Unmerged {
+    ghost from_gives = { λ _ e. e ≡ errors.NoMemory };
+
+    fn from(_e: NoMemory) -> Unmerged {
+        Unmerged::NoMemory
+    }
+}
+
 /// The two inventories of a source, merged: the lines of both, sorted by their bytes, each once.
 ///
 /// The left one stands before the first line that is exactly `%%`, the right one follows that; without such a line the left
@@ -33,13 +42,12 @@ pub fn merge(alloc: Global, text: &str) -> Result<Vec<u8>, Unmerged>
 {
     let cut = parts_of(text);
     let left = or_empty(cut.issuer);
-    match bad_line(alloc, left, cut.key) {
-        Ok(Some(line)) => Err(Unmerged::BadLine(line)),
-        Ok(None) => match merge_texts(alloc, left, cut.key) {
-            Ok(written) => Ok(written),
-            Err(NoMemory) => Err(Unmerged::NoMemory),
-        },
-        Err(NoMemory) => Err(Unmerged::NoMemory),
+    match bad_line(alloc, left, cut.key)? {
+        Some(line) => Err(Unmerged::BadLine(line)),
+        None => {
+            let written = merge_texts(alloc, left, cut.key)?;
+            Ok(written)
+        }
     }
 }
 
@@ -61,10 +69,8 @@ pub fn merge_texts(alloc: Global, left: &str, right: &str) -> Result<Vec<u8>, No
     add_lines(alloc, &mut lines, left)?;
     add_lines(alloc, &mut lines, right)?;
     let lines = sorted_lines(lines);
-    match joined_lines(alloc, lines.as_slice()) {
-        Ok(text) => Ok(text),
-        Err(NoMemory) => Err(NoMemory),
-    }
+    let text = joined_lines(alloc, lines.as_slice())?;
+    Ok(text)
 }
 
 /// Adds the lines of a text, each with its end. Refuses: `NoMemory`.

@@ -26,7 +26,7 @@ use picky_authorized::read_keys;
 use picky_input::take_text;
 use picky_issuing::parts_of;
 use picky_key_text::ReadError;
-use picky_wire::{NoMemory, Source, Timestamp};
+use picky_wire::{Source, Timestamp};
 use std::alloc::Global;
 
 /// The text that is to be written, and the status once it is.
@@ -151,13 +151,11 @@ fn printed(alloc: Global, offer: &Offer) -> Result<Answer, PolicyStatus>
     ensures line { IfOk result (λ answer. answer_shown answer ≡ (PolicyStatus.Message, message_text_of (message_of offer.now))) }
     ensures want { IfErr result (λ status. status ≡ PolicyStatus.NoMemory) }
 {
-    match message_text(alloc, offer.message()) {
-        Ok(text) => Ok(Answer {
-            status: PolicyStatus::Message,
-            text,
-        }),
-        Err(NoMemory) => Err(PolicyStatus::NoMemory),
-    }
+    let text = message_text(alloc, offer.message())?;
+    Ok(Answer {
+        status: PolicyStatus::Message,
+        text,
+    })
 }
 
 /// The lines of the decision on an offer. Refuses: `OutsideFault`.
@@ -199,13 +197,11 @@ fn decision_answer(alloc: Global, decision: &Decision) -> Result<Answer, PolicyS
     ensures lines { IfOk result (λ answer. answer_shown answer ≡ (decision_status decision.now, decision_text_of decision.now)) }
     ensures want { IfErr result (λ status. status ≡ PolicyStatus.NoMemory) }
 {
-    match decision_text(alloc, decision) {
-        Ok(text) => Ok(Answer {
-            status: status_of(decision),
-            text,
-        }),
-        Err(NoMemory) => Err(PolicyStatus::NoMemory),
-    }
+    let text = decision_text(alloc, decision)?;
+    Ok(Answer {
+        status: status_of(decision),
+        text,
+    })
 }
 
 /// How a run ends that wrote a decision.

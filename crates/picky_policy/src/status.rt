@@ -2,8 +2,10 @@
 
 ghost use Rattle.std.specs.Prelude.{◌≡◌};
 ghost use Rattle.picky_policy.specs.Run.{source_status as status_of_source};
+ghost use Rattle.picky_policy.specs.declared.status.PolicyStatus.TheVariants as statuses;
 
 use picky_input::SourceError;
+use picky_wire::NoMemory;
 
 /// How a run ends.
 #[derive(Clone, Copy, Debug, PartialEq, Eq)]
@@ -51,6 +53,14 @@ impl PolicyStatus {
             PolicyStatus::InputTooLong => 8,
             PolicyStatus::InputNotUtf8 => 9,
         }
+    }
+}
+
+impl From<NoMemory> for PolicyStatus {
+    ghost from_gives = { λ _ status. status ≡ statuses.NoMemory };
+
+    fn from(_e: NoMemory) -> PolicyStatus {
+        PolicyStatus::NoMemory
     }
 }
 
