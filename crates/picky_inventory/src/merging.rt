@@ -69,8 +69,10 @@ pub fn merge_texts(alloc: Global, left: &str, right: &str) -> Result<Vec<u8>, No
     add_lines(alloc, &mut lines, left)?;
     add_lines(alloc, &mut lines, right)?;
     let lines = sorted_lines(lines);
-    let text = joined_lines(alloc, lines.as_slice())?;
-    Ok(text)
+    match joined_lines(alloc, lines.as_slice()) {
+        Ok(text) => Ok(text),
+        Err(NoMemory) => Err(NoMemory),
+    }
 }
 
 /// Adds the lines of a text, each with its end. Refuses: `NoMemory`.
