@@ -14,7 +14,6 @@ ghost use Rattle.picky_request.specs.Request.{request_in};
 ghost use Rattle.picky_ledger.specs.Apply.{added, issuing, judged_request_line, kept_reply as kept_reply_of, unless_kept, Applies, LeavesSigner};
 ghost use Rattle.picky_ledger.specs.Entry.{entry_of as entry_by, IsEntry};
 ghost use Rattle.picky_ledger.specs.State.{entry_named as entry_with_id, IsNew};
-ghost use Rattle.picky_ledger.specs.declared.apply.LedgerError.TheVariants as errors;
 
 use crate::entry::Entry;
 use crate::ledger::Ledger;
@@ -42,14 +41,6 @@ pub enum LedgerError {
     NoMemory,
 }
 
-impl From<NoMemory> for LedgerError {
-    ghost from_gives = { λ _ e. e ≡ errors.NoMemory };
-
-    fn from(_e: NoMemory) -> LedgerError {
-        LedgerError::NoMemory
-    }
-}
-
 impl Ledger {
     /// The reply to a request line: what the ledger has of it, or a certificate that the issuer's device signs, which is entered.
     ///
@@ -72,9 +63,10 @@ impl Ledger {
         ensures signer { LeavesSigner G.signs G.faults
             (judged_request_line (record { issuer = issuer.now.inner_key; nonce = nonce.now }) self.old line.now) result signer.old signer.new }
     {
-        match CertRequestLine::from_str(alloc, line)? {
-            Some(request) => self.answer(alloc, issuer, line, request, nonce, signer),
-            None => Ok(Reply::BadRequest),
+        match CertRequestLine::from_str(alloc, line) {
+            Ok(Some(request)) => self.answer(alloc, issuer, line, request, nonce, signer),
+            Ok(None) => Ok(Reply::BadRequest),
+            Err(NoMemory) => Err(LedgerError::NoMemory),
         }
     }
 
@@ -148,14 +140,16 @@ impl Ledger {
             × (self.new ≡ added self.old (entry_by certificate.key_id line.now certificate))) }
         ensures err { IfErr result (λ e. (e ≡ LedgerError.NoMemory) × (self.new ≡ self.old)) }
     {
-        let entry = entry_of(alloc, line, certificate)?;
-        match self.entries.push(entry) {
-            Ok(()) => {
-                let serial = self.next;
-                self.next += 1;
-                Ok(Reply::Issued(serial))
-            }
-            Err(_) => Err(LedgerError::NoMemory),
+        match entry_of(alloc, line, certificate) {
+            Ok(entry) => match self.entries.push(entry) {
+                Ok(()) => {
+                    let serial = self.next;
+                    self.next += 1;
+                    Ok(Reply::Issued(serial))
+                }
+                Err(_) => Err(LedgerError::NoMemory),
+            },
+            Err(NoMemory) => Err(LedgerError::NoMemory),
         }
     }
 }
