@@ -52,7 +52,7 @@ fn begins_with_the_next_serial(rt: HostRuntime) -> Result<(), Fail> {
 }
 
 // Lines behind the first that are no entries.
-static SECOND: [&str; 47] = [
+static SECOND: [&str; 46] = [
     "\n",
     " \n",
     "r1\n",
