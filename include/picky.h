@@ -1,5 +1,5 @@
 /*
- * picky from C: SSH keys converted, fingerprinted and taken apart. Every call is proved. Link libpicky.a, which ./install-c makes.
+ * picky from C: SSH keys converted, fingerprinted and taken apart. Every call is proved. Link libpicky.a, which ./install puts into lib/.
  *
  * A key text is UTF-8, in one of five forms, told by how it begins: an OpenSSH private key, a PuTTY private key file, a PuTTY
  * public key, a certificate's line or a public key line (docs/FORMATS.md, "Key text"). A call reads it and hands out bytes:
