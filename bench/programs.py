@@ -12,26 +12,30 @@ ROOT = Path(__file__).resolve().parents[1]
 
 
 def build(folder, source, uses, key):
-    """The program of this source, built over a copy of the crates that it uses, with what ./install or another check left of
-    their proofs, and tried on a key."""
+    """The program of this source, proved and built over a copy of the crates that it uses, and tried on a key. What rt ci proved
+    before on this machine isn't proved again."""
     lines = dict(line.split(":") for line in (ROOT / "crates.txt").read_text().splitlines()
                  if ":" in line and not line.startswith("#"))
     crates, copied, to_copy = folder / "crates", "", list(uses)
     while to_copy:
         name = to_copy.pop()
         if name in lines and not (crates / name).exists():
-            shutil.copytree(ROOT / "crates" / name, crates / name, ignore=shutil.ignore_patterns("incremental", "must-fail"))
+            shutil.copytree(ROOT / "crates" / name, crates / name, ignore=shutil.ignore_patterns("out", "must-fail"))
             copied += f"{name}:{lines[name]}\n"
             to_copy += lines[name].split()
     (folder / "crates.txt").write_text(f"{copied}bench_program: {' '.join(uses)}\n")
-    program = crates / "bench_program"
-    (program / "src").mkdir(parents=True)
-    (program / "src/main.rt").write_text(source)
-    with key.open() as text:
-        built = subprocess.run(["rt", "run"], cwd=program, stdin=text, capture_output=True, text=True)
-    if built.returncode != 0:
+    shutil.copy(ROOT / "HANDLES", folder)
+    (crates / "bench_program/src").mkdir(parents=True)
+    (crates / "bench_program/src/main.rt").write_text(source)
+    built = subprocess.run(["rt", "ci"], cwd=folder, stdin=subprocess.DEVNULL, capture_output=True, text=True)
+    program = crates / "bench_program/out/bench_program"
+    if built.returncode != 0 or not program.exists():
         raise SystemExit(built.stdout + built.stderr)
-    return program / "out/bench_program"
+    with key.open() as text:
+        tried = subprocess.run([program], stdin=text, capture_output=True, text=True)
+    if tried.returncode != 0:
+        raise SystemExit(tried.stdout + tried.stderr)
+    return program
 
 
 # Where Debian's packages put Go's sources.
