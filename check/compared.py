@@ -1,5 +1,5 @@
-"""Compares a built program with a reference of it in Python, over fixed and random cases: what check/inventory and check/policy
-share.
+"""Compares a built program with a reference of it in Python, over fixed and random cases: what check/inventory, check/policy and
+check/ledger share.
 
 A case is a NamedTuple with a name, words, a source, and a device: what standard input or output is where it isn't a file, or that
 memory is short. It may have more, which is up to the program's Comparison.

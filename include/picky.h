@@ -25,8 +25,8 @@
  * ---- What is proved, and of which caller
  *
  * The contracts of crates/picky_c/src/exports.rt say the above and what stands at each call, and are proved for every text,
- * number and length: whatever the bytes, a call ends, reads and writes nothing else, and frees what it allocates. No proof
- * sees a caller in C. It has to see to this:
+ * number and length: whatever the bytes, a call ends, and reads and writes nothing else. That it frees what it allocates is
+ * tried by check/c, not proved. No proof sees a caller in C. It has to see to this:
  *
  *   - A pointer isn't NULL, and points to as many bytes as its length says, fewer than 2^63. They can be read, and those of
  *     `out` written. For no bytes give "" and 0. (NULL and 0 work too: check/c tries them, and no proof speaks of NULL.)
@@ -34,8 +34,8 @@
  *     what the call reads.
  *   - malloc, realloc and free are one allocator, which aligns as C wants it. The calls use these three and memmove, memcpy,
  *     memset and memcmp, and no other function of the C library.
- *   - The stack has room: 64 KiB are enough (check/c measures it). A call isn't made in a signal handler, nor in a forked child
- *     of a process with threads.
+ *   - The stack has room: 64 KiB were enough for all that check/c tries. A call isn't made in a signal handler, nor in a forked
+ *     child of a process with threads.
  *   - This header fits the library. It is written by hand; check/c holds its numbers, names and sizes against the code.
  *
  * Not proved: how long a call takes and how much memory; that what is handed out is wiped from memory that was freed (it
@@ -68,7 +68,10 @@ typedef struct picky_name {
     char text[48];
 } picky_name;
 
-/* What a key text is converted to. */
+/*
+ * What a key text is converted to. Ed25519: PuTTY takes about every second file of PICKY_PPK2 and PICKY_PPK3 for another secret;
+ * pass it through the program `puttyppk`.
+ */
 enum {
     PICKY_OPENSSH = 1,        /* the private key and the comment as OpenSSH has them; its lines end in LF */
     PICKY_PPK2 = 2,           /* the same as a PuTTY private key file of version 2; lines end in CR LF */
@@ -89,8 +92,10 @@ enum {
  * public part), which means them again when it is read.
  *
  * The text is read under `pass_in` and written under `pass_out`, with the fresh bytes as salt and padding; a passphrase of no
- * bytes is none. This library has no cipher. So what isn't encrypted is read whatever the passphrase, and what is, or is to be,
- * is PICKY_NO_CIPHER.
+ * bytes is none. What isn't encrypted is read whatever the passphrase. An encrypted text without a passphrase is refused
+ * (PICKY_PRIVATE_MISSING_PASSPHRASE, PICKY_PUTTY_ENCRYPTED). With one, and where `pass_out` asks for encryption, this library,
+ * which has no cipher, answers PICKY_NO_CIPHER, if nothing is refused before: check/c tries that; the contract says that it may
+ * come.
  *
  * Reasons, in order: PICKY_NO_SUCH_TARGET; PICKY_TEXT_NOT_UTF8; PICKY_PASS_NOT_UTF8; PICKY_INPUT_..; PICKY_NO_PRIVATE_KEY;
  * PICKY_OUTPUT_PUTTY + PICKY_PUTTY_NOT_SUPPORTED; PICKY_COMMENT_NOT_CARRIED; PICKY_OUTPUT_..; PICKY_FRESH_TOO_SHORT;
@@ -115,7 +120,8 @@ picky_answer picky_read_public(picky_bytes text, uint32_t part, void *out, size_
 
 /*
  * The name of an error, as "BufferTooSmall" or "input.putty.MacValidation"; of a number that isn't listed here, "". A refusal
- * has the name that keyconv prints behind "refused: ".
+ * has the name that keyconv prints behind "refused: ". It is handed out by value: `picky_error_name(error).text` lives as long as
+ * the expression that it stands in, so keep the picky_name, not a pointer into it.
  */
 picky_name picky_error_name(uint32_t error);
 
@@ -157,7 +163,7 @@ enum {
     PICKY_PRIVATE_INVALID_KEYS_AMOUNT = 6,       /* there isn't one key */
     PICKY_PRIVATE_INVALID_CHECK_NUMBERS = 7,     /* the two check numbers differ */
     PICKY_PRIVATE_INVALID_KEY_FORMAT = 8,        /* the parts of the key don't agree, or don't have the form of its kind */
-    PICKY_PRIVATE_DECRYPTION_ERROR = 9,          /* the key is not decrypted */
+    PICKY_PRIVATE_DECRYPTION_ERROR = 9,          /* what is encrypted is no multiple of 16 bytes */
     PICKY_PRIVATE_HASHING_ERROR = 10,            /* no key is derived from the passphrase */
     PICKY_PRIVATE_MISSING_PASSPHRASE = 11,       /* the key is encrypted, and there is no passphrase */
     PICKY_PRIVATE_KEY_ERROR = 12,                /* an Ed25519 public key isn't 32 bytes */
@@ -210,8 +216,8 @@ enum {
     PICKY_PUTTY_INVALID_PUBLIC_KEY_DATA = 8,         /* the body of a public key is no base64 */
     PICKY_PUTTY_INVALID_PUBLIC_KEY_CONTAINER = 9,    /* the first line is not the header of a public key */
     PICKY_PUTTY_INVALID_PUBLIC_KEY_COMMENT = 10,     /* the second line is no comment line of a public key */
-    PICKY_PUTTY_ALREADY_DECRYPTED = 11,              /* the file is not encrypted */
-    PICKY_PUTTY_ALREADY_ENCRYPTED = 12,              /* the file is encrypted already */
+    PICKY_PUTTY_ALREADY_DECRYPTED = 11,              /* never: a file that isn't encrypted is read as it is */
+    PICKY_PUTTY_ALREADY_ENCRYPTED = 12,              /* never: only a plain file is encrypted */
     PICKY_PUTTY_ENCRYPTED = 13,                      /* the file is encrypted, and there is no passphrase */
     PICKY_PUTTY_NOT_SUPPORTED = 14,                  /* PuTTY has no such key */
     PICKY_PUTTY_SSH_PUBLIC_KEY = 15,                 /* the blob holds no public key */

@@ -4,7 +4,8 @@
     make && ./picky.py ppk3 < key
 
 The program's words are "openssh", "ppk2", "ppk3", "ssh-pub" and "putty-pub", as keyconv's, and "fingerprint", which prints the
-SHA-256 fingerprint alone. It refuses as keyconv does, with status 1 and a line on standard error.
+SHA-256 fingerprint alone. Ed25519: PuTTY takes about every second file of "ppk2" and "ppk3" for another secret; pass it through
+`puttyppk`. It refuses as keyconv does, with status 1 and a line on standard error.
 """
 import ctypes
 import sys
