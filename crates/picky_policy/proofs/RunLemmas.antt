@@ -5,7 +5,7 @@ use Rattle.picky_wire_base.specs.Outcome.{map_err, map_ok}
 use Rattle.picky_input.specs.{Extent.{Anywhere, ToEnd}, SourceText.{Reads, text_of}}
 use Rattle.picky_input.specs.declared.source_text.SourceError.{SourceError}
 use Rattle.picky_input.specs.declared.source_text.SourceError.TheVariants as source
-use Rattle.picky_input.proofs.TextLaws.{is_source_text}
+use Rattle.picky_input.proofs.TextLaws.{is_source_text, some_input}
 use Rattle.picky_wire.specs.declared.timestamp.Timestamp.{Timestamp}
 use Rattle.picky_keys.specs.LineRefusal.{is_short}
 use Rattle.picky_authorized.specs.{Entries.{entries_in, keys_in}, declared.entry.AuthEntry.{AuthEntry}}
@@ -159,6 +159,13 @@ source_comes verifies asked input read_rose rose source.InputTooLong status is r
     inr (inr (inr (offered_without input source.InputTooLong reads ∙ ap Err (sym is))))
 source_comes verifies asked input read_rose rose source.InputNotUtf8 status is reads count =
     inr (inr (inr (offered_without input source.InputNotUtf8 reads ∙ ap Err (sym is))))
+
+-- of a source that doesn't tell its bytes there are some that are refused so
+pub some_comes : (verifies : Relation) (asked : Asked) (read_rose rose : Type 0) (e : SourceError) (status : PolicyStatus)
+    → status ≡ source_status e → (e ≡ source.ReadFault → read_rose)
+    → (input : List ℕ) × Comes verifies asked input read_rose rose (Err status)
+some_comes verifies asked read_rose rose e status is count =
+    let input = some_input e in (input.0, source_comes verifies asked input.0 read_rose rose e status is input.1 count)
 
 -- the verifier isn't asked for the text of a source for whose bytes it is spared
 pub spared_by_text : (asked : Asked) (tells : Type 0) (input text : List ℕ) → (tells → text_of input ≡ Ok text)

@@ -48,8 +48,7 @@ pub(crate) fn take_answer<V: Verifier, I: Source>(
     ensures comes { I.tells source.old → Comes (V.verifies verifier.old) (asked_by command.entry) (I.left source.old)
         (Rose (I.faults source.old) (I.faults source.new)) (Rose (V.faults verifier.old) (V.faults verifier.new))
         (map_ok answer_shown result) }
-    ensures comes_for_some { result ≢ Err PolicyStatus.InputTooLong → result ≢ Err PolicyStatus.InputNotUtf8
-        → (input : List ℕ) × Comes (V.verifies verifier.old) (asked_by command.entry) input
+    ensures comes_for_some { (input : List ℕ) × Comes (V.verifies verifier.old) (asked_by command.entry) input
         (Rose (I.faults source.old) (I.faults source.new)) (Rose (V.faults verifier.old) (V.faults verifier.new))
         (map_ok answer_shown result) }
     ensures source { ReadsInput I.tells I.left I.faults (extent_for result) source.old source.new }

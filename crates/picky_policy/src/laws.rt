@@ -33,7 +33,7 @@ pub fn text_is_one_offer()
 {}
 
 /// The message that is verified binds all that the certificate says: of two certificates that are offered, the message of one is
-/// the front of the other's only where both say the same.
+/// the prefix of the other's only where both say the same.
 pub fn message_binds_what_is_said()
     ensures { (x y : List ℕ) (c d : Certificate) (m more : List ℕ) → IsBytes x → IsBytes y → offer_in x ≡ Ok (offers.Certificate c m)
         → offer_in y ≡ Ok (offers.Certificate d (m ++ more)) → said c ≡ said d }

@@ -37,8 +37,7 @@ pub fn run_policy<V: Verifier, I: Source, O: Sink>(
     ensures ends { (a : Asked) → Names words.now a → I.tells source.old → Ends (V.verifies verifier.old) a (I.left source.old)
         (Rose (I.faults source.old) (I.faults source.new)) (Rose (V.faults verifier.old) (V.faults verifier.new))
         (Rose (O.faults out.old) (O.faults out.new)) (O.tells out.old) (O.written out.old) (O.written out.new) result }
-    ensures ends_for_some { (a : Asked) → Names words.now a → result ≢ PolicyStatus.InputTooLong → result ≢ PolicyStatus.InputNotUtf8
-        → (input : List ℕ) × Ends (V.verifies verifier.old) a input
+    ensures ends_for_some { (a : Asked) → Names words.now a → (input : List ℕ) × Ends (V.verifies verifier.old) a input
         (Rose (I.faults source.old) (I.faults source.new)) (Rose (V.faults verifier.old) (V.faults verifier.new))
         (Rose (O.faults out.old) (O.faults out.new)) (O.tells out.old) (O.written out.old) (O.written out.new) result }
     ensures usage { (result ≡ PolicyStatus.Usage) ↔ ((a : Asked) → Names words.now a → ⊥) }
@@ -80,8 +79,7 @@ fn perform<V: Verifier, I: Source, O: Sink>(
     ensures ends { I.tells source.old → Ends (V.verifies verifier.old) (asked_by command.entry) (I.left source.old)
         (Rose (I.faults source.old) (I.faults source.new)) (Rose (V.faults verifier.old) (V.faults verifier.new))
         (Rose (O.faults out.old) (O.faults out.new)) (O.tells out.old) (O.written out.old) (O.written out.new) result }
-    ensures ends_for_some { result ≢ PolicyStatus.InputTooLong → result ≢ PolicyStatus.InputNotUtf8
-        → (input : List ℕ) × Ends (V.verifies verifier.old) (asked_by command.entry) input
+    ensures ends_for_some { (input : List ℕ) × Ends (V.verifies verifier.old) (asked_by command.entry) input
         (Rose (I.faults source.old) (I.faults source.new)) (Rose (V.faults verifier.old) (V.faults verifier.new))
         (Rose (O.faults out.old) (O.faults out.new)) (O.tells out.old) (O.written out.old) (O.written out.new) result }
     ensures source { ReadsInput I.tells I.left I.faults (extent_of result) source.old source.new }
@@ -100,7 +98,7 @@ fn perform<V: Verifier, I: Source, O: Sink>(
     }
 }
 
-/// Writes the text, or a front of it up to a fault. Refuses: `WriteFault`.
+/// Writes the text, or a prefix of it up to a fault. Refuses: `WriteFault`.
 fn put<O: Sink>(out: &mut O, text: &[u8]) -> Result<(), PolicyStatus>
     ensures { Puts O.tells O.written O.faults PolicyStatus.WriteFault text.now result out.old out.new }
 {

@@ -11,8 +11,8 @@ returns-in-Ok-put-clause-ends g c = λ told.
     c.as_bytes.ensures.value c.in-Ok-put.ensures.writes
 
 pub returns-in-Ok-put-clause-ends_for_some : goal.returns-in-Ok-put-clause-ends_for_some
-returns-in-Ok-put-clause-ends_for_some g c = λ long text.
-    let some = c.in-Ok.ensures.comes_for_some (λ is. cc is) (λ is. cc is) in (
+returns-in-Ok-put-clause-ends_for_some g c =
+    let some = c.in-Ok.ensures.comes_for_some in (
       some.0,
       done_ends (g.V.Verifier.verifies c.args.verifier.now) (asked_by c.args.command) some.0
           _ _ _ _ _ _ c.in-Ok.answer.status (string_bytes c.in-Ok.answer.text) c.as_bytes.result.now some.1
@@ -20,8 +20,8 @@ returns-in-Ok-put-clause-ends_for_some g c = λ long text.
     )
 
 pub returns-in-Ok-clause-ends_for_some : goal.returns-in-Ok-clause-ends_for_some
-returns-in-Ok-clause-ends_for_some g c = λ long text.
-    let some = c.in-Ok.ensures.comes_for_some (λ is. cc is) (λ is. cc is) in (
+returns-in-Ok-clause-ends_for_some g c =
+    let some = c.in-Ok.ensures.comes_for_some in (
       some.0,
       prefix_ends (g.V.Verifier.verifies c.args.verifier.now) (asked_by c.args.command) some.0
           _ _ _ _ _ _ c.in-Err-put.fault c.in-Ok.answer.status (string_bytes c.in-Ok.answer.text) c.as_bytes.result.now
@@ -34,8 +34,8 @@ returns-clause-ends g c = λ told.
     _ _ _ _ _ _ c.in-Err.status (c.in-Err.ensures.comes told)
 
 pub returns-clause-ends_for_some : goal.returns-clause-ends_for_some
-returns-clause-ends_for_some g c = λ long text.
-    let some = c.in-Err.ensures.comes_for_some (λ is. long (cc is)) (λ is. text (cc is)) in (
+returns-clause-ends_for_some g c =
+    let some = c.in-Err.ensures.comes_for_some in (
       some.0,
       comes_ends (g.V.Verifier.verifies c.args.verifier.now) (asked_by c.args.command) some.0 _ _ _ _ _ _ c.in-Err.status some.1,
     )

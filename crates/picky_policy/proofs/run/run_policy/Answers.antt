@@ -10,9 +10,9 @@ returns-in-Some-clause-ends g c = λ a named told.
     rw same (c.perform.ensures.ends told)
 
 pub returns-in-Some-clause-ends_for_some : goal.returns-in-Some-clause-ends_for_some
-returns-in-Some-clause-ends_for_some g c = λ a named long text.
+returns-in-Some-clause-ends_for_some g c = λ a named.
     let same : a ≡ asked_by c.in-Some.command = cc (c.in-Some.ensures, named) in
-    rw same (c.perform.ensures.ends_for_some long text)
+    rw same (c.perform.ensures.ends_for_some)
 
 pub returns-in-Some-clause-done : goal.returns-in-Some-clause-done
 returns-in-Some-clause-done g c = λ a named done told tells.
