@@ -1,5 +1,5 @@
 -- What the calls below answer, as what a call here answers.
-use Rattle.std.proofs.Common.{◌≡◌, ◌⊎◌, ◌∙◌, Bool, true, false, ℕ, List, Option, None, Result, Ok, Err, ap, sym, subst, inl}
+use Rattle.std.proofs.Common.{◌≡◌, ◌⊎◌, ◌∙◌, true, ℕ, List, Option, None, Result, Ok, Err, ap, sym, subst, inl}
 use Rattle.std.proofs.Common.{inr, refl}
 use Rattle.std.specs.Str.{is_utf8}
 use Rattle.picky_wire_base.specs.Outcome.{and_then, map_err, map_ok}

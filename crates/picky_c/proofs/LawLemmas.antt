@@ -1,6 +1,6 @@
 -- What is refused is answered as a refusal.
-use Rattle.std.proofs.Common.{◌≡◌, ◌+◌, ◌++◌, ℕ, List, [], ◌∷◌, Bool, true, false, Result, Ok, Err, refl, subst, sym}
-use Rattle.std.specs.Prelude.{codes, if◌then◌else◌}
+use Rattle.std.proofs.Common.{◌≡◌, ℕ, List, [], ◌∷◌, Bool, true, false, Ok, Err, refl, subst}
+use Rattle.std.specs.Prelude.{if◌then◌else◌}
 use Rattle.picky_wire_base.specs.Outcome.{map_err}
 use Rattle.picky_suite.specs.Meanings.{Meanings}
 use Rattle.picky_key_text.specs.{Order.{reading}, Reader.{Reader}, declared.meaning.Meaning.{Meaning}}
@@ -10,21 +10,16 @@ use Rattle.picky_target.specs.{Judged.{first_failing, judged_meaning, passes, pl
 use Rattle.picky_target.specs.{Texts.{text_for}, Written.{written}, declared.target.KeyTarget.{KeyTarget}}
 use Rattle.picky_target.specs.declared.error.ConvertError.{ConvertError}
 use Rattle.picky_target.specs.declared.target.KeyTarget.TheVariants as targets
-use Rattle.picky_conversion.specs.{Convert.{conversion}, Outside.{Outside, reader}, Want.{IsFault, WantsMemory}}
+use Rattle.picky_conversion.specs.{Convert.{conversion}, Outside.{Outside, reader}}
 use Rattle.picky_conversion.proofs.JudgedLemmas.{IsOwn, input_is_own, mapped_is, next_is, written_is_own}
-use Rattle.picky_keys.specs.declared.error.SshPublicKeyError.{SshPublicKeyError}
-use Rattle.picky_keys.specs.declared.error.SshPublicKeyError.TheVariants as public
 use Rattle.picky_sshkey_blob.specs.declared.error.SshPrivateKeyError.{SshPrivateKeyError}
 use Rattle.picky_sshkey_blob.specs.declared.error.SshPrivateKeyError.TheVariants as private
-use Rattle.picky_cert_parts.specs.declared.error.SshCertificateError.{SshCertificateError}
-use Rattle.picky_cert_parts.specs.declared.error.SshCertificateError.TheVariants as certificate
 use Rattle.picky_ppk_parts.specs.declared.error.PuttyError.{PuttyError}
 use Rattle.picky_ppk_parts.specs.declared.error.PuttyError.TheVariants as putty
 use Rattle.picky_key_text.specs.declared.error.ReadError.TheVariants as input
 use Rattle.picky_target.specs.declared.error.ConvertError.TheVariants as errors
 use Rattle.picky_c.specs.Refusal.{refusal_of}
-use Rattle.picky_c.specs.Number.{IsAnswered, IsOfKey, certificate_number, error_number, private_number, public_number}
-use Rattle.picky_c.specs.Number.{putty_number}
+use Rattle.picky_c.specs.Number.{IsAnswered, IsOfKey}
 use Rattle.picky_c.specs.declared.error.PickyError.TheVariants as calls
 
 place_of_key : (to : KeyTarget) (place : Place) → IsOfKey (place_refusal to place)

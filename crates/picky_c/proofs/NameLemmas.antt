@@ -3,7 +3,7 @@ use Rattle.std.proofs.Common.{◌≡◌, ◌==◌, ◌≤◌, ◌/◌, ◌%◌, 
 use Rattle.std.proofs.Common.{[], ◌∷◌, ℕ, Bool, true, false, length, get_or, arith, refl, rules, zero, suc}
 use Rattle.std.specs.Prelude.{nat_le, if◌then◌else◌}
 use Rattle.std.proofs.lemmas.List.{drop-drop, drop-replicate, length-append}
-use Rattle.picky_c.specs.Name.{own_names, private_names, public_names, certificate_names, putty_names, leaf_name, names_in, path_to}
+use Rattle.picky_c.specs.Name.{leaf_name, names_in}
 
 abbrev all_short : List (List ℕ) → Bool
 all_short [] = true

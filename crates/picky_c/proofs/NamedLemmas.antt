@@ -1,17 +1,9 @@
 -- The name of a refusal's number is what the program says of it.
-use Rattle.std.proofs.Common.{◌≡◌, ◌+◌, ◌++◌, ℕ, List, [], ◌∷◌, Bool, true, false, Result, Ok, Err, refl, subst, sym}
-use Rattle.std.specs.Prelude.{codes, if◌then◌else◌}
-use Rattle.picky_wire_base.specs.Outcome.{map_err}
-use Rattle.picky_suite.specs.Meanings.{Meanings}
-use Rattle.picky_key_text.specs.{Order.{reading}, Reader.{Reader}, declared.meaning.Meaning.{Meaning}}
+use Rattle.std.proofs.Common.{◌≡◌, ◌+◌, ◌++◌, refl, subst, sym}
+use Rattle.std.specs.Prelude.{codes}
 use Rattle.picky_key_text.specs.declared.error.ReadError.{ReadError}
-use Rattle.picky_target.specs.Carried.{Place, places, PrivateKey, Kind, Comment, Derivation, Fresh, Length, Lines}
-use Rattle.picky_target.specs.{Judged.{first_failing, judged_meaning, passes, place_refusal}, Output.{Output}}
-use Rattle.picky_target.specs.{Texts.{text_for}, Written.{written}, declared.target.KeyTarget.{KeyTarget}}
 use Rattle.picky_target.specs.declared.error.ConvertError.{ConvertError}
-use Rattle.picky_target.specs.declared.target.KeyTarget.TheVariants as targets
-use Rattle.picky_conversion.specs.{Convert.{conversion}, Outside.{Outside, reader}, Want.{IsFault, WantsMemory}}
-use Rattle.picky_conversion.proofs.JudgedLemmas.{IsOwn, input_is_own, mapped_is, next_is, written_is_own}
+use Rattle.picky_conversion.specs.Want.{WantsMemory}
 use Rattle.picky_keys.specs.declared.error.SshPublicKeyError.{SshPublicKeyError}
 use Rattle.picky_keys.specs.declared.error.SshPublicKeyError.TheVariants as public
 use Rattle.picky_sshkey_blob.specs.declared.error.SshPrivateKeyError.{SshPrivateKeyError}
@@ -23,8 +15,8 @@ use Rattle.picky_ppk_parts.specs.declared.error.PuttyError.TheVariants as putty
 use Rattle.picky_key_text.specs.declared.error.ReadError.TheVariants as input
 use Rattle.picky_target.specs.declared.error.ConvertError.TheVariants as errors
 use Rattle.picky_convert.specs.Report.{certificate_name, name, path, private_name, public_name, putty_name}
-use Rattle.picky_c.specs.{Refusal.{refusal_of}, Name.{error_name}}
-use Rattle.picky_c.specs.Number.{IsAnswered, IsOfKey, certificate_number, error_number, private_number, public_number}
+use Rattle.picky_c.specs.Name.{error_name}
+use Rattle.picky_c.specs.Number.{IsAnswered, certificate_number, error_number, private_number, public_number}
 use Rattle.picky_c.specs.Number.{putty_number}
 use Rattle.picky_c.specs.declared.error.PickyError.TheVariants as calls
 

@@ -1,5 +1,5 @@
 -- What each call comes to: bytes, or the first reason why there are none.
-use Rattle.std.specs.Prelude.{◌≡◌, ◌++◌, List, ℕ, Bool, false, Option, None, Some, Result, Ok, Err, codes}
+use Rattle.std.specs.Prelude.{◌≡◌, ◌++◌, List, ℕ, Bool, false, Option, None, Some, Result, Ok, codes}
 use Rattle.std.specs.Option.{ok_or}
 use Rattle.base64.specs.Engines.{standard_no_pad}
 use Rattle.base64.specs.GeneralPurpose.{encode_of}
@@ -15,7 +15,7 @@ use Rattle.picky_target.specs.declared.target.KeyTarget.{KeyTarget}
 use Rattle.picky_conversion.specs.Convert.{IsConversion, conversion, converting_asks}
 use Rattle.picky_conversion.specs.Outside.{Outside}
 use Rattle.picky_conversion.specs.Refusal.{input_refusal}
-use Rattle.picky_c.specs.Given.{pass_in as given, plain_outside, plain_reader, utf8}
+use Rattle.picky_c.specs.Given.{pass_of, plain_outside, plain_reader, utf8}
 use Rattle.picky_c.specs.Part.{part_numbered, part_of}
 use Rattle.picky_c.specs.Refusal.{refusal_of}
 use Rattle.picky_c.specs.Target.{target_numbered}
@@ -27,7 +27,7 @@ use Rattle.picky_c.specs.declared.error.PickyError.TheVariants as errors
 
 -- what it has beside the key text
 abbrev pub outside : (pass_in pass_out fresh : List ℕ) → Outside
-outside pass_in pass_out fresh = plain_outside (given pass_in) (given pass_out) fresh
+outside pass_in pass_out fresh = plain_outside (pass_of pass_in) (pass_of pass_out) fresh
 
 -- the text, or the first reason why there is none
 abbrev pub converted : (target : ℕ) → (text pass_in pass_out fresh : List ℕ) → Result (List ℕ) PickyError

@@ -5,12 +5,11 @@ use Rattle.picky_suite.specs.Meanings.{plain}
 use Rattle.picky_key_text.specs.Reader.{Reader}
 use Rattle.picky_conversion.specs.Outside.{Outside}
 use Rattle.picky_c.specs.declared.error.PickyError.{PickyError}
-use Rattle.picky_c.specs.declared.error.PickyError.TheVariants as errors
 
 -- a passphrase; no bytes are none
-abbrev pub pass_in : List ℕ → Option (List ℕ)
-pass_in [] = None
-pass_in (b ∷ more) = Some (b ∷ more)
+abbrev pub pass_of : List ℕ → Option (List ℕ)
+pass_of [] = None
+pass_of (b ∷ more) = Some (b ∷ more)
 
 -- bytes that are UTF-8, or why they are none
 abbrev pub utf8 : PickyError → List ℕ → Result (List ℕ) PickyError

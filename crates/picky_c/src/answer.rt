@@ -1,6 +1,5 @@
 //! What a call answers, and what it leaves in the caller's buffer.
 
-ghost use Rattle.std.specs.Prelude.{◌≡◌};
 ghost use Rattle.picky_wire_base.specs.Outcome.{map_ok};
 ghost use Rattle.picky_c.specs.Answer.{Comes, Hands};
 
@@ -13,7 +12,7 @@ use crate::number::number_of;
 pub struct PickyAnswer {
     /// 0, or the number of the reason why nothing was written.
     pub error: u32,
-    /// How many bytes were asked for, where there are such.
+    /// How many bytes there are to hand out; 0 where there are none.
     pub len: usize,
 }
 

@@ -1,6 +1,6 @@
 //! The conversion of a key text, with a suite that has no ciphers.
 
-ghost use Rattle.std.specs.Prelude.{◌≡◌, IfOk};
+ghost use Rattle.std.specs.Prelude.{IfOk};
 ghost use Rattle.std.specs.Option.{option_copied};
 ghost use Rattle.picky_wire_base.specs.Outcome.{map_err};
 ghost use Rattle.picky_suite.specs.Asked.{GivesAsked};
@@ -19,7 +19,8 @@ use std::alloc::Global;
 
 /// The text of the target for what a key text means.
 ///
-/// Refuses, in order: `NoSuchTarget`, `TextNotUtf8`, `PassNotUtf8`, and as `picky_conversion::convert`.
+/// Refuses, in order: `NoSuchTarget`, `TextNotUtf8`, `PassNotUtf8`, and as `picky_conversion::convert`, with `NoCipher` in place
+/// of the suite's fault.
 pub fn converted(
     alloc: Global,
     text: &[u8],
@@ -69,18 +70,16 @@ fn converted_text(
 {
     let mut suite = PlainSuite::new();
     let mut signer = HandedSigner::new(None);
-    let target = Target::from(target);
     let converted = convert(
         alloc,
         &mut suite,
         &mut signer,
         text,
         pass_in,
-        &target,
+        Target::from(target),
         pass_out,
         fresh,
     );
-    drop(target);
     drop(signer);
     match converted {
         Ok(text) => Ok(text.into_string().into_bytes()),

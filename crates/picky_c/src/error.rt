@@ -25,7 +25,7 @@ pub enum PickyError {
     NoSuchPart,
     /// The key text is to be opened, or what is written to be sealed: that takes a cipher, and there is none.
     NoCipher,
-    /// The key text is not converted.
+    /// The key text is refused, or has no text for the target.
     Refused(ConvertError),
 }
 

@@ -2,7 +2,7 @@
 //!
 //! A slice is a pointer and a length to C, and a `Global` is nothing. What holds of them here a caller in C has to see to.
 
-ghost use Rattle.std.specs.Prelude.{◌≡◌, false};
+ghost use Rattle.std.specs.Prelude.{false};
 ghost use Rattle.picky_c.specs.Answer.{Answers};
 ghost use Rattle.picky_c.specs.Calls.{IsConverted, IsFingerprint, IsPart, converted as converted_of, converting_is_asked, fingerprint as fingerprint_of, public_part};
 ghost use Rattle.picky_c.specs.Name.{IsNamed, error_name};

@@ -3,7 +3,7 @@
 ghost use Rattle.std.specs.Prelude.{◌≡◌, true, false, MatchOption};
 ghost use Rattle.std.specs.Option.{option_copied};
 ghost use Rattle.std.specs.Str.{IsUtf8, is_utf8};
-ghost use Rattle.picky_c.specs.Given.{pass_in};
+ghost use Rattle.picky_c.specs.Given.{pass_of};
 
 use std::str;
 
@@ -39,7 +39,7 @@ fn of_utf8(bytes: &[u8]) -> Option<&str>
 /// The bytes as a passphrase, where they are UTF-8; no bytes are none.
 pub fn as_pass(bytes: &[u8]) -> Option<Option<&str>>
     ensures { MatchOption result (is_utf8 bytes.now ≡ false)
-        (λ pass. (option_copied pass ≡ pass_in bytes.now) × (is_utf8 bytes.now ≡ true)) }
+        (λ pass. (option_copied pass ≡ pass_of bytes.now) × (is_utf8 bytes.now ≡ true)) }
 {
     match as_text(bytes) {
         Some(text) if text.is_empty() => Some(None),

@@ -1,7 +1,7 @@
 //! The name of each number that a call answers.
 
 ghost use Rattle.std.specs.Prelude.{◌≡◌, ◌+◌, ◌++◌, ◌≤◌, ◌<◌, ◌/◌, [], length, map};
-ghost use Rattle.picky_c.specs.Name.{IsNamed, error_name, leaf_name as leaf_of, names_in, path_to, with_path};
+ghost use Rattle.picky_c.specs.Name.{IsNamed, error_name, leaf_name as leaf_of, names_in, path_to};
 
 /// How many bytes a name has room for.
 const NAME_LEN: usize = 48;

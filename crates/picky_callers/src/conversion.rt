@@ -34,11 +34,10 @@ pub fn putty_text(alloc: Global, input: &str) -> Result<Text, ConvertError>
         &mut signer,
         input,
         None,
-        &target,
+        target,
         None,
         &[],
     );
-    drop(target);
     drop(signer);
     converted
 }

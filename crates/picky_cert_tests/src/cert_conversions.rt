@@ -19,7 +19,7 @@ pub fn converted(alloc: Global, line: &str, target: KeyTarget) -> Result<Text, C
         &mut HandedSigner::new(None),
         line,
         None,
-        &Target::from(target),
+        Target::from(target),
         None,
         &[],
     )

@@ -1,18 +1,17 @@
 -- What the conversion to a certificate's line answers, from what reading and signing answer.
-use Rattle.std.proofs.Common.{◌≡◌, ℕ, List, Bool, true, false, Result, Ok, Err, refl, sym, ap, ◌∙◌, subst, ◌⊎◌, inl, inr, ◌≢◌}
-use Rattle.std.proofs.Common.{◌↔◌, if◌then◌else◌}
+use Rattle.std.proofs.Common.{◌≡◌, ℕ, List, Bool, true, false, Result, Ok, Err, refl, sym, ap, ◌∙◌, subst, ◌⊎◌, inl, inr}
+use Rattle.std.proofs.Common.{if◌then◌else◌}
 use Rattle.std.specs.Prelude.{length, nat_le, take, IfErr}
 use Rattle.picky_wire_base.specs.{Outcome.{and_then, map_err, map_ok}, Gives.{Gives}}
-use Rattle.picky_suite.specs.{Asked.{LeavesSuite}, Failures.{IsAskedFault}, Meanings.{Meanings}}
+use Rattle.picky_suite.specs.{Asked.{LeavesSuite}, Meanings.{Meanings}}
 use Rattle.picky_keys.specs.LineRefusal.{is_short}
-use Rattle.picky_cert.specs.Spelled.{signed_of}
 use Rattle.picky_cert_builder.specs.declared.builder.SshCertificateBuilder.{SshCertificateBuilder}
 use Rattle.picky_cert_builder.specs.declared.error.SshCertificateGenerationError.{SshCertificateGenerationError}
 use Rattle.picky_cert_builder.specs.{Draft.{Unsigned, requested}, Request.{terms_of}, Terms.{judged_terms}}
 use Rattle.picky_cert_builder.specs.declared.error.SshCertificateGenerationError.TheVariants as requests
 use Rattle.picky_cert_builder.proofs.OwnLaws.{IsOwn as IsRequestsOwn, judged_is_own as judged_request, requested_is_own}
 use Rattle.picky_key_text.specs.{declared.error.ReadError.{ReadError}, declared.meaning.Meaning.{Meaning}}
-use Rattle.picky_key_text.specs.Order.{asks, fault_of as input_fault, reading}
+use Rattle.picky_key_text.specs.Order.{fault_of as input_fault, reading}
 use Rattle.picky_target.specs.{declared.error.ConvertError.{ConvertError}, Judged.{carries_comment}}
 use Rattle.picky_target.specs.declared.error.ConvertError.TheVariants as errors
 use Rattle.picky_target.specs.declared.target.KeyTarget.TheVariants as targets

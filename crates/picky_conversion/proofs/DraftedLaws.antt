@@ -1,6 +1,6 @@
 -- The order of a request's refusals ends in a certificate exactly where the request comes to it.
-use Rattle.std.specs.Prelude.{◌↔◌, ◌≤◌, ◌<◌, ◌^◌, ◌≡◌, Bool, true, false, List, ℕ, Result, Ok, Err, length, nat_le, take, if◌then◌else◌}
-use Rattle.std.proofs.Common.{refl, sym, ap, ◌∙◌, subst, ◌⊎◌, inl, inr}
+use Rattle.std.specs.Prelude.{◌↔◌, ◌^◌, ◌≡◌, Bool, true, false, List, ℕ, Result, Ok, Err, length, nat_le, take, if◌then◌else◌}
+use Rattle.std.proofs.Common.{refl, ap, ◌∙◌, subst, ◌⊎◌, inl, inr}
 use Rattle.std.proofs.lemmas.Bool.{leb-true, le-leb, lt-ltb, ltb-true}
 use Rattle.picky_wire_base.specs.Outcome.{and_then, map_err}
 use Rattle.picky_wire_base.specs.carried.Outcome.{and_then_ok, map_err_ok}
@@ -8,16 +8,13 @@ use Rattle.picky_keys.specs.LineRefusal.{is_short}
 use Rattle.picky_cert_builder.specs.declared.builder.SshCertificateBuilder.{SshCertificateBuilder}
 use Rattle.picky_cert_builder.specs.declared.error.SshCertificateGenerationError.{SshCertificateGenerationError}
 use Rattle.picky_cert_builder.specs.declared.error.SshCertificateGenerationError.TheVariants as requests
-use Rattle.picky_cert_builder.specs.declared.terms.FitTerms.{FitTerms}
 use Rattle.picky_cert_builder.specs.Draft.{Unsigned, requested}
 use Rattle.picky_cert_builder.specs.Request.{terms_of}
 use Rattle.picky_cert_builder.specs.Terms.{judged_terms}
 use Rattle.picky_cert_builder.proofs.MadeLaws.{requested_is_made}
 use Rattle.picky_key_text.specs.declared.meaning.Meaning.{Meaning}
-use Rattle.picky_target.specs.declared.error.ConvertError.{ConvertError}
 use Rattle.picky_target.specs.declared.error.ConvertError.TheVariants as errors
 use Rattle.picky_target.specs.declared.target.KeyTarget.TheVariants as targets
-use Rattle.picky_target.specs.Carried.{LineCarries}
 use Rattle.picky_target.specs.Judged.{carries_comment}
 use Rattle.picky_target.proofs.PlaceLemmas.{comment_holds, comment_test}
 use Rattle.picky_conversion.specs.declared.request.CertRequest.{CertRequest}

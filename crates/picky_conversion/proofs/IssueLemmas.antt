@@ -1,6 +1,7 @@
 -- What the commands that issue certificates answer: the issuer's text is read, and then the key text.
 use Rattle.std.proofs.Common.{◌≡◌, ℕ, List, [], Bool, false, Option, None, Some, Result, Ok, Err, refl, sym, ap, ◌∙◌, subst}
 use Rattle.std.proofs.Common.{◌⊎◌, inl, inr, ◌&&◌}
+use Rattle.std.specs.Prelude.{is_ok}
 use Rattle.picky_wire_base.specs.Outcome.{map_err, map_ok}
 use Rattle.picky_suite.specs.Asked.{LeavesSuite}
 use Rattle.picky_suite.specs.Failures.{IsAskedFault}
@@ -19,7 +20,7 @@ use Rattle.picky_target.specs.declared.error.ConvertError.TheVariants as errors
 use Rattle.picky_conversion.specs.Certified.{Relation}
 use Rattle.picky_conversion.specs.Certify.{IsReadFault, certification, drafting, hex_line}
 use Rattle.picky_conversion.specs.Convert.{LeavesAskedSuite}
-use Rattle.picky_conversion.specs.Issue.{IsIssuingFault, asks_issuer, asks_key, goes_on, issued, issued_bytes, issuer_fault}
+use Rattle.picky_conversion.specs.Issue.{IsIssuingFault, asks_issuer, asks_key, issued, issued_bytes, issuer_fault}
 use Rattle.picky_conversion.specs.Issue.{issuer_read, issuing_asks, request_by, unsigned}
 use Rattle.picky_conversion.specs.Made.{Answers, AnswersPlain, LeavesSigner, Made, ToSign, is_signed}
 use Rattle.picky_conversion.specs.Outside.{Outside, reader}
@@ -200,7 +201,7 @@ asks_none : (o : Outside) (input : List ℕ) (issuer : Option Key) → issuer_re
 unfolding issuing_asks
 asks_none o input issuer is unasked =
     let two = either_false (asks_issuer o (issuer_part input)) (asks_key o input) unasked in
-    (two.0, sym (ap (λ r. goes_on r && asks o.pass_in (key_part input)) is) ∙ two.1)
+    (two.0, sym (ap (λ r. is_ok r && asks o.pass_in (key_part input)) is) ∙ two.1)
 
 pub asks_no_issuer : (o : Outside) (input : List ℕ) → issuing_asks o input ≡ false → asks_issuer o (issuer_part input) ≡ false
 unfolding issuing_asks
@@ -302,10 +303,3 @@ ok_signs signs faults asked x y old new leaves = record {
   calm = λ other. leaves.calm (λ is. cc is);
   unasked = leaves.unasked;
 }
-
--- memory runs out behind a text that was read
-pub wanting_leaves : {S A : Type 0} (meanings : S → Meanings) (faults : S → ℕ) (input : List ℕ) (asked : Bool) (m : Meaning)
-    (old new : S) → LeavesSuite {A = Meaning} {E = ReadError} meanings faults (input_fault input) asked (Ok m) old new
-    → LeavesAskedSuite {A = A} meanings faults asked (Err errors.NoMemory) old new
-wanting_leaves meanings faults input asked m old new leaves =
-    want_leaves meanings faults asked m old new (read_leaves meanings faults input asked m m old new leaves)

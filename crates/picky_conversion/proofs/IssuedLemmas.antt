@@ -24,7 +24,7 @@ use Rattle.picky_conversion.specs.Certify.{IsCertified, IsToBeSigned, certificat
 use Rattle.picky_conversion.specs.Chain.{IsGiven}
 use Rattle.picky_conversion.specs.Issue.{CanIssue, CanIssueBytes, IsIssued, IsIssuedBytes, IsIssuer, issued, issued_bytes}
 use Rattle.picky_conversion.specs.Issue.{issuer_read, request_by, unsigned}
-use Rattle.picky_conversion.specs.Made.{IsLeft, IsTextOf, IsUnwritten, Made, ToSign, Whole, Writes}
+use Rattle.picky_conversion.specs.Made.{IsLeft, IsTextOf, IsUnwritten, ToSign, Whole, Writes}
 use Rattle.picky_conversion.specs.Outside.{Outside, reader, reader_back}
 use Rattle.picky_conversion.proofs.ConvertLemmas.{means_one, says_in}
 

@@ -1,23 +1,23 @@
 -- Texts of one target are equal exactly where what is kept is, and public parts are kept through any targets.
-use Rattle.std.proofs.Common.{◌≡◌, ◌↔◌, ℕ, List, [], ◌∷◌, false, true, Option, None, Some, Ok, refl, sym, ap, ◌∙◌, subst}
+use Rattle.std.proofs.Common.{◌≡◌, ℕ, List, [], ◌∷◌, false, None, Ok, refl, sym, ap, ◌∙◌, subst}
 use Rattle.std.specs.{Option.{IfSome}, Str.{IsUtf8}}
-use Rattle.picky_wire_base.specs.{Outcome.{map_err, map_ok}, carried.Outcome.{and_then_ok, map_err_ok}}
+use Rattle.picky_wire_base.specs.{Outcome.{map_err}, carried.Outcome.{and_then_ok, map_err_ok}}
 use Rattle.picky_sshkey_blob.specs.declared.key.SshBasePrivateKey.{SshBasePrivateKey}
 use Rattle.picky_sshkey_blob.specs.Key.{IsPrivateKey, public_part as private_part}
 use Rattle.picky_sshkey_blob.specs.declared.key.SshBasePrivateKey.TheVariants as private
 use Rattle.picky_keys.specs.{Key.{IsKey}, declared.key.SshPublicKey.{SshPublicKey}}
 use Rattle.picky_key_text.specs.{declared.meaning.Key.{Key}, declared.meaning.Meaning.{Meaning}}
 use Rattle.picky_key_text.specs.{Kept.{IsKeptMeaning, IsKeptKey}, Key.{public_key, public_meaning, public_part}}
-use Rattle.picky_key_text.specs.{Order.{reading}, Reader.{Reader}, Reads.{Reads}}
+use Rattle.picky_key_text.specs.{Order.{reading}, Reader.{Reader}}
 use Rattle.picky_key_text.specs.declared.meaning.Key.TheVariants as keys
 use Rattle.picky_target.specs.declared.error.ConvertError.TheVariants as errors
 use Rattle.picky_target.specs.{declared.target.KeyTarget.{KeyTarget}, Judged.{judged_meaning}, Output.{Output}}
 use Rattle.picky_target.specs.{ReadBack.{IsTarget, kept, under}, Texts.{text_for}, Written.{keeps_secret}}
 use Rattle.picky_target.specs.declared.target.KeyTarget.TheVariants as targets
-use Rattle.picky_conversion.specs.{declared.request.CertRequest.{CertRequest}, Certified.{Relation}}
+use Rattle.picky_conversion.specs.Certified.{Relation}
 use Rattle.picky_conversion.specs.{Drafted.{line_drafted}, Chain.{IsGiven}, AnyChain.{AnyStep, Through, pass_after}}
 use Rattle.picky_conversion.specs.{Binds.{Binds}, Certify.{certification}, Convert.{conversion}}
-use Rattle.picky_conversion.specs.{Made.{ToSign, Whole, Writes}, Outside.{Outside, reader}}
+use Rattle.picky_conversion.specs.{Made.{Writes}, Outside.{Outside, reader}}
 use Rattle.picky_conversion.specs.To.{Certified, IsWay, Way, Written, converted}
 use Rattle.picky_conversion.proofs.{DraftedLaws.{line_drafted_where}, ReadBackLemmas.{line_is_read_back}}
 use Rattle.picky_conversion.proofs.ConvertLemmas.{conversion_from, conversion_parts}

@@ -1,5 +1,5 @@
 -- Certificates issued from one source: the issuer's text, a line that is exactly two percent signs, and the key text.
-use Rattle.std.specs.Prelude.{◌≡◌, ◌⊎◌, ◌&&◌, ◌||◌, List, [], ℕ, Bool, true, false, Option, None, Some, Result, Ok, Err}
+use Rattle.std.specs.Prelude.{◌≡◌, ◌⊎◌, ◌&&◌, ◌||◌, List, [], ℕ, Bool, false, Option, None, Some, Result, Ok, is_ok}
 use Rattle.picky_wire_base.specs.Outcome.{and_then, map_err, map_ok}
 use Rattle.picky_suite.specs.Failures.{IsAskedFault}
 use Rattle.picky_cert_builder.specs.Draft.{Unsigned}
@@ -53,12 +53,8 @@ abbrev pub asks_issuer : Outside → Option (List ℕ) → Bool
 asks_issuer o None = false
 asks_issuer o (Some text) = asks o.pass_in text
 
-abbrev pub goes_on : {A E : Type 0} → Result A E → Bool
-goes_on (Ok _) = true
-goes_on (Err e) = false
-
 abbrev pub asks_key : Outside → List ℕ → Bool
-asks_key o input = goes_on (issuer_read o (issuer_part input)) && asks o.pass_in (key_part input)
+asks_key o input = is_ok (issuer_read o (issuer_part input)) && asks o.pass_in (key_part input)
 
 unfoldable pub issuing_asks : Outside → List ℕ → Bool
 issuing_asks o input = asks_issuer o (issuer_part input) || asks_key o input

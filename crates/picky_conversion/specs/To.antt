@@ -1,10 +1,9 @@
 -- The conversion to any target.
-use Rattle.std.specs.Prelude.{◌≡◌, List, ℕ, Bool, Result}
+use Rattle.std.specs.Prelude.{List, ℕ, Bool, Result}
 use Rattle.picky_wire_base.specs.Outcome.{map_ok}
 use Rattle.picky_cert_builder.specs.Draft.{Unsigned}
 use Rattle.picky_key_text.specs.declared.meaning.Meaning.{Meaning}
 use Rattle.picky_key_text.specs.Order.{asks}
-use Rattle.picky_key_text.specs.Reads.{Reads}
 use Rattle.picky_target.specs.declared.error.ConvertError.{ConvertError}
 use Rattle.picky_target.specs.declared.target.KeyTarget.{KeyTarget}
 use Rattle.picky_target.specs.declared.target.KeyTarget.TheVariants as keys
@@ -18,7 +17,7 @@ use Rattle.picky_conversion.specs.declared.target.Target.TheVariants as targets
 use Rattle.picky_conversion.specs.Certify.{IsCertified, IsReadFault, certification}
 use Rattle.picky_conversion.specs.Convert.{IsConversion, IsFaultOf, conversion, converting_asks}
 use Rattle.picky_conversion.specs.Made.{Made, ToSign, Whole}
-use Rattle.picky_conversion.specs.Outside.{Outside, reader}
+use Rattle.picky_conversion.specs.Outside.{Outside}
 
 -- by the key and the comment alone, or by a request that a device signs
 pub data Way : Type 0 where
@@ -57,7 +56,7 @@ abbrev pub CanConvert : Outside → Way → Meaning → Type 0
 CanConvert o (Written target) meaning = Carries o.output target meaning
 CanConvert o (Certified request) meaning = (u : Unsigned) × IsLineDrafted request meaning o.output.fresh u
 
--- its numbers are a value's
+-- the numbers of its target have the ranges of their types
 abbrev pub IsWay : Way → Type 0
 IsWay (Written target) = IsTarget target
 IsWay (Certified request) = Unit {0}

@@ -10,7 +10,7 @@ ghost use Rattle.picky_wire.specs.Count.{Rose};
 ghost use Rattle.picky_key_text.specs.declared.meaning.Meaning.{Meaning as Meant};
 ghost use Rattle.picky_key_text.specs.Order.{asks};
 ghost use Rattle.picky_key_text.specs.Reads.{Reads};
-ghost use Rattle.picky_target.specs.ReadBack.{IsConfig, IsTarget};
+ghost use Rattle.picky_target.specs.ReadBack.{IsConfig};
 ghost use Rattle.picky_conversion.specs.Certify.{IsReadFault, certification, drafting};
 ghost use Rattle.picky_conversion.specs.Binds.{BindsTo};
 ghost use Rattle.picky_conversion.specs.Chain.{IsGiven};
@@ -29,7 +29,7 @@ use picky_key_text::{ReadError, read_text};
 use picky_ppk::PpkEncryptionConfig;
 use picky_suite::{Signer, Suite};
 use picky_target::{ConvertError, KeyTarget, write_text};
-use picky_wire::{Bytes, NoMemory, Text, TryClone};
+use picky_wire::{Bytes, Text};
 use std::alloc::Global;
 
 /// The text of the target for the key and the comment that a text means: the key text is read under one passphrase, and what
@@ -46,40 +46,40 @@ pub fn convert<S: Suite, G: Signer>(
     signer: &mut G,
     input: &str,
     pass_in: Option<&str>,
-    target: &Target,
+    target: Target,
     pass_out: Option<&str>,
     fresh: &[u8],
 ) -> Result<Text, ConvertError>
     ensures gives { Answers (G.signs signer.old) (λ text. text)
-        (converted (outside_of (S.meanings suite.old) pass_in.entry pass_out.entry fresh.now) (way_to target.now) input.now)
-        (λ e. IsFaultTo (outside_of (S.meanings suite.old) pass_in.entry pass_out.entry fresh.now) (way_to target.now) input.now e (Rose (S.faults suite.old) (S.faults suite.new)))
+        (converted (outside_of (S.meanings suite.old) pass_in.entry pass_out.entry fresh.now) (way_to target) input.now)
+        (λ e. IsFaultTo (outside_of (S.meanings suite.old) pass_in.entry pass_out.entry fresh.now) (way_to target) input.now e (Rose (S.faults suite.old) (S.faults suite.new)))
         (Rose (G.faults signer.old) (G.faults signer.new)) result }
     ensures suite { LeavesAskedSuite S.meanings S.faults
-        (asks_to (outside_of (S.meanings suite.old) pass_in.entry pass_out.entry fresh.now) (way_to target.now) input.now)
+        (asks_to (outside_of (S.meanings suite.old) pass_in.entry pass_out.entry fresh.now) (way_to target) input.now)
         result suite.old suite.new }
     ensures signer { LeavesSigner G.signs G.faults
-        (is_signed (converted (outside_of (S.meanings suite.old) pass_in.entry pass_out.entry fresh.now) (way_to target.now) input.now))
+        (is_signed (converted (outside_of (S.meanings suite.old) pass_in.entry pass_out.entry fresh.now) (way_to target) input.now))
         result signer.old signer.new }
 
     // A text is of the one meaning, and is read back; and where no device signs it, it is the one spelling.
     ensures converts { IfOk result (λ text. IsConverted (G.signs signer.old)
-        (outside_of (S.meanings suite.old) pass_in.entry pass_out.entry fresh.now) (way_to target.now) input.now text) }
+        (outside_of (S.meanings suite.old) pass_in.entry pass_out.entry fresh.now) (way_to target) input.now text) }
 
     // It equals another conversion's text exactly where the target keeps the same of both.
     ensures binds { IfOk result (BindsTo
-        (outside_of (S.meanings suite.old) pass_in.entry pass_out.entry fresh.now) (way_to target.now) input.now) }
+        (outside_of (S.meanings suite.old) pass_in.entry pass_out.entry fresh.now) (way_to target) input.now) }
 
     // What has a text for the target is answered so.
     ensures complete { (meaning : Meant)
         → Reads (reader (outside_of (S.meanings suite.old) pass_in.entry pass_out.entry fresh.now)) input.now meaning
-        → CanConvert (outside_of (S.meanings suite.old) pass_in.entry pass_out.entry fresh.now) (way_to target.now) meaning
+        → CanConvert (outside_of (S.meanings suite.old) pass_in.entry pass_out.entry fresh.now) (way_to target) meaning
         → IsOk result ⊎ (result ≡ Err ConvertError.NoMemory) ⊎ ((e : ConvertError) × (result ≡ Err e)
-        × (IsFaultTo (outside_of (S.meanings suite.old) pass_in.entry pass_out.entry fresh.now) (way_to target.now) input.now e (Rose (S.faults suite.old) (S.faults suite.new))
-        ⊎ IsLeft (G.signs signer.old) (converted (outside_of (S.meanings suite.old) pass_in.entry pass_out.entry fresh.now) (way_to target.now) input.now)
+        × (IsFaultTo (outside_of (S.meanings suite.old) pass_in.entry pass_out.entry fresh.now) (way_to target) input.now e (Rose (S.faults suite.old) (S.faults suite.new))
+        ⊎ IsLeft (G.signs signer.old) (converted (outside_of (S.meanings suite.old) pass_in.entry pass_out.entry fresh.now) (way_to target) input.now)
         (Rose (G.faults signer.old) (G.faults signer.new)) e)) }
 {
     is_given(pass_in, pass_out, fresh);
-    is_target(target);
+    is_target(&target);
     let given = ConversionGiven {
         pass_in,
         pass_out,
@@ -94,29 +94,23 @@ fn convert_to<S: Suite, G: Signer>(
     suite: &mut S,
     signer: &mut G,
     input: &str,
-    target: &Target,
+    target: Target,
     given: ConversionGiven<'_>,
 ) -> Result<Text, ConvertError>
     ensures gives { Answers (G.signs signer.old) (λ text. text)
-        (converted (outside (S.meanings suite.old) given.entry) (way_to target.now) input.now)
-        (λ e. IsFaultTo (outside (S.meanings suite.old) given.entry) (way_to target.now) input.now e (Rose (S.faults suite.old) (S.faults suite.new)))
+        (converted (outside (S.meanings suite.old) given.entry) (way_to target) input.now)
+        (λ e. IsFaultTo (outside (S.meanings suite.old) given.entry) (way_to target) input.now e (Rose (S.faults suite.old) (S.faults suite.new)))
         (Rose (G.faults signer.old) (G.faults signer.new)) result }
     ensures suite { LeavesAskedSuite S.meanings S.faults
-        (asks_to (outside (S.meanings suite.old) given.entry) (way_to target.now) input.now) result suite.old suite.new }
+        (asks_to (outside (S.meanings suite.old) given.entry) (way_to target) input.now) result suite.old suite.new }
     ensures signer { LeavesSigner G.signs G.faults
-        (is_signed (converted (outside (S.meanings suite.old) given.entry) (way_to target.now) input.now))
+        (is_signed (converted (outside (S.meanings suite.old) given.entry) (way_to target) input.now))
         result signer.old signer.new }
 {
     match target {
         Target::OpenSsh => convert_key(alloc, suite, input, KeyTarget::OpenSsh, given),
         Target::Ppk(version, config) => {
-            convert_key(
-                alloc,
-                suite,
-                input,
-                KeyTarget::Ppk(*version, *config),
-                given,
-            )
+            convert_key(alloc, suite, input, KeyTarget::Ppk(version, config), given)
         }
         Target::OpenSshPublic => convert_key(alloc, suite, input, KeyTarget::OpenSshPublic, given),
         Target::PuttyPublic => convert_key(alloc, suite, input, KeyTarget::PuttyPublic, given),
@@ -154,31 +148,28 @@ fn certify<S: Suite, G: Signer>(
     suite: &mut S,
     signer: &mut G,
     input: &str,
-    request: &CertRequest,
+    request: CertRequest,
     given: ConversionGiven<'_>,
 ) -> Result<Text, ConvertError>
     ensures gives { Answers (G.signs signer.old) (λ text. text)
-        (map_ok ToSign (certification (outside (S.meanings suite.old) given.entry) request.now input.now))
+        (map_ok ToSign (certification (outside (S.meanings suite.old) given.entry) request input.now))
         (λ e. IsReadFault (outside (S.meanings suite.old) given.entry) input.now e (Rose (S.faults suite.old) (S.faults suite.new)))
         (Rose (G.faults signer.old) (G.faults signer.new)) result }
     ensures suite { LeavesAskedSuite S.meanings S.faults (asks (option_copied given.entry.pass_in) input.now) result suite.old suite.new }
     ensures signer { LeavesSigner G.signs G.faults
-        (is_signed (map_ok ToSign (certification (outside (S.meanings suite.old) given.entry) request.now input.now)))
+        (is_signed (map_ok ToSign (certification (outside (S.meanings suite.old) given.entry) request input.now)))
         result signer.old signer.new }
 {
     match read_text(alloc, suite, input, given.pass_in) {
-        Ok(meaning) => match request.try_clone(alloc) {
-            Ok(request) => write_certificate(alloc, signer, request, meaning, given.fresh),
-            Err(NoMemory) => {
-                drop(meaning);
-                Err(ConvertError::NoMemory)
-            }
-        },
-        Err(e) => Err(input_refusal(e)),
+        Ok(meaning) => write_certificate(alloc, signer, request, meaning, given.fresh),
+        Err(e) => {
+            drop(request);
+            Err(input_refusal(e))
+        }
     }
 }
 
-/// What is to be signed of it, as bytes.
+/// The bytes that a device signs of the certificate that the request asks of what a text means.
 ///
 /// Refuses, in order: `Input` as `read_text`; and as `crate::write_signed_bytes`.
 pub fn bytes_to_sign<S: Suite>(
@@ -215,7 +206,7 @@ pub fn input_refusal(e: ReadError) -> ConvertError
     }
 }
 
-/// The same of the issuer's text.
+/// A refusal of the issuer's text as the conversion's, where want of memory is the outer want.
 pub fn issuer_refusal(e: ReadError) -> ConvertError
     ensures { result ≡ issuer_refusal_of e }
 {
@@ -247,7 +238,7 @@ fn is_target(target: &Target)
     }
 }
 
-/// Does nothing: so have a configuration's.
+/// Does nothing: a configuration's numbers have the ranges of their types.
 fn is_config(config: PpkEncryptionConfig)
     ensures { IsConfig config }
 {
@@ -264,7 +255,7 @@ fn is_text_where_given(pass: Option<&str>)
     }
 }
 
-/// Does nothing: a text is one.
+/// Does nothing: a text is UTF-8.
 fn is_text(text: &str)
     ensures { IsUtf8 text.now }
 {

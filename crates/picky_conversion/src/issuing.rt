@@ -53,7 +53,7 @@ pub fn issue<S: Suite, G: Signer>(
                 signer,
                 parts.key,
                 given.pass_in,
-                &Target::Certificate(request),
+                Target::Certificate(request),
                 given.pass_out,
                 given.fresh,
             )
@@ -65,7 +65,7 @@ pub fn issue<S: Suite, G: Signer>(
     }
 }
 
-/// What is to be signed of it, in lower-case hex, and LF.
+/// What a device signs of the certificate that the options ask of the key text, in lower-case hex, and LF.
 ///
 /// Refuses, in order: `Issuer` and then `Input`, each as `read_text`; and as `crate::write_signed_bytes`.
 pub fn print_signed<S: Suite>(

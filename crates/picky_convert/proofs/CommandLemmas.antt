@@ -1,6 +1,6 @@
 -- Lemmas on the command of some words, and on what it writes.
 use Rattle.std.proofs.Common.{◌≡◌, ◌⊎◌, inl, inr, subst, Bool, true, false, Option, None, Some, if◌then◌else◌, ℕ, List, [], ◌∷◌}
-use Rattle.std.proofs.Common.{length, get_or, Ok, refl, sym, ap, arith}
+use Rattle.std.proofs.Common.{Ok, refl, sym, ap, arith}
 use Rattle.std.specs.{Option.{option_map}, Str.{bytes_eq, IsUtf8}}
 use Rattle.picky_wire_base.specs.{carried.Outcome.{and_then_ok, map_err_ok}, Outcome.{map_err, map_ok}}
 use Rattle.picky_ppk_parts.specs.Config.{default_config}
@@ -21,12 +21,6 @@ use Rattle.picky_convert.specs.Command.{sample_size, with_options, with_size, ce
 use Rattle.picky_convert.specs.Command.{sample, ssh_pub, tbs}
 use Rattle.picky_convert.specs.{Fingerprint.{fingerprint_text}, Sample.{sample_text}}
 use Rattle.picky_convert.specs.declared.command.Command.TheVariants as commands
-
--- a list of one item
-pub one_word : {A : Type 0} (xs : List A) (x : A) → length xs ≡ 1 → x ≡ get_or xs 0 x → xs ≡ x ∷ []
-one_word [] x len is = absurd (omega (arith, len))
-one_word (y ∷ []) x len is = ap (λ z. z ∷ []) (sym is)
-one_word (y ∷ z ∷ xs) x len is = absurd (omega (arith, len))
 
 -- what a command writes is its answer to the source's text
 pub answer_is : (signs : Relation) (o : Outside) (command : Command) (input text : List ℕ) → IsGiven o → IsCommand command

@@ -1,5 +1,5 @@
 -- Lemmas on what is written for the bytes of a source, and on the status of a refusal.
-use Rattle.std.proofs.Common.{◌≡◌, ◌≤◌, ℕ, List, false, length, Result, Ok, Err, refl, sym, ap, ◌∙◌, subst, ◌⊎◌, inl, inr}
+use Rattle.std.proofs.Common.{◌≡◌, ◌≤◌, ℕ, List, false, length, Result, Ok, Err, refl, sym, ap, ◌∙◌, subst, inl, inr}
 use Rattle.std.proofs.lemmas.Bool.{le-ltb, le-leb, cases_Bool}
 use Rattle.std.proofs.lemmas.Str.{is_utf8-from_IsUtf8, IsUtf8-from_is_utf8}
 use Rattle.std.specs.Str.{IsUtf8, is_utf8}
@@ -72,17 +72,6 @@ fault_asks o commands.Fingerprint input e rose fault = (subst IsFault (sym fault
 fault_asks o (commands.Sample keys) input e rose fault = absurd fault
 
 -- ---- the status of a refusal
-
-pub fault_from_status : (e : ConvertError) → refusal_status e ≡ statuses.OutsideFault → IsFault e ⊎ (e ≡ errors.Request requests.SignatureError)
-fault_from_status errors.NoMemory is = cc is
-fault_from_status (errors.Input (input_errors.Private private.SuiteFault)) is = inl refl
-fault_from_status (errors.Input (input_errors.Putty putty.SuiteFault)) is = inl refl
-fault_from_status (errors.Issuer (input_errors.Private private.SuiteFault)) is = inl refl
-fault_from_status (errors.Issuer (input_errors.Putty putty.SuiteFault)) is = inl refl
-fault_from_status (errors.Request requests.SignatureError) is = inr refl
-fault_from_status (errors.Private private.SuiteFault) is = inl refl
-fault_from_status (errors.Putty putty.SuiteFault) is = inl refl
-fault_from_status e is = cc is
 
 pub status_from_fault : (e : ConvertError) → IsFault e → refusal_status e ≡ statuses.OutsideFault
 status_from_fault (errors.Input (input_errors.Private e)) fault =
@@ -246,23 +235,4 @@ untouched_devices meanings faults signs signer_faults failed unasked unsigned su
   suite = record { kept = refl; calm = λ other. refl; unasked = λ no. refl };
   signer = record { kept = λ k a m s. (λ x. x, λ x. x); calm = λ other. refl; unasked = λ no. refl };
   one_counts = inl refl;
-}
-
--- what devices are left with, said of another cause of faults and of other reasons why none is asked
-pub devices_so : {S G : Type 0} (meanings : S → Meanings) (faults : S → ℕ) (signs : G → Relation) (signer_faults : G → ℕ)
-    (failed unasked unsigned ended spared silent : Type 0) (old new : S) (before after : G) → (failed → ended) → (spared → unasked)
-    → (silent → unsigned) → Devices meanings faults signs signer_faults failed unasked unsigned old new before after
-    → Devices meanings faults signs signer_faults ended spared silent old new before after
-devices_so meanings faults signs signer_faults failed unasked unsigned ended spared silent old new before after ends asks signed leaves = record {
-  suite = record {
-    kept = leaves.suite.kept;
-    calm = λ other. leaves.suite.calm (λ is. other (ends is));
-    unasked = λ no. leaves.suite.unasked (asks no);
-  };
-  signer = record {
-    kept = leaves.signer.kept;
-    calm = λ other. leaves.signer.calm (λ is. other (ends is));
-    unasked = λ no. leaves.signer.unasked (signed no);
-  };
-  one_counts = leaves.one_counts;
 }

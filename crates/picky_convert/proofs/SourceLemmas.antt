@@ -1,7 +1,7 @@
 -- Lemmas on commands that read the source and the one that doesn't.
-use Rattle.std.proofs.Common.{◌≡◌, ◌≢◌, ◌+◌, ◌<◌, ◌≤◌, ◌&&◌, ◌⊎◌, ◌∙◌, ℕ, List, [], length, nat_le, true, false, Bool, Option}
-use Rattle.std.proofs.Common.{Some, None, Result, Ok, Err}
-use Rattle.std.proofs.Common.{if◌then◌else◌, inl, inr, refl, sym, ap, subst, arith}
+use Rattle.std.proofs.Common.{◌≡◌, ◌≢◌, ◌<◌, ◌≤◌, ◌&&◌, ◌⊎◌, ℕ, List, [], length, nat_le, true, false, Bool}
+use Rattle.std.proofs.Common.{Result, Ok, Err}
+use Rattle.std.proofs.Common.{if◌then◌else◌, inl, inr, refl, sym, subst, arith}
 use Rattle.std.proofs.lemmas.Str.{IsUtf8-nil}
 use Rattle.std.specs.Str.{IsUtf8, is_utf8}
 use Rattle.picky_conversion.specs.Certified.{Relation}
@@ -12,12 +12,10 @@ use Rattle.picky_convert.specs.declared.error.Status.TheVariants as statuses
 use Rattle.picky_conversion.specs.Made.{Whole}
 use Rattle.picky_conversion.specs.Outside.{Outside}
 use Rattle.picky_convert.specs.Sample.{sample_text}
-use Rattle.picky_suite.specs.Zeros.{zeros}
-use Rattle.picky_suite.specs.carried.Zeros.{length-zeros}
 use Rattle.picky_convert.specs.Command.{answering_asks, reads_source}
-use Rattle.picky_input.specs.Extent.{Anywhere, Extent, IsUnasked, LeavesAt, ReadsInput, ToEnd, ToFault, Untouched}
+use Rattle.picky_input.specs.Extent.{Anywhere, Extent, LeavesAt, ReadsInput, ToEnd, ToFault, Untouched}
 use Rattle.picky_input.specs.Input.{TakesInput}
-use Rattle.picky_convert.specs.Run.{extent_by, extent_for, extent_of, input_for, input_limit, outcome, outcome_asks}
+use Rattle.picky_convert.specs.Run.{extent_for, extent_of, input_for, input_limit, outcome, outcome_asks}
 use Rattle.picky_convert.specs.inner.Causes.{extent_at, Comes}
 use Rattle.picky_convert.proofs.CauseLemmas.{long_of}
 use Rattle.picky_convert.proofs.OutcomeLemmas.{outcome_done}
@@ -92,25 +90,8 @@ untouched tells left faults extent source is =
     reads_as tells left faults Untouched extent source source is (λ told. told) (λ told. nothing_taken (left source)) (λ told. refl)
     (λ none. refl) (λ other. refl)
 
--- a run for which memory runs out at once leaves it untouched
-pub untouched_at_want : {I : Type 0} (tells : I → Type 0) (left : I → List ℕ) (faults : I → ℕ) (named : Option Command) (source : I)
-    → ReadsInput tells left faults (extent_by named statuses.NoMemory) source source
-untouched_at_want tells left faults None source = untouched tells left faults Untouched source refl
-untouched_at_want tells left faults (Some command) source = go (reads_source command)
-  where
-    go : (b : Bool) → ReadsInput tells left faults (if b then Anywhere else Untouched) source source
-    go true =
-        reads_as tells left faults Anywhere Anywhere source source refl (λ told. told) (λ told. nothing_taken (left source)) (λ told. tt)
-        (λ none. cc none) (λ other. refl)
-    go false = untouched tells left faults Untouched source refl
-
 pub extent_read : (command : Command) (status : Status) → reads_source command ≡ true → extent_for command status ≡ extent_of status
 extent_read command status reads = rw reads refl
-
-pub extent_unread : {X : Type 0} (command : Command) (r : Result X Status) → reads_source command ≡ false
-    → extent_at command r ≡ Untouched
-extent_unread command (Ok text) none = rw none refl
-extent_unread command (Err status) none = rw none refl
 
 -- what a command answers that was given all bytes of its source leaves that at its end, unless memory ran out
 at_end : {X : Type 0} (signs : Relation) (view : X → List ℕ) (o : Outside) (command : Command) (input : List ℕ)
@@ -143,34 +124,3 @@ read_whole tells left faults signs view o command input suite_rose signer_rose r
       | inr is ↦
           reads_as tells left faults Anywhere (extent_at command r) old new is told taken (λ t. tt) (λ none. cc none) (λ other. calm)
     ]
-
--- there are more bytes than any limit
-pub some_longer : (limit : ℕ) → (left : List ℕ) × (limit < length left)
-some_longer limit = (zeros (limit + 1), omega (arith, length-zeros (limit + 1)))
-
--- ---- what is answered, said of other bytes and of a source that may fail
-
-pub comes_at : {X : Type 0} (signs : Relation) (view : X → List ℕ) (o : Outside) (command : Command) (input same : List ℕ)
-    (read_rose suite_rose signer_rose : Type 0) (r : Result X Status) → input ≡ same
-    → Comes signs view o command input ⊥ suite_rose signer_rose r → Comes signs view o command same read_rose suite_rose signer_rose r
-comes_at {X = X} signs view o command input same read_rose suite_rose signer_rose r is comes =
-    subst (λ bytes. Comes signs view o command bytes read_rose suite_rose signer_rose r) is (go r comes)
-  where
-    go : (q : Result X Status) → Comes signs view o command input ⊥ suite_rose signer_rose q
-        → Comes signs view o command input read_rose suite_rose signer_rose q
-    go (Ok text) answers = answers
-    go (Err statuses.Done) stops = stops
-    go (Err statuses.Usage) stops = stops
-    go (Err statuses.WriteFault) stops = stops
-    go (Err statuses.ReadFault) stops = absurd stops.1
-    go (Err statuses.NoMemory) stops = stops
-    go (Err statuses.OutsideFault) stops = stops
-    go (Err (statuses.Refused e)) stops = stops
-    go (Err statuses.InputTooLong) stops = stops
-    go (Err statuses.InputNotUtf8) stops = stops
-
--- devices that aren't asked for the command's bytes aren't for these, which are theirs
-pub unasked_at : (tells : Type 0) (asks : List ℕ → Bool) (input same : List ℕ) → (tells → same ≡ input) → IsUnasked tells asks same
-    → asks input ≡ false
-unasked_at tells asks input same are (inl (told, none)) = sym (ap asks (are told)) ∙ none
-unasked_at tells asks input same are (inr never) = never input

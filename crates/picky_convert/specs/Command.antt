@@ -95,7 +95,7 @@ command_of (word ∷ more) =
     else if bytes_eq word sample then with_size more
     else alone word more
 
--- its numbers are a value's
+-- the numbers of its target have the ranges of their types
 abbrev pub IsCommand : Command → Type 0
 IsCommand (commands.Convert target) = IsWay (Written target)
 IsCommand (commands.Certify options) = Unit {0}

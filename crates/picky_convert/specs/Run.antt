@@ -79,7 +79,7 @@ pub record WritesAnswer (signs : Relation) (o : Outside) (command : Command) (in
   pub is_answer : IsAnswer signs o command input text
   pub written : after ≡ before ++ text
 
--- the line was put: all of it and no fault was counted, or a front of it and one was
+-- the line was put: all of it and no fault was counted, or a prefix of it and one was
 abbrev pub Says : {S : Type 0} → (S → Type 0) → (S → List ℕ) → (S → ℕ) → List ℕ → S → S → Type 0
 Says tells written faults line old new =
     (r : Result (Unit {0}) WireError) × Puts tells written faults wire.WriteFault line r old new

@@ -23,9 +23,11 @@ abbrev pub ppk2 : KeyTarget
 ppk2 = targets.Ppk V2 default_config
 
 -- the targets of a key, in their order; PuTTY has no key whose secret a device keeps
+abbrev pub five_targets : List KeyTarget
+five_targets = ppk3 ∷ ppk2 ∷ targets.OpenSsh ∷ targets.OpenSshPublic ∷ targets.PuttyPublic ∷ []
+
 abbrev pub six_targets : List KeyTarget
-six_targets =
-    targets.OpenSsh ∷ ppk3 ∷ ppk2 ∷ targets.OpenSsh ∷ targets.OpenSshPublic ∷ targets.PuttyPublic ∷ []
+six_targets = targets.OpenSsh ∷ five_targets
 
 abbrev pub two_targets : List KeyTarget
 two_targets = targets.OpenSsh ∷ targets.OpenSshPublic ∷ []

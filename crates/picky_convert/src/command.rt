@@ -166,7 +166,7 @@ pub fn reads_source(command: &Command) -> bool
 }
 
 /// PuTTY's file in a version, sealed with the default configuration.
-fn file_of(version: PpkVersion) -> KeyTarget
+pub(crate) fn file_of(version: PpkVersion) -> KeyTarget
     ensures { result ≡ KeyTarget.Ppk version default_config }
 {
     KeyTarget::Ppk(version, PpkEncryptionConfig::default())
@@ -250,7 +250,7 @@ fn answer_to<S: Suite, G: Signer>(
             signer,
             text,
             given.pass_in,
-            &Target::from(target),
+            Target::from(target),
             given.pass_out,
             given.fresh,
         ) {

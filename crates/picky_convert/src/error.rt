@@ -9,7 +9,7 @@ use picky_target::ConvertError;
 pub enum Status {
     /// The whole text was written.
     Done,
-    /// The key text is not converted.
+    /// The source's text comes to nothing, for this reason.
     Refused(ConvertError),
     /// The words name no command.
     Usage,

@@ -1,6 +1,6 @@
 //! The run of the program over a source and two sinks.
 
-ghost use Rattle.std.specs.Prelude.{◌≡◌, ◌≢◌, ◌⊎◌, ℕ, List, false, true, Result, Ok, Err, string_bytes};
+ghost use Rattle.std.specs.Prelude.{◌≡◌, ◌≢◌, ◌⊎◌, ℕ, List, true, Result, Ok, Err, string_bytes};
 ghost use Rattle.picky_wire.specs.Count.{Rose};
 ghost use Rattle.picky_wire.specs.Puts.{Puts};
 ghost use Rattle.picky_input.specs.Extent.{IsUnasked, ReadsInput, WritesLast};
@@ -21,16 +21,9 @@ use picky_target::ConvertError;
 use picky_wire::{NoMemory, Piece, Sink, Source, Text, write_all, write_pieces};
 use std::alloc::Global;
 
-/// Does what the words say with the text that the source gives, onto `out`, and says on `err` how it ended.
-///
-/// One word is `openssh`, OpenSSH's private key; `ppk2` or `ppk3`, PuTTY's private key file of version 2 or 3, sealed with
-/// the default configuration; `ssh-pub`, a public key line; `putty-pub`, PuTTY's text of a public key; `fingerprint`, the MD5,
-/// SHA-1 and SHA-256 digests of the key's blob. The key text is read under one passphrase, and the first three are sealed under
-/// the other, where there is one, with the fresh bytes. `cert` with options is the line of a certificate that the signer signs,
-/// and `tbs` with the same options is what it signs, in lower-case hex: the source holds the issuer's text, a line that is
-/// exactly two percent signs, and the subject's key text, and the first 32 fresh bytes are the nonce. Options are pairs of a
-/// word and its value (`picky_issuing::options_of`). `sample` with a number from 1 to 1,000 is the summary of so many sample
-/// keys (`crate::sample`), for which nothing is read.
+/// Does what the words say (docs/FORMATS.md, "Commands") with the text that the source gives, onto `out`, and says on `err` how it
+/// ended. The key text is read under one passphrase, and a private key is sealed under the other, where there is one, with the
+/// fresh bytes; a certificate has the first 32 of them as its nonce. For `sample` nothing is read.
 ///
 /// Refuses, in order: `Usage`, `ReadFault`, `InputTooLong`, `InputNotUtf8`, `Refused` (of `fingerprint` with `Input` alone) or,
 /// in place of the suite's or the signer's fault, `OutsideFault`, `WriteFault`. What a fault of `err` cuts off of its line is
@@ -170,7 +163,7 @@ fn carry_out<S: Suite, G: Signer, I: Source, O: Sink>(
     }
 }
 
-/// Writes the text, or a front of it up to a fault. Refuses: `WriteFault`.
+/// Writes the text, or a prefix of it up to a fault. Refuses: `WriteFault`.
 fn put<O: Sink>(out: &mut O, text: &str) -> Result<(), Status>
     ensures { Puts O.tells O.written O.faults Status.WriteFault text.now result out.old out.new }
 {

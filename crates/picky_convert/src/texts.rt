@@ -1,20 +1,19 @@
 //! The texts of a sample key, each made, fed to a hasher, and dropped.
 
-ghost use Rattle.std.specs.Prelude.{◌≡◌, ◌≤◌, ◌++◌, List, ℕ, IfOk, IsOk, OnOk, Ok, false, length, map};
+ghost use Rattle.std.specs.Prelude.{◌≡◌, ◌≤◌, IfOk, IsOk, OnOk, Ok, false, length, map};
 ghost use Rattle.std.specs.List.{concat};
-ghost use Rattle.sha2.specs.Hashers.{Holds256};
-ghost use Rattle.picky_ppk_parts.specs.Config.{default_config};
 ghost use Rattle.picky_target.specs.declared.target.KeyTarget.{KeyTarget as To};
 ghost use Rattle.picky_conversion.specs.Convert.{conversion};
 ghost use Rattle.picky_convert.specs.SampleChain.{without_passphrase};
 ghost use Rattle.picky_convert.specs.SampleKeys.{kind_at};
-ghost use Rattle.picky_convert.specs.SampleTexts.{is_on_device as is_on_device_of, text_at, texts_at};
-ghost use Rattle.picky_convert.specs.inner.Fed.{Feeds, five_targets};
+ghost use Rattle.picky_convert.specs.SampleTexts.{five_targets, is_on_device as is_on_device_of, text_at, texts_at};
+ghost use Rattle.picky_convert.specs.inner.Fed.{Feeds};
 
+use crate::command::file_of;
 use crate::keys::{kind_of, meaning_of};
 use picky_conversion::{Target, convert};
 use picky_keys::KeyKind;
-use picky_ppk::{PpkEncryptionConfig, PpkVersion};
+use picky_ppk::PpkVersion;
 use picky_suite::{HandedSigner, Signer, Suite};
 use picky_target::{ConvertError, KeyTarget, write_text};
 use picky_wire::{NoMemory, Text};
@@ -180,7 +179,7 @@ fn converted_by<S: Suite, G: Signer>(
         signer,
         from,
         None,
-        &Target::from(target),
+        Target::from(target),
         None,
         &[],
     ) {
@@ -195,13 +194,6 @@ fn want_of(e: ConvertError) -> NoMemory
 {
     drop(e);
     NoMemory
-}
-
-/// PuTTY's file in a version.
-fn file_of(version: PpkVersion) -> KeyTarget
-    ensures { result ≡ KeyTarget.Ppk version default_config }
-{
-    KeyTarget::Ppk(version, PpkEncryptionConfig::default())
 }
 
 /// A device keeps the secret of keys of this kind.

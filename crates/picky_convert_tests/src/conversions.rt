@@ -73,8 +73,7 @@ fn converts_to_putty(alloc: Global, line: &str, quoted: &str, rows: &str) -> Res
         "---- BEGIN SSH2 PUBLIC KEY ----\r\nComment: \"{quoted}\"\r\n{rows}\r\n\
          ---- END SSH2 PUBLIC KEY ----\r\n"
     )?);
-    let target = ManuallyDrop::new(Target::PuttyPublic);
-    converts(alloc, line, &target, "putty-pub", text.as_str())
+    converts(alloc, line, Target::PuttyPublic, "putty-pub", text.as_str())
 }
 
 /// So it is for the key and what follows it in the line.
@@ -137,8 +136,7 @@ fn is_lacked(alloc: Global, line: &str) -> Result<bool, Fail> {
     let wanted = ManuallyDrop::new(ConvertError::Putty(PuttyError::NotSupported {
         feature: Text::new(alloc, "SK keys")?,
     }));
-    let target = ManuallyDrop::new(Target::PuttyPublic);
-    match &*answer_for(alloc, line, &target) {
+    match &*answer_for(alloc, line, Target::PuttyPublic) {
         Ok(_) => Ok(false),
         Err(why) => Ok(*why == *wanted),
     }

@@ -139,8 +139,10 @@ fn reads_the_lines_of_ssh_keygen(rt: HostRuntime) -> Result<(), Fail> {
 /// The line is read, and written so, also to a sink, by the call and by the command.
 fn is_written(alloc: Global, line: &str, text: &str) -> Result<bool, Fail> {
     let key = ManuallyDrop::new(SshPublicKey::from_str(alloc, line)?);
-    let target = ManuallyDrop::new(Target::OpenSshPublic);
-    Ok(is_text_of(alloc, &key, text)? && converts(alloc, line, &target, "ssh-pub", text)?)
+    Ok(
+        is_text_of(alloc, &key, text)?
+            && converts(alloc, line, Target::OpenSshPublic, "ssh-pub", text)?,
+    )
 }
 
 fn is_text_of(alloc: Global, key: &SshPublicKey, text: &str) -> Result<bool, Fail> {

@@ -163,7 +163,7 @@ pub fn refuses(alloc: Global, command: &str, input: &[u8], refusal: Refusal) -> 
 pub fn answer_for(
     alloc: Global,
     line: &str,
-    target: &Target,
+    target: Target,
 ) -> ManuallyDrop<Result<Text, ConvertError>> {
     let mut signer = ManuallyDrop::new(HandedSigner::new(None));
     ManuallyDrop::new(convert(
@@ -182,7 +182,7 @@ pub fn answer_for(
 pub fn converts(
     alloc: Global,
     line: &str,
-    target: &Target,
+    target: Target,
     command: &str,
     text: &str,
 ) -> Result<bool, Fail> {

@@ -70,7 +70,7 @@ fn zero_request(alloc: Global) -> CertRequest {
     }
 }
 
-fn is_converted(alloc: Global, signer: &mut MemorySigner, target: &Target) -> bool {
+fn is_converted(alloc: Global, signer: &mut MemorySigner, target: Target) -> bool {
     let answer = ManuallyDrop::new(convert(
         alloc,
         &mut PlainSuite::new(),
@@ -90,9 +90,9 @@ fn is_converted(alloc: Global, signer: &mut MemorySigner, target: &Target) -> bo
 /// By a copy of the request.
 fn is_certified(alloc: Global) -> Result<bool, NoMemory> {
     let request = ManuallyDrop::new(zero_request(alloc));
-    let target = ManuallyDrop::new(Target::Certificate(request.try_clone(alloc)?));
     let mut signer = ManuallyDrop::new(MemorySigner::new(alloc, &[])?);
-    Ok(is_converted(alloc, &mut signer, &target))
+    let target = Target::Certificate(request.try_clone(alloc)?);
+    Ok(is_converted(alloc, &mut signer, target))
 }
 
 #[test]

@@ -158,7 +158,7 @@ fn is_unwritten(alloc: Global, line: &str, target: KeyTarget, wanted: &SshPublic
         &mut HandedSigner::new(None),
         line,
         None,
-        &Target::from(target),
+        Target::from(target),
         None,
         &[],
     ));

@@ -2,7 +2,7 @@
 use Rattle.std.proofs.Common.{◌≡◌, ℕ, List, Bool, true, false, Result, Ok, Err, refl, ap, sym, ◌∙◌}
 use Rattle.std.specs.Prelude.{if◌then◌else◌}
 use Rattle.picky_wire_base.specs.Outcome.{and_then}
-use Rattle.picky_wire_base.specs.carried.Outcome.{and_then_ok, map_err_ok}
+use Rattle.picky_wire_base.specs.carried.Outcome.{and_then_ok}
 use Rattle.picky_kv.specs.declared.PpkVersionKey.{PpkVersionKey}
 use Rattle.picky_kv.specs.declared.PpkVersionKey.TheVariants.{V2, V3}
 use Rattle.picky_suite.specs.Meanings.{Meanings}
@@ -26,8 +26,6 @@ use Rattle.picky_ppk_file.specs.PuttyRefusal.{is_hardware}
 use Rattle.picky_ppk.specs.Changed.{file_of_parts, of_base_key}
 use Rattle.picky_ppk.specs.Fresh.{salt_len}
 use Rattle.picky_target.specs.Drafts.{parts_of, plain_file}
-use Rattle.picky_target.specs.inner.File.{measured, plain_drafted, plain_of}
-use Rattle.picky_target.specs.inner.Public.{putty_refusal}
 
 -- ---- the parts of a key
 
@@ -89,15 +87,6 @@ made_is_plain m version key comment f is =
     let both = and_then_ok (key_parts key) (λ parts. Ok (file_of_parts m version comment parts)) f is in
     let same : file_of_parts m version comment both.0 ≡ f = cc (both.2) in
     ap (file_of_parts m version comment) (parts_are key both.0 both.1) ∙ same
-
-pub drafted_is_plain : (m : Meanings) (version : PpkVersionKey) (config : PpkEncryptionConfig) (key : SshBasePrivateKey)
-    (comment salt padding : List ℕ) (f : PpkFile) → plain_drafted m version config key comment salt padding ≡ Ok f
-    → plain_file m version key comment ≡ f
-drafted_is_plain m version config key comment salt padding f is =
-    let both = and_then_ok (plain_of m version key comment) (λ f. and_then (measured config salt padding f) (λ _. Ok f)) f is in
-    let kept = and_then_ok {A = Unit {0}} (measured config salt padding both.0) (λ _. Ok both.0) f both.2 in
-    let same : both.0 ≡ f = cc (kept.2) in
-    made_is_plain m version key comment both.0 (map_err_ok putty_refusal (of_base_key m version key comment) both.0 both.1) ∙ same
 
 -- ---- the salt
 

@@ -3,7 +3,7 @@ use Rattle.std.proofs.Common.{◌≡◌, ◌∙◌, ◌+◌, ◌^◌, ℕ, List,
 use Rattle.std.proofs.Common.{drop, refl, ap, sym, arith, inl, inr}
 use Rattle.std.proofs.lemmas.Bool.{cases_Bool, leb-true, le-leb, ltb-true, ltb-false, le-ltb}
 use Rattle.std.proofs.lemmas.List.{length-append, length-take, length-replicate}
-use Rattle.std.specs.Prelude.{◌++◌, ◌&&◌, is_some, nat_le, nat_lt, replicate, if◌then◌else◌}
+use Rattle.std.specs.Prelude.{◌++◌, ◌&&◌, is_ok, is_some, nat_le, nat_lt, replicate, if◌then◌else◌}
 use Rattle.picky_wire_base.specs.Outcome.{and_then}
 use Rattle.picky_kv.specs.{declared.PpkVersionKey.{PpkVersionKey}, declared.PpkVersionKey.TheVariants.{V2, V3}}
 use Rattle.picky_suite.specs.Meanings.{Meanings}
@@ -21,9 +21,8 @@ use Rattle.picky_key_text.specs.Key.{private_meaning}
 use Rattle.picky_target.specs.{declared.error.ConvertError.{ConvertError}, Output.{Output}}
 use Rattle.picky_target.specs.Drafts.{plain_file, padding_len, sealed_file, private_bytes}
 use Rattle.picky_target.specs.Judged.{carries_comment, derives_under, judged_meaning, mac_len, measured_file}
-use Rattle.picky_target.specs.Written.{goes_on, written, writing_asks}
+use Rattle.picky_target.specs.Written.{written, writing_asks}
 use Rattle.picky_target.specs.inner.File.{plain_written, Sealable, sealable, sealed_text, ppk_written, ppk_asks}
-use Rattle.picky_target.specs.inner.File.{is_sealable as has_passed}
 use Rattle.picky_target.specs.declared.error.ConvertError.TheVariants as errors
 use Rattle.picky_target.specs.declared.target.KeyTarget.TheVariants as targets
 use Rattle.picky_target.proofs.{FileLemmas.{key_parts_is, salt_size}, LengthLemmas.{same_length, sealing_version}}
@@ -207,7 +206,7 @@ after_judging : {A : Type 0} (r : Result (Unit {0}) ConvertError) (x : A) (next 
 after_judging (Ok done) x next text each = each refl
 after_judging (Err e) x next text each = refl
 
-passed_alike : (r : Result (Unit {0}) ConvertError) (s : Sealable) → has_passed (and_then r (λ _. Ok s)) ≡ goes_on r
+passed_alike : (r : Result (Unit {0}) ConvertError) (s : Sealable) → is_ok (and_then r (λ _. Ok s)) ≡ is_ok r
 passed_alike (Ok done) s = refl
 passed_alike (Err e) s = refl
 

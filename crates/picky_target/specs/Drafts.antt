@@ -1,4 +1,4 @@
--- What is written of a private key before a suite is asked: OpenSSH's key, and PuTTY's file with its private bytes still open.
+-- OpenSSH's key, and PuTTY's file, plain or sealed.
 use Rattle.std.specs.Prelude.{◌++◌, List, ℕ, Option, None, Some, take, drop}
 use Rattle.picky_kv.specs.declared.PpkVersionKey.{PpkVersionKey}
 use Rattle.picky_suite.specs.Meanings.{Meanings}

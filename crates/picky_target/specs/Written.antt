@@ -1,5 +1,5 @@
 -- What is written of a meaning, or the first reason why nothing is, and whether a suite is asked.
-use Rattle.std.specs.Prelude.{◌&&◌, Bool, true, false, List, ℕ, Result, Ok, Err, is_some}
+use Rattle.std.specs.Prelude.{◌&&◌, Bool, true, false, List, ℕ, Result, Ok, is_ok, is_some}
 use Rattle.picky_wire_base.specs.Outcome.{and_then}
 use Rattle.picky_suite.specs.Meanings.{Meanings}
 use Rattle.picky_sshkey_blob.specs.declared.error.SshPrivateKeyError.TheVariants as private
@@ -28,12 +28,8 @@ abbrev pub is_sealed : Output → KeyTarget → Bool
 is_sealed out target = keeps_secret target && is_some out.pass
 
 -- the suite is asked, since the text is sealed and nothing was refused before
-abbrev pub goes_on : Result (Unit {0}) ConvertError → Bool
-goes_on (Ok _) = true
-goes_on (Err e) = false
-
 unfoldable pub writing_asks : Output → KeyTarget → Meaning → Bool
-writing_asks out target meaning = is_sealed out target && goes_on (judged_meaning out target meaning)
+writing_asks out target meaning = is_sealed out target && is_ok (judged_meaning out target meaning)
 
 -- the suite's fault, in the words of the target; public targets ask none
 abbrev pub fault_of : KeyTarget → ConvertError

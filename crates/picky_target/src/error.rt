@@ -1,4 +1,4 @@
-//! Why a key text is not converted.
+//! Why nothing is written of a key text.
 
 use picky_cert_builder::SshCertificateGenerationError;
 use picky_key_text::ReadError;
@@ -6,7 +6,7 @@ use picky_ppk::PuttyError;
 use picky_sshkey::SshPrivateKeyError;
 use thiserror::Error;
 
-/// Why a key text is not converted.
+/// Why nothing is written of a key text.
 #[derive(Debug, Drop, PartialEq, Eq, Error)]
 pub enum ConvertError {
     /// The key text means nothing.

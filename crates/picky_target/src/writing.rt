@@ -1,11 +1,9 @@
 //! A key and a comment written as a target's text.
 
-ghost use Rattle.std.specs.Prelude.{◌≡◌, ◌⊎◌, Ok, Err, IfOk};
+ghost use Rattle.std.specs.Prelude.{Ok, Err};
 ghost use Rattle.std.specs.Option.{option_copied};
 ghost use Rattle.picky_suite.specs.Asked.{GivesAsked, LeavesSuite};
 ghost use Rattle.picky_wire.specs.Count.{Rose};
-ghost use Rattle.picky_target.specs.Texts.{Spells};
-ghost use Rattle.picky_target.specs.Carried.{Carries};
 ghost use Rattle.picky_target.specs.Written.{fault_of, written, writing_asks};
 
 use crate::envelope::write_envelope;

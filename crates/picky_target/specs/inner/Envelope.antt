@@ -32,7 +32,7 @@ envelope_refusal e = errors.Private e
 abbrev pub made : Option (List ℕ) → SshBasePrivateKey → (comment salt : List ℕ) → Result SshPrivateKey ConvertError
 made pass key comment salt = map_err envelope_refusal (key_made key pass comment salt)
 
--- OpenSSH's key, where the comment, the passphrase and the fresh bytes do
+-- OpenSSH's key, where it carries the comment, and bcrypt can be run with the passphrase and has fresh bytes enough
 abbrev pub drafted : Output → SshBasePrivateKey → (comment : List ℕ) → Result SshPrivateKey ConvertError
 drafted out key comment =
     if carries_comment targets.OpenSsh comment

@@ -1,6 +1,6 @@
 -- What is written of a private key as PuTTY's file, step by step as the code judges it.
-use Rattle.std.specs.Prelude.{◌+◌, ◌&&◌, Bool, true, false, not, List, ℕ, Option, None, Some, Result, Ok, Err}
-use Rattle.std.specs.Prelude.{length, nat_le, replicate, take, drop, if◌then◌else◌}
+use Rattle.std.specs.Prelude.{◌+◌, ◌&&◌, Bool, false, not, List, ℕ, Option, None, Some, Result, Ok, Err}
+use Rattle.std.specs.Prelude.{is_ok, length, nat_le, replicate, take, drop, if◌then◌else◌}
 use Rattle.picky_wire_base.specs.Outcome.{and_then, map_err}
 use Rattle.picky_kv.specs.declared.PpkVersionKey.{PpkVersionKey}
 use Rattle.picky_suite.specs.Meanings.{Meanings}
@@ -86,13 +86,9 @@ abbrev pub sealed_written : Meanings → (pass fresh : List ℕ) → PpkVersionK
 sealed_written m pass fresh version config key comment =
     and_then (sealable m pass fresh version config key comment) (sealed_text m pass config)
 
-abbrev pub is_sealable : Result Sealable ConvertError → Bool
-is_sealable (Ok s) = true
-is_sealable (Err e) = false
-
 abbrev pub sealed_asks : Meanings → (pass fresh : List ℕ) → PpkVersionKey → PpkEncryptionConfig → SshBasePrivateKey
     → (comment : List ℕ) → Bool
-sealed_asks m pass fresh version config key comment = is_sealable (sealable m pass fresh version config key comment)
+sealed_asks m pass fresh version config key comment = is_ok (sealable m pass fresh version config key comment)
 
 -- ---- sealed or not
 

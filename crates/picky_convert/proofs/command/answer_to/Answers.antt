@@ -25,19 +25,19 @@ pub returns-in-Ok-clause-signer : goal.returns-in-Ok-clause-signer
 returns-in-Ok-clause-signer g c =
     rw c.in-Convert.is (ok_signs _ _ _ c.in-Ok.text _ _ _ (rw c.from.ensures at c.in-Ok.ensures.signer))
 
-pub returns-in-Convert-clause-suite : goal.returns-in-Convert-clause-suite
-returns-in-Convert-clause-suite g c =
+pub returns-in-Err-clause-suite : goal.returns-in-Err-clause-suite
+returns-in-Err-clause-suite g c =
     rw c.in-Convert.is (still_leaves _ _ _ c.in-Err.e _ _ (rw c.from.ensures at c.in-Err.ensures.suite))
 
-pub returns-in-Convert-clause-signer : goal.returns-in-Convert-clause-signer
-returns-in-Convert-clause-signer g c =
+pub returns-in-Err-clause-signer : goal.returns-in-Err-clause-signer
+returns-in-Err-clause-signer g c =
     rw c.in-Convert.is (still_signs _ _ _ c.in-Err.e _ _ (rw c.from.ensures at c.in-Err.ensures.signer))
 
-pub returns-in-Certify-clause-suite : goal.returns-in-Certify-clause-suite
-returns-in-Certify-clause-suite g c = rw c.in-Certify.is (still_leaves _ _ _ c.in-Err-issue.e _ _ c.in-Err-issue.ensures.suite)
+pub returns-in-Err-issue-clause-suite : goal.returns-in-Err-issue-clause-suite
+returns-in-Err-issue-clause-suite g c = rw c.in-Certify.is (still_leaves _ _ _ c.in-Err-issue.e _ _ c.in-Err-issue.ensures.suite)
 
-pub returns-in-Certify-clause-signer : goal.returns-in-Certify-clause-signer
-returns-in-Certify-clause-signer g c = rw c.in-Certify.is (still_signs _ _ _ c.in-Err-issue.e _ _ c.in-Err-issue.ensures.signer)
+pub returns-in-Err-issue-clause-signer : goal.returns-in-Err-issue-clause-signer
+returns-in-Err-issue-clause-signer g c = rw c.in-Certify.is (still_signs _ _ _ c.in-Err-issue.e _ _ c.in-Err-issue.ensures.signer)
 
 pub returns-in-PrintSigned-clause-gives : goal.returns-in-PrintSigned-clause-gives
 returns-in-PrintSigned-clause-gives g c =

@@ -2,12 +2,14 @@
 use Rattle.std.proofs.Common.{Global, arith, ap, length, refl, subst, sym, true, ◌<◌, ◌≡◌, Err}
 use Rattle.std.specs.Prelude.{string_bytes}
 use Rattle.picky_input.specs.Extent.{ToFault}
+use Rattle.picky_input.specs.declared.source_text.SourceError.TheVariants as source
+use Rattle.picky_input.proofs.TextLaws.{some_input, too_long_exactly}
 use Rattle.picky_conversion.specs.Outside.{outside}
 use Rattle.picky_convert.specs.declared.error.Status.TheVariants as statuses
 use Rattle.picky_convert.specs.Command.{reads_source}
 use Rattle.picky_convert.specs.Run.{extent_for, input_for, input_limit}
 use Rattle.picky_convert.proofs.CauseLemmas.{outcome_long}
-use Rattle.picky_convert.proofs.SourceLemmas.{extent_read, read_all, read_whole, reads_as, some_longer}
+use Rattle.picky_convert.proofs.SourceLemmas.{extent_read, read_all, read_whole, reads_as}
 use Rattle.picky_convert.proofs.program.take_text.Goals as goal
 
 pub returns-in-Ok-clause-source : goal.returns-in-Ok-clause-source
@@ -37,8 +39,8 @@ returns-in-Err-TooLong-clause-told g c = λ told.
 pub returns-in-Err-TooLong-clause-some : goal.returns-in-Err-TooLong-clause-some
 returns-in-Err-TooLong-clause-some g c =
     let reads : reads_source c.args.command ≡ true = cc (c.reads_source.ensures, c.if-reads_source.true) in
-    let some = some_longer input_limit in (
+    let some = some_input source.InputTooLong in (
       some.0,
       outcome_long (outside (g.S.Suite.meanings c.args.suite.now) c.args.given) c.args.command (input_for c.args.command some.0)
-          (subst (λ bytes. input_limit < length bytes) (sym (read_all c.args.command some.0 reads)) some.1),
+          (subst (λ bytes. input_limit < length bytes) (sym (read_all c.args.command some.0 reads)) ((too_long_exactly some.0).0 some.1)),
     )

@@ -25,6 +25,6 @@ pub returns-in-Ok-clause-suite : goal.returns-in-Ok-clause-suite
 returns-in-Ok-clause-suite g c =
     c.convert.ensures.suite.unasked (rw c.from.ensures (converting_asks_none (g.S.Suite.meanings c.args.suite.now) c.args.target c.args.from.now))
 
-pub returns-clause-suite : goal.returns-clause-suite
-returns-clause-suite g c =
+pub returns-in-Err-clause-suite : goal.returns-in-Err-clause-suite
+returns-in-Err-clause-suite g c =
     c.convert.ensures.suite.unasked (rw c.from.ensures (converting_asks_none (g.S.Suite.meanings c.args.suite.now) c.args.target c.args.from.now))

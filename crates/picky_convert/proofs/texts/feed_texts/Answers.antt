@@ -3,8 +3,8 @@ use Rattle.std.proofs.Common.{◌∙◌, ◌++◌, [], length, ap, sym, subst, r
 use Rattle.std.specs.Prelude.{map}
 use Rattle.std.specs.List.{concat}
 use Rattle.picky_target.specs.declared.target.KeyTarget.TheVariants as targets
-use Rattle.picky_convert.specs.SampleTexts.{is_on_device, text_at}
-use Rattle.picky_convert.specs.inner.Fed.{Feeds, five_targets}
+use Rattle.picky_convert.specs.SampleTexts.{five_targets, is_on_device, text_at}
+use Rattle.picky_convert.specs.inner.Fed.{Feeds}
 use Rattle.picky_convert.proofs.ChainLemmas.{line_of, texts_are_six, texts_are_two}
 use Rattle.picky_convert.proofs.FedLemmas.{fed_so, feeds_both, feeds_none, made_so}
 use Rattle.picky_convert.proofs.texts.feed_texts.Goals as goal
