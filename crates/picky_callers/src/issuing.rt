@@ -1,6 +1,6 @@
 //! A host's certificate issued, with a signer of the caller's own.
 
-ghost use Rattle.std.specs.Prelude.{◌≡◌, ◌⊎◌, ◌+◌, ◌-◌, ◌^◌, Err, IfErr, IfOk, IsOk, OnOk, min};
+ghost use Rattle.std.specs.Prelude.{◌≡◌, ◌⊎◌, ◌+◌, ◌-◌, ◌^◌, Err, IfErr, IfOk, IsOk, OnErr, OnOk, min};
 ghost use Rattle.std.proofs.Common.{arith};
 ghost use Rattle.picky.specs.Count.{Rose};
 ghost use Rattle.picky.specs.Draft.{requested};
@@ -39,6 +39,7 @@ impl<G: Signer> Signer for QuotaSigner<G> {
         message: &[u8],
     ) -> Result<Bytes, SignError>
         ensures quota { OnOk result (self.old.left ≡ self.new.left + 1) }
+        ensures unspent { OnErr result (self.new.left ≡ self.old.left) }
 
         // What every signer promises.
         ensures signs { Signs (λ s. G.signs s.signer) (λ s. min (G.faults s.signer + s.refused) (2 ^ 64 - 1))

@@ -48,6 +48,7 @@ impl<S: Suite> Suite for RoundLimit<S> {
         requires range { BcryptOk (length pass.now) (length salt.now) rounds }
         requires sized { IsBcryptLen (length out.old) }
         ensures limit { OnOk result (rounds ≤ self.old.most_rounds) }
+        ensures stays { self.new.most_rounds ≡ self.old.most_rounds }
 
         // What every suite promises.
         ensures fills { Fills (λ s. S.meanings s.suite) (λ s. min (S.faults s.suite + s.refused) (2 ^ 64 - 1))
@@ -90,7 +91,7 @@ impl<S: Suite> Suite for RoundLimit<S> {
 
 /// The key in an OpenSSH private key file, under its passphrase.
 ///
-/// A file that wants more rounds than the suite allows is refused with `SuiteFault`.
+/// The suite derives no key of more rounds than it allows (`limit` of its `bcrypt`).
 pub fn key_under_limit<S: Suite>(
     alloc: Global,
     suite: &mut RoundLimit<S>,

@@ -1,6 +1,6 @@
 //! A private key written as a PuTTY private key file.
 
-ghost use Rattle.std.specs.Prelude.{◌≡◌, ◌⊎◌, Err, IfErr, IfOk};
+ghost use Rattle.std.specs.Prelude.{◌≡◌, ◌⊎◌, Ok, Err, IfErr, IfOk};
 ghost use Rattle.picky.specs.Changed.{of_openssh};
 ghost use Rattle.picky.specs.Outcome.{and_then};
 ghost use Rattle.picky.specs.PpkFileWritten.{written};
@@ -21,6 +21,9 @@ pub fn putty_file_of<S: Suite>(
     suite: &S,
     key: &SshPrivateKey,
 ) -> Result<Text, PuttyError>
+    // It is the one text of the file that the key has.
+    ensures text { IfOk result (λ text. and_then (of_openssh (S.meanings suite.now) key.now) written ≡ Ok text) }
+
     // Read again it is the same key and comment, unless the comment has a line end, which no such file holds.
     ensures ok { IsPrivateKey key.now.base_key → IsLine Lf key.now.comment
         → IfOk result (λ text. IsFileOf (S.meanings suite.now) key.now text) }
