@@ -45,8 +45,8 @@ const VERSION: &str = "keyagent 0.1.0\n";
 
 const SIGNATURE: &str = "KEYCONV_SIGNATURE";
 
-/// How the process ends where the signature isn't hex.
-const NO_HEX: u8 = 7;
+/// The status where the signature isn't hex.
+const NOT_HEX: u8 = 7;
 
 fn main(rt: HostRuntime) -> ExitCode {
     match words(&rt) {
@@ -69,7 +69,7 @@ fn answer(rt: &HostRuntime, words: &[Text]) -> ExitCode {
 fn perform(rt: &HostRuntime) -> ExitCode {
     match hex_variable(rt, SIGNATURE) {
         Ok(signature) => exit_code(start(rt, signature)),
-        Err(GivenError::Unfit) => ExitCode::from(NO_HEX),
+        Err(GivenError::Unfit) => ExitCode::from(NOT_HEX),
         Err(GivenError::NoMemory) => exit_code(AgentStatus::NoMemory),
     }
 }

@@ -182,12 +182,6 @@ short_part (b ∷ taken) few = inr (inl (omega arith, few))
 length_part : (before after : List ℕ) → TakesLess 4 before after → TakesPart before after
 length_part before after less = record { taken = less.taken; are = less.are; part = short_part less.taken less.less }
 
-pub length_fronts : (e : FrameError) (before after : List ℕ) → Lens (Err e) before after → Fronts (Err e) before after
-length_fronts errors.BadFrame before after lens = lens
-length_fronts errors.Cut before after lens = inl lens
-length_fronts errors.ReadFault before after lens = length_part before after lens
-length_fronts errors.NoMemory before after lens = length_part before after lens
-
 -- of what follows that
 body_part : (len : ℕ) (before mid after : List ℕ) → 1 ≤ len → len ≤ message_limit → before ≡ to_be_bytes w32 len ++ mid
     → TakesLess len mid after → TakesPart before after

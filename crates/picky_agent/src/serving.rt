@@ -80,7 +80,7 @@ fn serve_one<G: Signer, I: Source, O: Sink>(
     }
 }
 
-/// Writes a reply, or a front of it up to a fault. Refuses: `WriteFault`.
+/// Writes a reply, or a prefix of it up to a fault. Refuses: `WriteFault`.
 fn put<O: Sink>(out: &mut O, reply: &Bytes) -> Result<(), AgentStatus>
     ensures { Puts O.tells O.written O.faults AgentStatus.WriteFault (string_of reply.now) result out.old out.new }
 {

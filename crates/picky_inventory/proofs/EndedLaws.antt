@@ -17,9 +17,6 @@ first_ended text line after is none =
     ap (take (length text - length after)) joined ∙ take_at whole after (length text - length after) long in
     ap lines_with_ends is ∙ lines_at_lf line after none ∙ ap (λ l. l ∷ lines_with_ends after) (sym front)
 
-pub first_shorter : (text line after : List ℕ) → text ≡ line ++ 10 ∷ after → length after < length text
-first_shorter text line after is = omega (arith, ap length is, length-append line (10 ∷ after))
-
 -- or all of it
 pub first_alone : (text : List ℕ) → 0 < length text → HasNo 10 text → lines_with_ends text ≡ text ∷ []
 first_alone [] some none = absurd (omega (arith, some))

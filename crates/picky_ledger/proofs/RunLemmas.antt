@@ -1,16 +1,16 @@
 -- What the bytes of a source come to, status by status.
-use Rattle.std.proofs.Common.{◌≡◌, ◌≢◌, ◌↔◌, ◌⊎◌, ◌<◌, ◌≤◌, ◌^◌, ◌++◌, ◌+◌, ◌∷◌, ℕ, List, [], length, Option, Some, None, IfErr}
-use Rattle.std.proofs.Common.{IfOk, Result, Ok, Err, refl, sym, ◌∙◌, ap, arith, inl, inr, subst, Bool, true, false, replicate}
+use Rattle.std.proofs.Common.{◌≡◌, ◌≢◌, ◌↔◌, ◌⊎◌, ◌<◌, ◌≤◌, ◌^◌, ◌++◌, ◌+◌, ℕ, List, [], length, Option, Some, None, IfErr}
+use Rattle.std.proofs.Common.{IfOk, Result, Ok, Err, refl, sym, ◌∙◌, ap, arith, inl, inr, subst, Bool, true, false}
 use Rattle.std.proofs.Common.{if◌then◌else◌}
 use Rattle.std.proofs.{lemmas.Bool.Decides.{nat_tests}, lemmas.Result.{IfErr-at_err}}
-use Rattle.std.proofs.lemmas.List.{drop_all, length-append, length-replicate}
-use Rattle.std.specs.{Option.{ok_or}, Str.{IsUtf8, chars, is_utf8}}
+use Rattle.std.proofs.lemmas.List.{drop_all, length-append}
+use Rattle.std.specs.{Option.{ok_or}, Str.{IsUtf8}}
 use Rattle.picky_wire_base.specs.Outcome.{and_then, map_err, map_ok}
 use Rattle.picky_input.specs.Extent.{Anywhere, Extent, LeavesAt, PastLimit, ReadsInput, ToEnd, ToFault, Untouched}
 use Rattle.picky_input.specs.{Input.{input_limit}, SourceText.{Reads, TakesText, text_of}}
 use Rattle.picky_input.specs.declared.source_text.SourceError.{SourceError}
 use Rattle.picky_input.specs.declared.source_text.SourceError.TheVariants as source
-use Rattle.picky_input.proofs.TextLaws.{is_source_text, no_text_exactly, text_err, too_long_exactly}
+use Rattle.picky_input.proofs.TextLaws.{is_source_text, no_text_exactly, some_input, text_err, too_long_exactly}
 use Rattle.picky_wire.specs.Count.{Rose}
 use Rattle.picky_wire_base.specs.declared.error.SizeError.TheVariants as sizes
 use Rattle.picky_keys.specs.LineRefusal.{is_short, line_meaning}
@@ -170,25 +170,12 @@ module _ (signs : Relation) (fresh input : List ℕ) (read_rose rose : Type 0) w
   text_comes (Err statuses.ReadFault) is = absurd is
   text_comes (Err status) is = is
 
-some_longer : (n : ℕ) → (bytes : List ℕ) × (n < length bytes)
-some_longer n = let zeros : List ℕ = replicate (n + 1) 0 in (zeros, omega (arith, length-replicate {A = ℕ} (n + 1) 0))
-
-no_text_at_all : text_of (255 ∷ []) ≡ Err source.InputNotUtf8
-unfolding text_of is_utf8 chars
-no_text_at_all = refl
-
 -- of a source that doesn't tell its bytes there are some that are refused so
 pub some_stop : (signs : Relation) (fresh : List ℕ) (read_rose rose : Type 0) (e : SourceError) (status : LedgerStatus)
     → status ≡ source_status e → (e ≡ source.ReadFault → read_rose)
     → (input : List ℕ) × Stops signs fresh input read_rose rose status
 some_stop signs fresh read_rose rose e status is count =
-    let input = go e in (input.0, source_stops signs fresh input.0 read_rose rose e status is input.1 count)
-  where
-    go : (x : SourceError) → (input : List ℕ) × Reads (Err x) input
-    go source.ReadFault = ([], tt)
-    go source.NoMemory = ([], tt)
-    go source.InputTooLong = let long = some_longer input_limit in (long.0, (too_long_exactly long.0).1 long.1)
-    go source.InputNotUtf8 = (255 ∷ [], no_text_at_all)
+    let input = some_input e in (input.0, source_stops signs fresh input.0 read_rose rose e status is input.1 count)
 
 -- a run that has no text to write ends so
 module _ (signs : Relation) (fresh input : List ℕ) (tells : Type 0) (before after : List ℕ)

@@ -95,7 +95,7 @@ fn perform<G: Signer, I: Source, O: Sink>(
     }
 }
 
-/// Writes the text, or a front of it up to a fault. Refuses: `WriteFault`.
+/// Writes the text, or a prefix of it up to a fault. Refuses: `WriteFault`.
 fn put<O: Sink>(out: &mut O, text: &[u8]) -> Result<(), LedgerStatus>
     ensures { Puts O.tells O.written O.faults LedgerStatus.WriteFault text.now result out.old out.new }
 {
