@@ -1,6 +1,6 @@
 //! The laws of this crate, each as the contract of a function that does nothing else.
 
-ghost use Rattle.std.specs.Prelude.{◌≡◌, IsTrue, List, ℕ, Some, codes};
+ghost use Rattle.std.specs.Prelude.{◌≡◌, IsTrue, List, ℕ, Some, codes, fold};
 ghost use Rattle.picky_wire_base.specs.Table.{find_entry};
 ghost use Rattle.picky_wire_base.specs.Equality.{IsEquality};
 ghost use Rattle.picky_cert_parts.specs.CertNames.{cert_key_type_name, option_name, format_name};
@@ -94,6 +94,8 @@ pub fn equal_options_hash_alike<H: Hasher>(
 )
     ensures fed { (a b : OptionType) → IsTrue (⟦<SshCriticalOptionType as PartialEq>⟧.eq a b)
         → ⟦<SshCriticalOptionType as Hash>⟧.hash_input a ≡ ⟦<SshCriticalOptionType as Hash>⟧.hash_input b }
+    ensures first { first.new ≡ fold H.write first.old (⟦<SshCriticalOptionType as Hash>⟧.hash_input a.now) }
+    ensures second { second.new ≡ fold H.write second.old (⟦<SshCriticalOptionType as Hash>⟧.hash_input b.now) }
     ensures state { a.now ≡ b.now → first.old ≡ second.old → first.new ≡ second.new }
 {
     a.hash(first);

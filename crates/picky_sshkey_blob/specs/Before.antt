@@ -1,5 +1,6 @@
 -- Which 32 bytes stand before a copy of a public key, as a relation and as a reading.
-use Rattle.std.specs.Prelude.{◌≡◌, List, ℕ, ◌++◌, ◌&&◌, nat_le, length, take, drop, bytes_eq, if◌then◌else◌, Result, Ok, Err}
+use Rattle.std.specs.Prelude.{◌≡◌, List, ℕ, ◌++◌, ◌&&◌, nat_le, length}
+use Rattle.std.specs.Prelude.{take, drop, bytes_eq, if◌then◌else◌, Result, Ok, Err}
 
 -- the bytes are the 32 of the secret, and then the copy
 abbrev pub StandsBefore : List ℕ → List ℕ → List ℕ → Type 0

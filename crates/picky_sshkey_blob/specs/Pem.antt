@@ -1,5 +1,6 @@
 -- The text of a private key of OpenSSH: base64 between a header and a footer (OpenSSH's PROTOCOL.key).
-use Rattle.std.specs.Prelude.{◌≡◌, ◌≢◌, ◌<◌, ◌^◌, ◌==◌, ◌||◌, Bool, not, filter, length, List, [], ◌∷◌, ◌++◌, ℕ, codes}
+use Rattle.std.specs.Prelude.{◌≡◌, ◌≢◌, ◌<◌, ◌^◌, ◌==◌, ◌||◌, Bool}
+use Rattle.std.specs.Prelude.{not, filter, length, List, [], ◌∷◌, ◌++◌, ℕ, codes}
 use Rattle.picky_wire_base.specs.Numbers.{IsBytes}
 use Rattle.picky_text.specs.Base64.{base64_of}
 use Rattle.picky_text.specs.Rows.{rows_of}

@@ -1,5 +1,6 @@
 -- What the calls of a suite may be given: numbers, lengths and sizes.
-use Rattle.std.specs.Prelude.{◌≡◌, ℕ, ◌*◌, ◌%◌, ◌^◌, ◌<◌, ◌≤◌, ◌⊎◌, Bool, ◌&&◌, nat_lt, nat_le, List, length}
+use Rattle.std.specs.Prelude.{◌≡◌, ℕ, ◌*◌, ◌%◌, ◌^◌, ◌<◌, ◌≤◌}
+use Rattle.std.specs.Prelude.{◌⊎◌, Bool, ◌&&◌, nat_lt, nat_le, List, length}
 
 -- bcrypt derives from a passphrase and a salt that aren't empty, each below 2^32 bytes, in one round at least
 abbrev pub BcryptOk : ℕ → ℕ → ℕ → Type 0

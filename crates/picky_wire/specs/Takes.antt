@@ -1,6 +1,6 @@
 -- What a call that reads from a source answers, what it takes and what it leaves.
-use Rattle.std.specs.Prelude.{◌≡◌, ◌≢◌, ◌<◌, ◌≤◌, ◌+◌, ◌-◌, ◌++◌, ◌⊎◌, ℕ, List, Option, IsSome, length}
-use Rattle.std.specs.Prelude.{Result, Ok, Err}
+use Rattle.std.specs.Prelude.{◌≡◌, ◌≢◌, ◌<◌, ◌≤◌, ◌+◌, ◌-◌}
+use Rattle.std.specs.Prelude.{◌++◌, ◌⊎◌, ℕ, List, Option, IsSome, length, Result, Ok, Err}
 use Rattle.picky_wire_base.specs.Wire.{string}
 use Rattle.picky_wire_base.specs.Short.{EndsInString}
 use Rattle.picky_wire.specs.declared.error.WireError.{WireError}
