@@ -346,7 +346,7 @@ def texts():
              b"KEYCONV_SIGNATURE", b"--help", b"--version"]
     names += [b"%d " % kind for kind in (11, 13, 17, 19, 23)] + [b"%d " % status for status in range(8)]
     patterns = {"--help": b"".join(b"(?=.*" + re.escape(name) + b")" for name in names) + b"usage: .*\n",
-                "--version": rb"keyagent [0-9]+\.[0-9]+\.[0-9]+\n"}
+                "--version": rb"keyagent [0-9]+\.[0-9]+\.[0-9]+ \(rattle-kit-[0-9]+[a-z]?\)\n"}
     for word, pattern in patterns.items():
         text = re.compile(pattern, re.DOTALL)
         yield Case(word, (word,), string(LIST), text, taken=0)

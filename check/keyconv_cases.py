@@ -300,7 +300,7 @@ def texts():
     names += [b"%d " % status for status in range(9)]
     wrong = {"KEYCONV_PASS_IN": b"\xff", "KEYCONV_PASS_OUT": b"\xff", "KEYCONV_FRESH": "no hex", "KEYCONV_SIGNATURE": b"\xff"}
     patterns = {"--help": b"".join(b"(?=.*" + re.escape(name) + b")" for name in names) + b"usage: .*\n",
-                "--version": rb"keyconv [0-9]+\.[0-9]+\.[0-9]+\n"}
+                "--version": rb"keyconv [0-9]+\.[0-9]+\.[0-9]+ \(rattle-kit-[0-9]+[a-z]?\)\n"}
     for word, pattern in patterns.items():
         text = re.compile(pattern, re.DOTALL)
         yield Case(word, (word,), LINE, text, taken=0)

@@ -219,7 +219,7 @@ def texts():
     names = [b"usage: keyinventory list|merge", *b"list merge --help --version %% KEYCONV_PASS_IN keyconv".split()]
     names += [b"%d " % status for status in range(9)]
     patterns = {"--help": b"".join(b"(?=.*" + re.escape(name) + b")" for name in names) + b"usage: .*\n",
-                "--version": rb"keyinventory [0-9]+\.[0-9]+\.[0-9]+\n"}
+                "--version": rb"keyinventory [0-9]+\.[0-9]+\.[0-9]+ \(rattle-kit-[0-9]+[a-z]?\)\n"}
     for word, pattern in patterns.items():
         text = re.compile(pattern, re.DOTALL)
         yield Case(word, (word,), LINE, text, taken=0)

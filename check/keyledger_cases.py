@@ -275,7 +275,7 @@ def texts():
     found += b"issued again conflict full refused bad".split()
     found += [b"%d " % status for status in range(13)]
     patterns = {"--help": b"".join(b"(?=.*" + re.escape(name) + b")" for name in found) + b"usage: .*\n",
-                "--version": rb"keyledger [0-9]+\.[0-9]+\.[0-9]+\n"}
+                "--version": rb"keyledger [0-9]+\.[0-9]+\.[0-9]+ \(rattle-kit-[0-9]+[a-z]?\)\n"}
     for word, pattern in patterns.items():
         text = re.compile(pattern, re.DOTALL)
         yield Case(word, (word,), source(REQUEST), text, taken=0)

@@ -257,7 +257,7 @@ def texts():
     found += b"NoLine NoAuthority NotClient NotYet Expired Principal CriticalOption BadSignature".split()
     found += [b"%d " % status for status in range(10)]
     patterns = {"--help": b"".join(b"(?=.*" + re.escape(name) + b")" for name in found) + b"usage: .*\n",
-                "--version": rb"keypolicy [0-9]+\.[0-9]+\.[0-9]+\n"}
+                "--version": rb"keypolicy [0-9]+\.[0-9]+\.[0-9]+ \(rattle-kit-[0-9]+[a-z]?\)\n"}
     for word, pattern in patterns.items():
         text = re.compile(pattern, re.DOTALL)
         yield Case(word, (word,), LINE, text, taken=0)

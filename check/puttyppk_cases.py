@@ -143,7 +143,7 @@ def texts():
     names = [b"usage: puttyppk < PPK", *b"--help --version keyconv ppk2 ppk3 Ed25519".split()]
     names += [b"%d " % status for status in range(9) if status != 5]
     patterns = {"--help": b"".join(b"(?=.*" + re.escape(name) + b")" for name in names) + b"usage: .*\n",
-                "--version": rb"puttyppk [0-9]+\.[0-9]+\.[0-9]+\n"}
+                "--version": rb"puttyppk [0-9]+\.[0-9]+\.[0-9]+ \(rattle-kit-[0-9]+[a-z]?\)\n"}
     for word, pattern in patterns.items():
         text = re.compile(pattern, re.DOTALL)
         yield Case(word, (word,), NUMBER, text, taken=0)

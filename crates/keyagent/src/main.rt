@@ -10,38 +10,29 @@ use std::process::ExitCode;
 const HELP: &str = "usage: keyagent < MESSAGES > REPLIES
 
 Keeps private keys, as an SSH agent does. Reads the messages of an agent's
-protocol (draft-miller-ssh-agent-04) from standard input, each behind its length
-in four bytes, and writes the reply to each to standard output before it reads
-the next. What it keeps ends with it. Words are ignored, but for one alone:
+protocol (draft-miller-ssh-agent-04), each behind its length in four bytes, and
+writes the reply to each before it reads the next. What it keeps ends with it.
+--help prints this text, and --version the version and the toolchain; other
+words are ignored. The manual, keyagent(1), says more.
 
-  --help     this text
-  --version  the version
+  11  lists the identities       18, 19  remove an identity, or all of them
+  13  signs with an identity     22, 23  lock and unlock, under a passphrase
+  17  adds an identity
 
-Messages, and the reply where there is one other than the failure, 5:
-
-  11      the identities: 12, with their public keys and comments
-  13      a signature with an identity: 14, see below
-  17      an identity, added or in the place of that with its key: 6
-  18, 19  an identity, or all of them, removed: 6
-  22, 23  locked, and unlocked, under a passphrase: 6
-
-While it is locked 11 has no identities, and all but 23 fail. It keeps
-1,024 identities, and takes 262,144 bytes a message.
-
-This program signs nothing itself. A signature is the one that it was handed,
-whatever the message and the key, or else the failure. It has no socket, and
+Other messages fail. While it is locked 11 lists none, and all but 23 fail. It
+keeps 1,024 identities, and takes 262,144 bytes a message. It has no socket, and
 asks nobody: whoever writes to it may use what it keeps.
 
 Environment: KEYCONV_SIGNATURE, the signature that another device made, in hex
-and without the name of its format. One that is set counts where it is empty.
-
+and without the name of its format. It is given for any message and key: this
+program signs nothing itself.
 Status: 0 done, 1 a message's length is 0 or above 262,144, 2 the input ends
 inside a message, 3 read fault, 4 write fault, 5 out of memory,
 6 18,446,744,073,709,551,615 messages were answered, 7 KEYCONV_SIGNATURE isn't
 hex. Nothing goes to standard error.
 ";
 
-const VERSION: &str = "keyagent 0.1.0\n";
+const VERSION: &str = "keyagent 0.1.0 (rattle-kit-13f)\n";
 
 const SIGNATURE: &str = "KEYCONV_SIGNATURE";
 

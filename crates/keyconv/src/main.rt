@@ -10,45 +10,29 @@ use std::process::ExitCode;
 const HELP: &str = "usage: keyconv COMMAND [OPTION VALUE]... < KEY
        keyconv sample N
 
-Reads a key from standard input: an OpenSSH private key, a PuTTY private key
-file, a PuTTY public key, a public key line or a certificate. Writes:
+Reads a key or a certificate of OpenSSH or PuTTY from standard input. Writes:
 
-  openssh      the private key and the comment as OpenSSH has it
-  ppk2, ppk3   the same as a PuTTY file of version 2 or 3; of Ed25519 keys PuTTY
-               takes some as other secrets: see the manual page
-  ssh-pub      the public key and the comment as a line
-  putty-pub    the same as PuTTYgen saves it
+  openssh      the private key and its comment as OpenSSH has them
+  ppk2, ppk3   the same as PuTTY has them; for Ed25519 keys see puttyppk(1)
+  ssh-pub      the public key as a line, and putty-pub as PuTTY has it
   fingerprint  the MD5, SHA-1 and SHA-256 fingerprints, a line each
   cert         a certificate, with a signature that another device made
   tbs          what that device has to sign for it, in hex
   sample N     a summary of N sample keys, 1 to 1000; nothing is read
-  --help       this text, and --version the version
+  --help       this text, and --version the version and the toolchain
 
 cert and tbs read the issuer's key, a line %%, and the key that is certified.
-Their options, in any order; the first four are needed:
-
-  --type NAME       of certificates, as ssh-ed25519-cert-v01@openssh.com
-  --kind KIND       client, a user's, or host, a host's
-  --after SECONDS   valid from then on, in seconds since 1970
-  --before SECONDS  valid until then
-  --serial NUMBER   the serial number, else 0
-  --id TEXT         the name by which the issuer logs it
-  --principal NAME  whom it is for, once for each; else for all
-  --critical NAME   or NAME=TEXT: a critical option of a user's, once for each
-  --extension NAME  or NAME=TEXT: an extension of a user's; else five permits
-  --algorithm NAME  how the issuer signs: rsa-sha1, rsa-sha2-256, rsa-sha2-512,
-                    ecdsa-sha2-256, ecdsa-sha2-384, ecdsa-sha2-512, ed25519
-
-Environment: KEYCONV_PASS_IN, the passphrase of sealed keys; KEYCONV_PASS_OUT,
-that to seal under; KEYCONV_FRESH, fresh bytes in hex; KEYCONV_SIGNATURE, the
-signature for cert in hex. This program has no ciphers and signs nothing itself.
-
-Status: 0 done, 1 refused, 2 usage, 3 read fault, 4 write fault, 5 outside
-fault, 6 out of memory, 7 input over 16 MiB, 8 input not UTF-8. Each but 0 has a
-line on standard error.
+They need --type NAME --kind client|host --after SECONDS --before SECONDS, and
+take --serial NUMBER --id TEXT --principal NAME --critical NAME[=TEXT]
+--extension NAME[=TEXT] --algorithm NAME. The manual, keyconv(1), says more.
+Environment: KEYCONV_PASS_IN, the passphrase of an encrypted key, and that to
+encrypt under, KEYCONV_PASS_OUT; in hex, KEYCONV_FRESH, fresh bytes, and
+KEYCONV_SIGNATURE, the signature. This program has no ciphers and signs nothing.
+Status: 0 done, 1 refused, 2 usage, 3 read fault, 4 write fault, 5 no cipher or
+no signature, 6 out of memory, 7 input over 16 MiB, 8 input not UTF-8.
 ";
 
-const VERSION: &str = "keyconv 0.1.0\n";
+const VERSION: &str = "keyconv 0.1.0 (rattle-kit-13f)\n";
 
 const PASS_IN: &str = "KEYCONV_PASS_IN";
 

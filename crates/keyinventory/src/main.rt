@@ -15,29 +15,23 @@ writes to standard output:
   list       the inventory of key texts, with a line %% between two
   merge      the inventory of all that is in one of two inventories, with such
              a line between them
-  --help     this text
-  --version  the version
+  --help     this text, and --version the version and the toolchain
 
-An inventory has a line for each key: private or public, the public key in
-base64, and the comment in base64, parted by spaces. Lines are sorted by their
-bytes, and none stands twice. So neither the order of the texts nor how often
-one is there changes it.
+An inventory has a line for each key, in the order of their bytes: private or
+public, the public key in base64, and the comment in base64. A key text is
+whatever keyconv reads; one that isn't read ends the run. The manual,
+keyinventory(1), says more.
 
-A key text is whatever keyconv reads. Its first key counts; what follows that is
-skipped. A text of white space alone has no key. One that isn't read ends the
-run.
-
-Environment: KEYCONV_PASS_IN, the passphrase of sealed keys. This program has no
-ciphers: a sealed key ends with status 1 without it, and with status 5 with it.
-List its public key, or a copy without passphrase.
+Environment: KEYCONV_PASS_IN, the passphrase of encrypted keys. This program has
+no ciphers: such a key ends with status 1 without it, and with 5 with it. List
+its public key, or a copy without passphrase.
 
 Status: 0 done, 1 a text isn't a key's or a line isn't an inventory's, 2 usage,
-3 read fault, 4 write fault, 5 outside fault, 6 out of memory, 7 input over
-16 MiB, 8 input not UTF-8. With 0 all is written, with 4 a part or nothing, with
-the others nothing. Only 2 has a line on standard error.
+3 read fault, 4 write fault, 5 no cipher, 6 out of memory, 7 input over 16 MiB,
+8 input not UTF-8. Only 2 has a line on standard error.
 ";
 
-const VERSION: &str = "keyinventory 0.1.0\n";
+const VERSION: &str = "keyinventory 0.1.0 (rattle-kit-13f)\n";
 
 const PASS_IN: &str = "KEYCONV_PASS_IN";
 

@@ -10,39 +10,28 @@ use std::process::ExitCode;
 const HELP: &str = "usage: keyledger < LEDGER
 
 Answers requests for certificates out of a ledger, in which no serial and no
-request stands twice. Reads a ledger, a line %%, the issuer's public key line,
-such a line, and request lines. Writes the ledger after them, a line %%, and a
-reply to each request.
-
-A ledger is the line next N, and a line for each entry: the id of its request,
-the request line in base64, and the certificate's line. The first ledger is the
-line next 1 alone.
+request stands twice. Reads a ledger, a line %%, the issuer's public key line, a
+line %%, and request lines. Writes the ledger after them, a line %%, and a reply
+to each request. The first ledger is the line next 1 alone.
+--help prints this text, and --version the version and the toolchain; other
+words are ignored. The manual, keyledger(1), says more.
 
 A request line is ID KIND PRINCIPALS AFTER BEFORE and the subject's public key
-line, parted by single spaces: KIND is client or host, PRINCIPALS is - for none,
-or names parted by commas, AFTER and BEFORE are seconds since 1970. Replies:
-
-  issued ID SERIAL    a certificate was made, and stands in the ledger
-  again ID SERIAL     the ledger has this very line
-  conflict ID SERIAL  the ledger has another line with this id
-  full ID             there is no serial left
-  refused ID NAME     no certificate is made for it: see the manual page
-  bad                 the line is no request
+line: KIND is client or host, PRINCIPALS is - for none or names parted by
+commas, AFTER and BEFORE are seconds since 1970. A reply is issued ID SERIAL,
+again ID SERIAL, conflict ID SERIAL, full ID, refused ID NAME, or bad.
 
 Environment: KEYCONV_FRESH, 32 fresh bytes for each request, in hex;
 KEYCONV_SIGNATURE, the signature of the new certificate, in hex. This program
 signs nothing itself: a run has one new request at most.
-
-  --help, --version   this text, the version; other words change nothing
-
 Status: 0 done, 1 fewer than two lines %%, 2 no ledger, 3 no issuer, 4 too few
-fresh bytes, 5 the new ledger is too long, 6 read fault, 7 write fault,
-8 outside fault: no signature, 9 out of memory, 10 input over 16 MiB, 11 input
-not UTF-8, 12 a variable isn't hex. With 0 all is written, with 7 a part or
-nothing, with the others nothing.
+fresh bytes, 5 the new ledger is too long, 6 read fault, 7 write fault, 8 no
+signature, 9 out of memory, 10 input over 16 MiB, 11 input not UTF-8, 12 a
+variable isn't hex. All is written with 0, a part or nothing with 7, else
+nothing. Nothing goes to standard error.
 ";
 
-const VERSION: &str = "keyledger 0.1.0\n";
+const VERSION: &str = "keyledger 0.1.0 (rattle-kit-13f)\n";
 
 const FRESH: &str = "KEYCONV_FRESH";
 

@@ -10,42 +10,27 @@ const HELP: &str = "usage: keypolicy decide USER MOMENT < SOURCE
        keypolicy message < SOURCE
 
 Says whether who offers a key or a certificate gets in by authorized keys. Reads
-the authorized keys, a line %% and the offer, the line of a key or certificate.
+the authorized keys, a line %%, and the line of the key or the certificate.
 
-  decide USER MOMENT  grants or denies, for a user at a moment, in seconds since
-                      1970
-  message             what the issuer of a certificate signed, in hex; an empty
-                      line for a key
-  --help, --version   this text, the version
+  decide USER MOMENT  grants or denies, at a moment in seconds since 1970
+  message             what a certificate's issuer signed, in hex; an empty line
+                      for a key
+  --help, --version   this text, the version and the toolchain
 
-A key gets in by the first line that has it without cert-authority, and a
-certificate by the first that has its issuer's key with it. It is denied by the
-first of these rules that fails:
+A grant has the line's number and then what to keep to: command, source,
+verify-required, option. A denial has the first rule that fails: NoLine,
+NoAuthority, NotClient, NotYet, Expired, Principal, CriticalOption or
+BadSignature. The manual, keypolicy(1), says more.
 
-  NoLine          a key has such a line
-  NoAuthority     a certificate has such a line
-  NotClient       the certificate is a user's
-  NotYet          its time has begun
-  Expired         its time hasn't ended
-  Principal       it is for the user, or one of the line's principals=\"..\"
-  CriticalOption  no critical option stands twice, and their data fit
-  BadSignature    its issuer signed it
-
-A grant has the line's number, and then a line for each thing to keep to:
-command and source, the certificate's force-command and source-address in
-base64; verify-required; and option, for each further option of the line, its
-value in base64. Whoever lets in has to know them all.
-
-Environment: KEYPOLICY_VERIFIED, the message, in hex, whose signature another
+Environment: KEYPOLICY_VERIFIED, in hex, the message whose signature another
 program found good under the issuer's key. Without it a certificate that no
 other rule denies ends with status 6; with another message it is denied.
-
-Status: 0 granted, or the message was written, 1 denied, 2 usage, 3 the offer
-isn't read, 4 read fault, 5 write fault, 6 outside fault, 7 out of memory,
-8 input over 16 MiB, 9 input not UTF-8. Nothing goes to standard error.
+Status: 0 granted or message written, 1 denied, 2 usage, 3 the offer isn't read,
+4 read fault, 5 write fault, 6 nothing was verified, 7 out of memory, 8 input
+over 16 MiB, 9 input not UTF-8. Nothing goes to standard error.
 ";
 
-const VERSION: &str = "keypolicy 0.1.0\n";
+const VERSION: &str = "keypolicy 0.1.0 (rattle-kit-13f)\n";
 
 const VERIFIED: &str = "KEYPOLICY_VERIFIED";
 

@@ -15,9 +15,9 @@ use Rattle.picky_agent_state.specs.Request.{Request, Identities, Sign, Add, Remo
 use Rattle.picky_agent_state.specs.Step.{AsksSigner}
 use Rattle.picky_agent.specs.declared.status.AgentStatus.{AgentStatus}
 use Rattle.picky_agent.specs.declared.status.AgentStatus.TheVariants as statuses
-use Rattle.picky_suite.specs.Signs.{Relation}
+use Rattle.picky_suite.specs.Signs.{SignRelation}
 use Rattle.picky_agent.specs.Run.{Exchange, IsExchange, asked}
-use Rattle.picky_agent.specs.Served.{Reads, Scene, Served}
+use Rattle.picky_agent.specs.Served.{ReadsMessages, Scene, Served}
 use Rattle.picky_agent.specs.Ending.{Ending, AtMessage, AtBadLength, InMessage, EndsAs, HasNoSign, IsEnding, IsOther, Tells}
 
 -- one number stands in front of bytes
@@ -174,7 +174,7 @@ ended ending xs stream rest each are ends = record {
 
 -- the messages that were answered are those of the stream, and the status says how it ends
 pub tells_ending : (status : AgentStatus) (xs : List Exchange) (stream left : List ℕ) (ms : List (List ℕ)) (ending : Ending)
-    → AllByRecursion IsExchange xs → Reads (Err status) xs stream left → EndsAs stream ms ending → Tells status ending
+    → AllByRecursion IsExchange xs → ReadsMessages (Err status) xs stream left → EndsAs stream ms ending → Tells status ending
 tells_ending statuses.Done xs stream left ms ending each reads ends =
     (one_ending stream ms (messages_of xs) ending AtMessage ends (ended AtMessage xs stream reads.rest each reads.are reads.halts)).1
 tells_ending statuses.BadFrame xs stream left ms ending each reads ends =
@@ -188,7 +188,7 @@ tells_ending statuses.NoMemory xs stream left ms ending each reads ends = tt
 tells_ending statuses.TooMany xs stream left ms ending each reads ends = tt
 
 -- and so of all that was served
-pub served_tells : (signs : Relation) (tells_in tells_out : Type 0) (status : AgentStatus) (old new : Scene)
+pub served_tells : (signs : SignRelation) (tells_in tells_out : Type 0) (status : AgentStatus) (old new : Scene)
     → Served signs tells_in tells_out status old new → tells_in → (ms : List (List ℕ)) (ending : Ending)
     → EndsAs old.left ms ending → Tells status ending
 served_tells signs tells_in tells_out status old new served told ms ending ends =

@@ -19,7 +19,7 @@ use Rattle.picky_wire.proofs.ByteArrayLemmas.{piece_taken_by}
 use Rattle.picky_wire_base.proofs.ReadLemmas.{byte_array-refused}
 use Rattle.picky_agent.specs.declared.frame.FrameError.{FrameError}
 use Rattle.picky_agent.specs.declared.frame.FrameError.TheVariants as errors
-use Rattle.picky_agent.specs.Frame.{Fronts, IsCut, TakesMessage, TakesPart, Walks, message_limit}
+use Rattle.picky_agent.specs.Frame.{Fronts, IsCutFrame, TakesMessage, TakesPart, Walks, message_limit}
 use Rattle.picky_agent.specs.inner.Frame.{Bodies, Lens, TakesLess, first_missing, frame_error}
 
 -- ---- one read of so many bytes
@@ -174,7 +174,7 @@ body_missed wire.TooLong len before after ends cut room refused =
 
 -- ---- a part of a message
 
-short_part : (taken : List ℕ) → length taken < 4 → (taken ≡ []) ⊎ IsCut taken
+short_part : (taken : List ℕ) → length taken < 4 → (taken ≡ []) ⊎ IsCutFrame taken
 short_part [] few = inl refl
 short_part (b ∷ taken) few = inr (inl (omega arith, few))
 

@@ -6,7 +6,7 @@ use Rattle.std.proofs.lemmas.Grind.{flat_map-append}
 use Rattle.picky_wire_base.specs.Wire.{string_of}
 use Rattle.picky_wire.specs.Count.{Rose}
 use Rattle.picky_wire.specs.Takes.{EndsIn}
-use Rattle.picky_suite.specs.Signs.{Relation}
+use Rattle.picky_suite.specs.Signs.{SignRelation}
 use Rattle.picky_agent_state.specs.Kept.{machine}
 use Rattle.picky_agent_state.specs.Message.{IsMessage}
 use Rattle.picky_agent_state.specs.Step.{Step}
@@ -14,7 +14,7 @@ use Rattle.picky_agent_state.proofs.StepLaws.{Under}
 use Rattle.picky_agent.specs.declared.status.AgentStatus.{AgentStatus}
 use Rattle.picky_agent.specs.declared.status.AgentStatus.TheVariants as statuses
 use Rattle.picky_agent.specs.Run.{Exchange, Run, asked, answered}
-use Rattle.picky_agent.specs.Served.{BreaksOff, Counts, Halts, HasCount, Reads, Scene, Served, Serves, Wrote, most_messages}
+use Rattle.picky_agent.specs.Served.{BreaksOff, Counts, Halts, HasCount, ReadsMessages, Scene, Served, Serves, Wrote, most_messages}
 use Rattle.picky_agent.specs.inner.Turn.{taken_in}
 use Rattle.picky_agent.proofs.FrameLemmas.{ends_here}
 use Rattle.picky_agent.proofs.RunLaws.{each_joined, run_joined, run_under}
@@ -22,7 +22,7 @@ use Rattle.picky_agent.proofs.RunLaws.{each_joined, run_joined, run_under}
 -- ---- no message
 
 -- nothing happened yet
-pub serves_none : (signs : Relation) (tells_in tells_out : Type 0) (now : Scene) → Serves signs tells_in tells_out (Ok tt) 0 now now
+pub serves_none : (signs : SignRelation) (tells_in tells_out : Type 0) (now : Scene) → Serves signs tells_in tells_out (Ok tt) 0 now now
 serves_none signs tells_in tells_out now = record {
   exchanges = [];
   count = refl;
@@ -47,7 +47,7 @@ wrote_nothing statuses.NoMemory before after other same = same ∙ sym (append-n
 wrote_nothing statuses.TooMany before after other same = same ∙ sym (append-nil before)
 
 -- serving ended
-pub serves_stop : (signs : Relation) (tells_in tells_out : Type 0) (status : AgentStatus) (old new : Scene)
+pub serves_stop : (signs : SignRelation) (tells_in tells_out : Type 0) (status : AgentStatus) (old new : Scene)
     → status ≢ statuses.WriteFault → new.kept ≡ old.kept → old.signer_faults ≤ new.signer_faults
     → (status ≢ statuses.NoMemory → new.signer_faults ≡ old.signer_faults)
     → (tells_in → EndsIn old.left new.left) → (tells_in → Halts (Err status) old.left new.left)
@@ -75,7 +75,7 @@ framed_once : (bytes : List ℕ) → string_of bytes ++ [] ≡ string_of bytes
 framed_once bytes = append-nil (string_of bytes)
 
 -- a message was taken, and a reply was put that may have been broken off
-serves_message : (signs : Relation) (tells_in tells_out : Type 0) (message reply : List ℕ) (r : Result (Unit {0}) AgentStatus)
+serves_message : (signs : SignRelation) (tells_in tells_out : Type 0) (message reply : List ℕ) (r : Result (Unit {0}) AgentStatus)
     (old new : Scene) → IsMessage message
     → Step signs (machine old.kept old.signer_faults) message reply (machine new.kept new.signer_faults)
     → (tells_in → old.left ≡ string_of message ++ new.left) → Halts r new.left new.left
@@ -100,7 +100,7 @@ serves_message signs tells_in tells_out message reply r old new is step left hal
 }
 
 -- a message was answered
-pub serves_one : (signs : Relation) (tells_in tells_out : Type 0) (message reply : List ℕ) (old new : Scene)
+pub serves_one : (signs : SignRelation) (tells_in tells_out : Type 0) (message reply : List ℕ) (old new : Scene)
     → IsMessage message → Step signs (machine old.kept old.signer_faults) message reply (machine new.kept new.signer_faults)
     → (tells_in → old.left ≡ string_of message ++ new.left) → (tells_out → new.written ≡ old.written ++ string_of reply)
     → Counts (Ok tt) old new → Serves signs tells_in tells_out (Ok tt) 1 old new
@@ -109,7 +109,7 @@ serves_one signs tells_in tells_out message reply old new is step left written c
     (λ t. written t ∙ ap (λ f. old.written ++ f) (sym (framed_once reply))) counts
 
 -- a message was taken, and its reply wasn't written whole
-pub serves_broken : (signs : Relation) (tells_in tells_out : Type 0) (message reply : List ℕ) (old new : Scene)
+pub serves_broken : (signs : SignRelation) (tells_in tells_out : Type 0) (message reply : List ℕ) (old new : Scene)
     → IsMessage message → Step signs (machine old.kept old.signer_faults) message reply (machine new.kept new.signer_faults)
     → (tells_in → old.left ≡ string_of message ++ new.left)
     → (tells_out → (n : ℕ) × (new.written ≡ old.written ++ take n (string_of reply)) × (n < length (string_of reply)))
@@ -129,8 +129,8 @@ serves_broken signs tells_in tells_out message reply old new is step left writte
 
 -- ---- one stretch after another
 
-read_joined : (r : Result (Unit {0}) AgentStatus) (xs ys : List Exchange) (old mid new : List ℕ) → Reads (Ok tt) xs old mid
-    → Reads r ys mid new → Reads r (xs ++ ys) old new
+read_joined : (r : Result (Unit {0}) AgentStatus) (xs ys : List Exchange) (old mid new : List ℕ) → ReadsMessages (Ok tt) xs old mid
+    → ReadsMessages r ys mid new → ReadsMessages r (xs ++ ys) old new
 read_joined r xs ys old mid new first second = record {
   rest = second.rest;
   are = first.are ∙ ap (λ m. asked xs ++ m) (first.halts ∙ second.are)
@@ -183,7 +183,7 @@ counts_joined (Err statuses.WriteFault) old mid new first second =
 counts_joined (Err statuses.NoMemory) old mid new first second = (second.0 ∙ first.0, second.1 ∙ first.1)
 counts_joined (Err statuses.TooMany) old mid new first second = (second.0 ∙ first.0, second.1 ∙ first.1)
 
-pub serves_joined : (few many : Relation) (tells_in tells_out tells_in' tells_out' : Type 0) (r : Result (Unit {0}) AgentStatus)
+pub serves_joined : (few many : SignRelation) (tells_in tells_out tells_in' tells_out' : Type 0) (r : Result (Unit {0}) AgentStatus)
     (n m : ℕ) (old mid new : Scene) → Under few many → (tells_in → tells_in') → (tells_out → tells_out')
     → Serves many tells_in tells_out (Ok tt) n old mid → Serves few tells_in' tells_out' r m mid new
     → Serves many tells_in tells_out r (n + m) old new
@@ -221,7 +221,7 @@ has_count statuses.NoMemory n other few = omega (arith, few)
 has_count statuses.TooMany n other few = absurd (other refl)
 
 -- a turn ended it
-pub served_by : (few many : Relation) (tells_in tells_out tells_in' tells_out' : Type 0) (status : AgentStatus)
+pub served_by : (few many : SignRelation) (tells_in tells_out tells_in' tells_out' : Type 0) (status : AgentStatus)
     (n : ℕ) (old mid new : Scene) → Under few many → (tells_in → tells_in') → (tells_out → tells_out')
     → n < most_messages → status ≢ statuses.TooMany
     → Serves many tells_in tells_out (Ok tt) n old mid
@@ -236,7 +236,7 @@ served_by few many tells_in tells_out tells_in' tells_out' status n old mid new 
     }
 
 -- there were too many messages
-pub served_many : (signs : Relation) (tells_in tells_out : Type 0) (n : ℕ) (old new : Scene) → n ≡ most_messages
+pub served_many : (signs : SignRelation) (tells_in tells_out : Type 0) (n : ℕ) (old new : Scene) → n ≡ most_messages
     → Serves signs tells_in tells_out (Ok tt) n old new → Served signs tells_in tells_out statuses.TooMany old new
 served_many signs tells_in tells_out n old new full serves = record {
   n = n;

@@ -2,7 +2,7 @@
 use Rattle.std.proofs.Common.{◌≡◌, ◌≢◌, ◌≤◌, ℕ, List, Result, Ok, Err, Some, None, refl, sym, subst, arith, inl, inr}
 use Rattle.picky_wire_base.specs.Wire.{string_of}
 use Rattle.picky_wire.specs.Puts.{Puts}
-use Rattle.picky_suite.specs.Signs.{Relation}
+use Rattle.picky_suite.specs.Signs.{SignRelation}
 use Rattle.picky_agent_state.specs.Kept.{Kept, machine}
 use Rattle.picky_agent_state.specs.Request.{request_of}
 use Rattle.picky_agent_state.specs.Step.{AsksSigner, Step}
@@ -21,7 +21,7 @@ use Rattle.picky_agent.proofs.ServedLemmas.{serves_broken, serves_one, serves_st
 -- ---- nothing was put
 
 -- what was taken, if anything, has no reply
-stops : {I A : Type 0} (signs : Relation) (tells : I → Type 0) (left : I → List ℕ) (faults : I → ℕ) (tells_out : Type 0)
+stops : {I A : Type 0} (signs : SignRelation) (tells : I → Type 0) (left : I → List ℕ) (faults : I → ℕ) (tells_out : Type 0)
     (status : AgentStatus) (r : Result A FrameError) (kept kept' : Kept) (n n' : ℕ) (source source' : I) (written : List ℕ)
     (sink_faults : ℕ)
     → status ≢ statuses.WriteFault → kept' ≡ kept → n ≤ n' → (status ≢ statuses.NoMemory → n' ≡ n)
@@ -37,7 +37,7 @@ stops signs tells left faults tells_out status r kept kept' n n' source source' 
     (λ told. walks.front told (left source) (ends_here (left source))) halts refl counts
 
 -- a message was taken, and there was no memory for its reply
-pub serves_unanswered : {I : Type 0} (signs : Relation) (tells : I → Type 0) (left : I → List ℕ) (faults : I → ℕ) (tells_out : Type 0)
+pub serves_unanswered : {I : Type 0} (signs : SignRelation) (tells : I → Type 0) (left : I → List ℕ) (faults : I → ℕ) (tells_out : Type 0)
     (message : List ℕ) (kept kept' : Kept) (n n' : ℕ) (source source' : I) (written : List ℕ) (sink_faults : ℕ)
     → TakesMessage tells left faults (Ok (Some message)) source source' → kept' ≡ kept → n ≤ n'
     → Serves signs (tells source) tells_out (Err statuses.NoMemory) 0 (scene kept n (left source) (faults source) written sink_faults)
@@ -48,7 +48,7 @@ serves_unanswered signs tells left faults tells_out message kept kept' n n' sour
     (λ told. inr (record { message = message; is_message = takes.is_message; are = takes.fronts told })) (takes.walks.calm, refl)
 
 -- the stream ended
-pub serves_end : {I : Type 0} (signs : Relation) (tells : I → Type 0) (left : I → List ℕ) (faults : I → ℕ) (tells_out : Type 0)
+pub serves_end : {I : Type 0} (signs : SignRelation) (tells : I → Type 0) (left : I → List ℕ) (faults : I → ℕ) (tells_out : Type 0)
     (kept : Kept) (n : ℕ) (source source' : I) (written : List ℕ) (sink_faults : ℕ)
     → TakesMessage tells left faults (Ok None) source source'
     → Serves signs (tells source) tells_out (Err statuses.Done) 0 (scene kept n (left source) (faults source) written sink_faults)
@@ -58,7 +58,7 @@ serves_end signs tells left faults tells_out kept n source source' written sink_
     (λ other. cc other) refl (omega arith) (λ remembers. refl) takes.walks takes.fronts (takes.walks.calm, refl)
 
 -- no message was taken
-pub serves_refused : {I : Type 0} (signs : Relation) (tells : I → Type 0) (left : I → List ℕ) (faults : I → ℕ) (tells_out : Type 0)
+pub serves_refused : {I : Type 0} (signs : SignRelation) (tells : I → Type 0) (left : I → List ℕ) (faults : I → ℕ) (tells_out : Type 0)
     (e : FrameError) (kept : Kept) (n : ℕ) (source source' : I) (written : List ℕ) (sink_faults : ℕ)
     → TakesMessage tells left faults (Err e) source source'
     → Serves signs (tells source) tells_out (Err (frame_status e)) (taken_in (Err (frame_status e)))
@@ -79,7 +79,7 @@ serves_refused signs tells left faults tells_out errors.NoMemory kept n source s
 
 -- ---- a message was taken, and its reply was put
 
-pub serves_put : {I O : Type 0} (signs : Relation) (tells : I → Type 0) (left : I → List ℕ) (faults : I → ℕ)
+pub serves_put : {I O : Type 0} (signs : SignRelation) (tells : I → Type 0) (left : I → List ℕ) (faults : I → ℕ)
     (tells_out : O → Type 0) (written : O → List ℕ) (faults_out : O → ℕ) (message reply : List ℕ) (r : Result (Unit {0}) AgentStatus)
     (kept kept' : Kept) (n n' : ℕ) (source source' : I) (out out' : O)
     → TakesMessage tells left faults (Ok (Some message)) source source' → Step signs (machine kept n) message reply (machine kept' n')

@@ -6,7 +6,7 @@ use Rattle.picky_agent_state.specs.Message.{IsMessage}
 use Rattle.picky_agent_state.specs.Request.{Request, Sign, request_of}
 use Rattle.picky_agent.specs.declared.status.AgentStatus.{AgentStatus}
 use Rattle.picky_agent.specs.declared.status.AgentStatus.TheVariants as statuses
-use Rattle.picky_agent.specs.Frame.{HasBadLength, IsCut}
+use Rattle.picky_agent.specs.Frame.{HasBadLength, IsCutFrame}
 
 pub data Ending : Type 0 where
   -- nothing
@@ -17,7 +17,7 @@ pub data Ending : Type 0 where
 abbrev pub IsEnding : Ending → (rest : List ℕ) → Type 0
 IsEnding AtMessage rest = rest ≡ []
 IsEnding AtBadLength rest = (more : List ℕ) × HasBadLength rest more
-IsEnding InMessage rest = IsCut rest
+IsEnding InMessage rest = IsCutFrame rest
 
 -- the stream is these messages, and then what this ending says
 pub record EndsAs (stream : List ℕ) (messages : List (List ℕ)) (ending : Ending) : Type 0 where

@@ -25,21 +25,21 @@ pub record HasPart (bytes : List ℕ) : Type 0 where
   pub less : length part < len
 
 -- they end inside a message, in its length or behind it
-abbrev pub IsCut : (bytes : List ℕ) → Type 0
-IsCut bytes = ((0 < length bytes) × (length bytes < 4)) ⊎ HasPart bytes
+abbrev pub IsCutFrame : (bytes : List ℕ) → Type 0
+IsCutFrame bytes = ((0 < length bytes) × (length bytes < 4)) ⊎ HasPart bytes
 
 -- what was taken is nothing, or the beginning of a message that is not whole
 pub record TakesPart (before after : List ℕ) : Type 0 where
   pub taken : List ℕ
   pub are : before ≡ taken ++ after
-  pub part : (taken ≡ []) ⊎ IsCut taken
+  pub part : (taken ≡ []) ⊎ IsCutFrame taken
 
 -- what is said of the bytes by the message in front, by their end and by a refusal
 abbrev pub Fronts : Result (Option (List ℕ)) FrameError → (before after : List ℕ) → Type 0
 Fronts (Ok (Some message)) before after = before ≡ string_of message ++ after
 Fronts (Ok None) before after = before ≡ []
 Fronts (Err errors.BadFrame) before after = HasBadLength before after
-Fronts (Err errors.Cut) before after = IsCut before
+Fronts (Err errors.Cut) before after = IsCutFrame before
 Fronts (Err errors.ReadFault) before after = TakesPart before after
 Fronts (Err errors.NoMemory) before after = TakesPart before after
 

@@ -5,11 +5,11 @@ use Rattle.std.specs.List.{AllByRecursion}
 use Rattle.picky_wire_base.specs.Wire.{string_of}
 use Rattle.picky_wire.specs.Count.{Rose}
 use Rattle.picky_wire.specs.Takes.{EndsIn}
-use Rattle.picky_suite.specs.Signs.{Relation}
+use Rattle.picky_suite.specs.Signs.{SignRelation}
 use Rattle.picky_agent_state.specs.Kept.{Kept, machine}
 use Rattle.picky_agent.specs.declared.status.AgentStatus.{AgentStatus}
 use Rattle.picky_agent.specs.declared.status.AgentStatus.TheVariants as statuses
-use Rattle.picky_agent.specs.Frame.{HasBadLength, IsCut, IsMessage, TakesPart}
+use Rattle.picky_agent.specs.Frame.{HasBadLength, IsCutFrame, IsMessage, TakesPart}
 use Rattle.picky_agent.specs.Run.{Exchange, IsExchange, Run, asked, answered}
 
 -- all that there is at one moment: what the agent keeps, what the source has left, what was written, and the three counts of faults
@@ -44,13 +44,13 @@ abbrev pub Halts : Result (Unit {0}) AgentStatus → (rest left : List ℕ) → 
 Halts (Ok more) rest left = rest ≡ left
 Halts (Err statuses.Done) rest left = rest ≡ []
 Halts (Err statuses.BadFrame) rest left = HasBadLength rest left
-Halts (Err statuses.Cut) rest left = IsCut rest
+Halts (Err statuses.Cut) rest left = IsCutFrame rest
 Halts (Err statuses.ReadFault) rest left = TakesPart rest left
 Halts (Err statuses.WriteFault) rest left = rest ≡ left
 Halts (Err statuses.NoMemory) rest left = TakesPart rest left ⊎ TakesOne rest left
 Halts (Err statuses.TooMany) rest left = rest ≡ left
 
-pub record Reads (result : Result (Unit {0}) AgentStatus) (exchanges : List Exchange) (before after : List ℕ) : Type 0 where
+pub record ReadsMessages (result : Result (Unit {0}) AgentStatus) (exchanges : List Exchange) (before after : List ℕ) : Type 0 where
   pub rest : List ℕ
   pub are : before ≡ asked exchanges ++ rest
   pub ends : EndsIn rest after
@@ -81,7 +81,7 @@ Counts result old new = (new.source_faults ≡ old.source_faults) × (new.sink_f
 
 -- ---- a stretch of serving
 
-pub record Serves (signs : Relation) (tells_in tells_out : Type 0) (result : Result (Unit {0}) AgentStatus) (n : ℕ)
+pub record Serves (signs : SignRelation) (tells_in tells_out : Type 0) (result : Result (Unit {0}) AgentStatus) (n : ℕ)
     (old new : Scene) : Type 0 where
   -- so many messages, each with its reply
   pub exchanges : List Exchange
@@ -94,7 +94,7 @@ pub record Serves (signs : Relation) (tells_in tells_out : Type 0) (result : Res
   pub no_higher : faults ≤ new.signer_faults
   pub exact : result ≢ Err statuses.NoMemory → faults ≡ new.signer_faults
   -- the streams
-  pub reads : tells_in → Reads result exchanges old.left new.left
+  pub reads : tells_in → ReadsMessages result exchanges old.left new.left
   pub wrote : tells_out → Wrote result exchanges old.written new.written
   pub counts : Counts result old new
 
@@ -110,7 +110,7 @@ HasCount statuses.WriteFault n = n ≤ most_messages
 HasCount status n = n < most_messages
 
 -- the status with which serving ends, after so many messages
-pub record Served (signs : Relation) (tells_in tells_out : Type 0) (status : AgentStatus) (old new : Scene) : Type 0 where
+pub record Served (signs : SignRelation) (tells_in tells_out : Type 0) (status : AgentStatus) (old new : Scene) : Type 0 where
   pub n : ℕ
   pub counted : HasCount status n
   pub serves : Serves signs tells_in tells_out (Err status) n old new

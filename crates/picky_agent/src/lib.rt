@@ -1,4 +1,6 @@
 //! An SSH agent: the messages of a stream, each answered in turn (draft-miller-ssh-agent-04).
+//!
+//! Read first: `specs/Served.antt`; then `src/serving.rt`.
 #![tactic(auto)]
 
 mod frame;

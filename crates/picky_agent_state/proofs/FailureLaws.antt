@@ -8,7 +8,7 @@ use Rattle.std.proofs.lemmas.Bool.{leb-true, le-leb, ltb-false}
 use Rattle.std.proofs.lemmas.List.Elements.{All-get_or}
 use Rattle.std.proofs.lemmas.Option.{slice_get_within, get_or_from_slice_get}
 use Rattle.std.proofs.lemmas.Slice.Eq.{bytes_eq-Decides}
-use Rattle.picky_suite.specs.Signs.{Relation}
+use Rattle.picky_suite.specs.Signs.{SignRelation}
 use Rattle.picky_keys.specs.declared.key.SshBasePublicKey.{SshBasePublicKey}
 use Rattle.picky_keys.specs.Key.{kind_of}
 use Rattle.picky_sshkey_blob.specs.Key.{public_part}
@@ -17,10 +17,10 @@ use Rattle.picky_agent_state.specs.Kept.{Kept, Machine, is_locked}
 use Rattle.picky_agent_state.specs.Held.{HasKey, HasNone, IsAt}
 use Rattle.picky_agent_state.specs.Request.{Request, SignRequest, Identities, Sign, Add, Remove, RemoveAll, Lock, Unlock, Unfit, request_of}
 use Rattle.picky_agent_state.specs.Reply.{entry, failure, success, fitted, listing}
-use Rattle.picky_agent_state.specs.Signing.{Way, way_for}
+use Rattle.picky_agent_state.specs.Signing.{SigningWay, way_for}
 use Rattle.picky_agent_state.specs.Rows.{Appends, Fails, Replaces, Succeeds, TakesOut, HasNothing, is_full, most_identities, opens, shown}
 use Rattle.picky_agent_state.specs.Step.{Asks, AsksNone, AsksWith, Step, StepOn, Still}
-use Rattle.picky_agent_state.specs.Failure.{FailsForCause, IsLocked, IsTooLong, MustFail, SignerFails}
+use Rattle.picky_agent_state.specs.Failure.{FailsForCause, IsAgentLocked, IsReplyTooLong, MustFail, SignerFails}
 use Rattle.picky_agent_state.proofs.ReplyLemmas.{too_long_fails}
 
 -- ---- what isn't the failure
@@ -31,11 +31,11 @@ success_is_no_failure reply one other =
     omega (arith, same)
 
 -- a reply of another type is the failure only where it is too long
-only_too_long : (first : ℕ) (rest : List ℕ) → (first ≡ 5 → ⊥) → fitted (first ∷ rest) ≡ failure → IsTooLong (first ∷ rest)
+only_too_long : (first : ℕ) (rest : List ℕ) → (first ≡ 5 → ⊥) → fitted (first ∷ rest) ≡ failure → IsReplyTooLong (first ∷ rest)
 only_too_long first rest other fails = go (nat_lt (length (first ∷ rest)) (2 ^ 32)) refl fails
   where
     go : (b : Bool) → nat_lt (length (first ∷ rest)) (2 ^ 32) ≡ b → (if b then first ∷ rest else failure) ≡ failure
-        → IsTooLong (first ∷ rest)
+        → IsReplyTooLong (first ∷ rest)
     go true is same = absurd (other (cc same))
     go false is same = ltb-false (length (first ∷ rest)) (2 ^ 32) is
 
@@ -55,7 +55,7 @@ locked_fails false P Q row is = cc is
 
 -- what fails where the agent is locked, and else succeeds
 plain_must : (old next : Kept) (reply : List ℕ) (new : Kept)
-    → MatchBool (is_locked old) (Fails old reply new) (Succeeds next reply new) → IsLocked old → Fails old reply new
+    → MatchBool (is_locked old) (Fails old reply new) (Succeeds next reply new) → IsAgentLocked old → Fails old reply new
 plain_must old next reply new row locked = locked_fails (is_locked old) (Fails old reply new) (Succeeds next reply new) row locked
 
 plain_only : (locked : Bool) (old next : Kept) (reply : List ℕ) (new : Kept)
@@ -125,12 +125,12 @@ add_only false old added reply new (inr appends) fails =
     inr (appends.is_new, leb-true most_identities (length old.identities) full)
 
 -- a signature
-asks_must : (signs : Relation) (old : Machine) (asked : SignRequest) (way : Option Way) (reply : List ℕ) (new : Machine)
+asks_must : (signs : SignRelation) (old : Machine) (asked : SignRequest) (way : Option SigningWay) (reply : List ℕ) (new : Machine)
     → Asks signs old asked way reply new → way ≡ None → Still old Fails reply new
 asks_must signs old asked (Some way) reply new asks none = cc none
 asks_must signs old asked None reply new asks none = asks
 
-sign_must : (signs : Relation) (b : Bool) (old : Machine) (asked : SignRequest) (reply : List ℕ) (new : Machine)
+sign_must : (signs : SignRelation) (b : Bool) (old : Machine) (asked : SignRequest) (reply : List ℕ) (new : Machine)
     → MatchBool b (Still old Fails reply new) (AsksWith signs old asked reply new ⊎ AsksNone old asked reply new)
     → ((b ≡ true) ⊎ (HasNone asked.key old.kept.identities ⊎ (way_for (kind_of asked.key) asked.flags ≡ None)))
     → Still old Fails reply new
@@ -142,7 +142,7 @@ sign_must signs false old asked reply new (inl asks) (inr (inr none)) =
     asks_must signs old asked (way_for (kind_of asked.key) asked.flags) reply new asks.asks none
 sign_must signs false old asked reply new (inr none) (inr cause) = none.fails
 
-asks_only : (signs : Relation) (old : Machine) (asked : SignRequest) (way : Option Way) (reply : List ℕ) (new : Machine)
+asks_only : (signs : SignRelation) (old : Machine) (asked : SignRequest) (way : Option SigningWay) (reply : List ℕ) (new : Machine)
     → way_for (kind_of asked.key) asked.flags ≡ way → Asks signs old asked way reply new → reply ≡ failure
     → (way ≡ None) ⊎ SignerFails signs old (Sign asked) new
 asks_only signs old asked None reply new is asks fails = inl refl
@@ -155,7 +155,7 @@ asks_only signs old asked (Some way) reply new is (inl signed) fails = inr (inr 
 }))
 asks_only signs old asked (Some way) reply new is (inr unsigned) fails = inr (inl unsigned.rose)
 
-sign_only : (signs : Relation) (b : Bool) (old : Machine) (asked : SignRequest) (reply : List ℕ) (new : Machine)
+sign_only : (signs : SignRelation) (b : Bool) (old : Machine) (asked : SignRequest) (reply : List ℕ) (new : Machine)
     → MatchBool b (Still old Fails reply new) (AsksWith signs old asked reply new ⊎ AsksNone old asked reply new)
     → reply ≡ failure
     → ((b ≡ true) ⊎ (HasNone asked.key old.kept.identities ⊎ (way_for (kind_of asked.key) asked.flags ≡ None)))
@@ -177,7 +177,7 @@ both_as_were : (old : Machine) (reply : List ℕ) (new : Machine) → Still old 
     → Fails old.kept reply new.kept × (new.faults ≡ old.faults)
 both_as_were old reply new still = (still.row_holds, still.calm)
 
-must_fail : (signs : Relation) (old : Machine) (request : Request) (reply : List ℕ) (new : Machine)
+must_fail : (signs : SignRelation) (old : Machine) (request : Request) (reply : List ℕ) (new : Machine)
     → StepOn signs old request reply new → MustFail old.kept request → Fails old.kept reply new.kept × (new.faults ≡ old.faults)
 must_fail signs old Identities reply new step long =
     ((step.row_holds.0 ∙ too_long_fails (listing (shown old.kept)) long, step.row_holds.1), step.calm)
@@ -197,7 +197,7 @@ must_fail signs old (Unlock pass) reply new step cause = (
 )
 must_fail signs old Unfit reply new step cause = (step.row_holds, step.calm)
 
-only_fails : (signs : Relation) (old : Machine) (request : Request) (reply : List ℕ) (new : Machine)
+only_fails : (signs : SignRelation) (old : Machine) (request : Request) (reply : List ℕ) (new : Machine)
     → StepOn signs old request reply new → reply ≡ failure → MustFail old.kept request ⊎ SignerFails signs old request new
 only_fails signs old Identities reply new step fails =
     let rest : List ℕ = to_be_bytes w32 (length (shown old.kept)) ++ flat_map entry (shown old.kept) in
@@ -216,7 +216,7 @@ only_fails signs old (Unlock pass) reply new step fails =
 only_fails signs old Unfit reply new step fails = inl tt
 
 -- a step has the failure for a cause alone, and for each
-pub fails_for_cause : (signs : Relation) (old : Machine) (message reply : List ℕ) (new : Machine)
+pub fails_for_cause : (signs : SignRelation) (old : Machine) (message reply : List ℕ) (new : Machine)
     → Step signs old message reply new → FailsForCause signs old message reply new
 unfolding Step
 fails_for_cause signs old message reply new step = record {

@@ -2,7 +2,7 @@
 use Rattle.std.proofs.Common.{◌≡◌, ◌⊎◌, ◌∙◌, ℕ, Bool, false, List, get_or, Result, Ok, Err, Option, Some, None, IfOk, MatchBool}
 use Rattle.std.proofs.Common.{ap, inl, refl, subst, sym}
 use Rattle.std.proofs.lemmas.Option.{get_or_from_slice_get}
-use Rattle.picky_suite.specs.Signs.{Relation}
+use Rattle.picky_suite.specs.Signs.{SignRelation}
 use Rattle.picky_keys.specs.declared.key.SshBasePublicKey.{SshBasePublicKey}
 use Rattle.picky_keys.specs.Key.{kind_of}
 use Rattle.picky_sshkey_blob.specs.Key.{public_part}
@@ -11,7 +11,7 @@ use Rattle.picky_agent_state.specs.Kept.{Kept, Machine, is_locked, machine}
 use Rattle.picky_agent_state.specs.Held.{IsAt}
 use Rattle.picky_agent_state.specs.Request.{Request, SignRequest, request_of, sign_request}
 use Rattle.picky_agent_state.specs.Reply.{failure}
-use Rattle.picky_agent_state.specs.Signing.{Way, way_for}
+use Rattle.picky_agent_state.specs.Signing.{SigningWay, way_for}
 use Rattle.picky_agent_state.specs.Rows.{Fails}
 use Rattle.picky_agent_state.specs.Step.{Asks, AsksNone, AsksToSign, AsksWith, CanSign, Step, StepOn, Still}
 
@@ -24,7 +24,7 @@ held_has key identities place held at is =
     ap (λ (i : Identity). public_part i.key) (is ∙ get_or_from_slice_get identities place at.identity held at.stands) ∙ at.has
 
 -- what asks the signer with that identity is the row
-pub asks_with : {E : Type 0} (signs : Relation) (old : Machine) (asked : SignRequest) (new : Machine) (r : Result (List ℕ) E)
+pub asks_with : {E : Type 0} (signs : SignRelation) (old : Machine) (asked : SignRequest) (new : Machine) (r : Result (List ℕ) E)
     (place : ℕ) (held : Identity) → is_locked old.kept ≡ false → IsAt asked.key old.kept.identities place
     → held ≡ get_or old.kept.identities place held
     → IfOk r (λ reply. Asks signs old (sign_request (public_part held.key) asked.message asked.flags)
@@ -51,7 +51,7 @@ no_way kept asked place held unlocked at is never =
     ap (λ (k : SshBasePublicKey). way_for (kind_of k) asked.flags) (held_has asked.key kept.identities place held at is)
     ∙ go (way_for (kind_of asked.key) asked.flags) refl
   where
-    go : (way : Option Way) → way_for (kind_of asked.key) asked.flags ≡ way → way_for (kind_of asked.key) asked.flags ≡ None
+    go : (way : Option SigningWay) → way_for (kind_of asked.key) asked.flags ≡ way → way_for (kind_of asked.key) asked.flags ≡ None
     go None is_way = is_way
     go (Some way) is_way =
         absurd (never (record { unlocked = unlocked; place = place; is_at = at; way = way; is_way = is_way }))
@@ -71,7 +71,7 @@ stays old new faults row (Ok reply) here = record { calm = refl; row_holds = her
 stays old new faults row (Err e) here = tt
 
 -- the row of the message's request is its step
-pub steps : {E : Type 0} (signs : Relation) (old new : Machine) (request : Request) (message : List ℕ) (r : Result (List ℕ) E)
+pub steps : {E : Type 0} (signs : SignRelation) (old new : Machine) (request : Request) (message : List ℕ) (r : Result (List ℕ) E)
     → request ≡ request_of message → IfOk r (λ reply. StepOn signs old request reply new)
     → IfOk r (λ reply. Step signs old message reply new)
 unfolding Step

@@ -21,7 +21,7 @@ rsa_hash flags =
     else if is_set flags 4 then hashes.SHA2_512
     else hashes.SHA1
 
--- a hardware key signs nothing here
+-- a security key signs nothing here
 abbrev pub algorithm_for : KeyKind → (flags : ℕ) → Option SignatureAlgorithm
 algorithm_for kinds.Rsa flags = Some (algorithms.RsaPkcs1v15 (rsa_hash flags))
 algorithm_for (kinds.Ec NistP256) flags = Some (algorithms.Ecdsa hashes.SHA2_256)
@@ -32,11 +32,11 @@ algorithm_for kinds.SkEcdsaSha2NistP256 flags = None
 algorithm_for kinds.SkEd25519 flags = None
 
 -- the algorithm, and the format of its signatures
-abbrev pub Way : Type 0
-Way = SignatureAlgorithm × SshSignatureFormat
+abbrev pub SigningWay : Type 0
+SigningWay = SignatureAlgorithm × SshSignatureFormat
 
-abbrev pub with_format : KeyKind → SignatureAlgorithm → Option Way
+abbrev pub with_format : KeyKind → SignatureAlgorithm → Option SigningWay
 with_format kind algorithm = option_map (λ format. (algorithm, format)) (format_of kind algorithm)
 
-abbrev pub way_for : KeyKind → (flags : ℕ) → Option Way
+abbrev pub way_for : KeyKind → (flags : ℕ) → Option SigningWay
 way_for kind flags = option_and_then (with_format kind) (algorithm_for kind flags)

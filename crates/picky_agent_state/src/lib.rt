@@ -1,4 +1,6 @@
 //! What an SSH agent keeps, and how it answers a message (draft-miller-ssh-agent-04).
+//!
+//! Read first: `specs/Step.antt` and `specs/Failure.antt`; then `src/agent.rt`.
 #![tactic(auto)]
 
 mod agent;

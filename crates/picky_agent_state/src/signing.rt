@@ -33,7 +33,7 @@ fn rsa_hash(flags: u32) -> HashAlgorithm
     }
 }
 
-/// The algorithm by which a kind of key signs. A hardware key signs nothing here.
+/// The algorithm by which a kind of key signs. A security key signs nothing here.
 fn algorithm_for(kind: KeyKind, flags: u32) -> Option<SignatureAlgorithm>
     ensures { result ≡ algorithm_of kind flags }
 {
@@ -60,7 +60,7 @@ fn way_for(kind: KeyKind, flags: u32) -> Option<(SignatureAlgorithm, SshSignatur
     }
 }
 
-/// A signature of the message with the key; the failure for a hardware key, or where the signer failed. Refuses: `NoMemory`.
+/// A signature of the message with the key; the failure for a security key, or where the signer failed. Refuses: `NoMemory`.
 pub(crate) fn sign_with<G: Signer>(
     alloc: Global,
     signer: &mut G,

@@ -13,7 +13,7 @@ use Rattle.picky_authorized.specs.declared.entry.AuthContent.{AuthContent}
 use Rattle.picky_authorized.specs.declared.entry.AuthContent.TheVariants as contents
 use Rattle.picky_authorized.specs.declared.quotes.PartEnd.TheVariants.{Blank}
 use Rattle.picky_authorized.specs.KnownOptions.{are_fit}
-use Rattle.picky_authorized.specs.Lines.{HasOptions, IsSplit, Says, begins_with_key, content_of, key_content, optioned, without_blanks}
+use Rattle.picky_authorized.specs.Lines.{HasOptions, IsSplit, IsContentSaid, begins_with_key, content_of, key_content, optioned, without_blanks}
 use Rattle.picky_authorized.specs.Options.{options_in}
 use Rattle.picky_authorized.specs.Quotes.{ends_at, front_outside, is_blank, rest_outside}
 use Rattle.picky_authorized.proofs.OptionsLaws.{options_are, options_say}
@@ -67,12 +67,12 @@ options_of line options key_line has =
 -- ---- what a line says is its content
 
 key_says : (line : List ℕ) (options : List AuthOption) (key_line : List ℕ) (read : Result SshPublicKey SshPublicKeyError)
-    → IsSplit line options key_line → IsBytes key_line → line_meaning key_line ≡ read → Says line (key_content options read)
+    → IsSplit line options key_line → IsBytes key_line → line_meaning key_line ≡ read → IsContentSaid line (key_content options read)
 key_says line options key_line (Ok key) split each is = (key_line, split, line_meaning_says key_line key each is)
 key_says line options key_line (Err e) split each is = (options, key_line, split, is)
 
 optioned_says : (line : List ℕ) (said : Option (List AuthOption)) → IsBytes line → begins_with_key line ≡ false
-    → options_in (front_in line) ≡ said → Says line (optioned (behind_in line) said)
+    → options_in (front_in line) ≡ said → IsContentSaid line (optioned (behind_in line) said)
 optioned_says line None each other is =
     (other, λ options key_line has. absurd (cc (is, (options_of line options key_line has).0)))
 optioned_says line (Some options) each other is = elim (cases_Bool (are_fit options)) [
@@ -89,7 +89,7 @@ optioned_says line (Some options) each other is = elim (cases_Bool (are_fit opti
       )
 ]
 
-pub content_says : (line : List ℕ) → IsBytes line → Says line (content_of line)
+pub content_says : (line : List ℕ) → IsBytes line → IsContentSaid line (content_of line)
 unfolding content_of
 content_says line each = elim (cases_Bool (begins_with_key line)) [
   | inl begins ↦ rw begins (key_says line [] line (line_meaning line) (inl (begins, refl, refl)) each refl)
@@ -120,7 +120,7 @@ bad_content line (Some options) is none = elim (cases_Bool (are_fit options)) [
   | inr unfit ↦ rw unfit refl
 ]
 
-pub content_is : (line : List ℕ) (content : AuthContent) → Says line content → content_of line ≡ content
+pub content_is : (line : List ℕ) (content : AuthContent) → IsContentSaid line content → content_of line ≡ content
 unfolding content_of
 content_is line (contents.Key options key) (key_line, split, is) =
     split_content line options key_line split ∙ ap (key_content options) (line_meaning_of key_line key is)

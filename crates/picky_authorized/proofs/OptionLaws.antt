@@ -7,8 +7,8 @@ use Rattle.std.specs.List.{AllByRecursion, after_first, before_first, list_all, 
 use Rattle.std.specs.Option.{option_map}
 use Rattle.picky_text.proofs.ListLaws.{all_append, cut_at_first, uncut}
 use Rattle.picky_authorized.specs.declared.auth_option.AuthOption.{AuthOption}
-use Rattle.picky_authorized.specs.OptionText.{IsClosed, IsOption, escaped, is_equals, is_name, is_name_byte, named, option_in}
-use Rattle.picky_authorized.specs.OptionText.{quoted_text_in, text_in, value_in, value_spelled}
+use Rattle.picky_authorized.specs.OptionText.{IsClosed, IsOptionText, escaped, is_equals, is_name, is_name_byte, auth_option_named, option_in}
+use Rattle.picky_authorized.specs.OptionText.{quoted_text_in, escaped_value, value_in, value_spelled}
 use Rattle.picky_authorized.proofs.ValueLemmas.{behind, text_goes}
 
 -- ---- options of a type
@@ -43,9 +43,9 @@ escaped_plain : (b : ℕ) (value : List ℕ) → (b == 34) ≡ false → escaped
 escaped_plain b value other = rw other refl
 
 -- is spelled so
-pub text_spelled : (text value : List ℕ) → text_in text ≡ Some value
+pub text_spelled : (text value : List ℕ) → escaped_value text ≡ Some value
     → (text ≡ escaped value ++ 34 ∷ []) × IsClosed (Some value)
-unfolding text_in
+unfolding escaped_value
 text_spelled [] value is = absurd (cc is)
 text_spelled (b ∷ []) value is = elim (cases_Bool (b == 34)) [
   | inl quote ↦
@@ -57,7 +57,7 @@ text_spelled (b ∷ []) value is = elim (cases_Bool (b == 34)) [
 ]
 text_spelled (b ∷ c ∷ bs) value is = elim (cases_Bool (b == 92 && c == 34)) [
   | inl quote ↦
-      let rest = mapped (λ v. 34 ∷ v) (text_in bs) value (rw quote at is) in
+      let rest = mapped (λ v. 34 ∷ v) (escaped_value bs) value (rw quote at is) in
       let more = text_spelled bs rest.0 rest.1 in
       let parts = and_parts (b == 92) (c == 34) quote in
       let whole : b ∷ c ∷ bs ≡ 92 ∷ 34 ∷ (escaped rest.0 ++ 34 ∷ []) =
@@ -69,7 +69,7 @@ text_spelled (b ∷ c ∷ bs) value is = elim (cases_Bool (b == 92 && c == 34)) 
   | inr plain ↦ elim (cases_Bool (b == 34)) [
     | inl end ↦ absurd (cc (rw (plain, end) at is))
     | inr other ↦
-        let rest = mapped (λ v. b ∷ v) (text_in (c ∷ bs)) value (rw (plain, other) at is) in
+        let rest = mapped (λ v. b ∷ v) (escaped_value (c ∷ bs)) value (rw (plain, other) at is) in
         let more = text_spelled (c ∷ bs) rest.0 rest.1 in
         let whole : b ∷ c ∷ bs ≡ escaped (b ∷ rest.0) ++ 34 ∷ [] =
         ap (λ l. b ∷ l) more.0 ∙ ap (λ e. e ++ 34 ∷ []) (sym (escaped_plain b rest.0 other)) in
@@ -92,8 +92,8 @@ first_escaped c value more = elim (cases_Bool (c == 34)) [
   | inr other ↦ (c, escaped value ++ more, rw other refl, eqb-false c 34 other)
 ]
 
-pub text_read : (value : List ℕ) → IsClosed (Some value) → text_in (escaped value ++ 34 ∷ []) ≡ Some value
-unfolding text_in
+pub text_read : (value : List ℕ) → IsClosed (Some value) → escaped_value (escaped value ++ 34 ∷ []) ≡ Some value
+unfolding escaped_value
 text_read [] closed = refl
 text_read (b ∷ []) closed = elim (cases_Bool (b == 34)) [
   | inl quote ↦ rw quote (ap (λ c. Some (c ∷ [])) (sym (eqb-true b 34 quote)))
@@ -107,8 +107,8 @@ text_read (b ∷ c ∷ value) closed = elim (cases_Bool (b == 34)) [
   | inr other ↦
       let first = first_escaped c value (34 ∷ []) in
       rw other
-      (ap (λ l. text_in (b ∷ l)) first.2 ∙ text_goes b first.0 first.1 (eqb-false b 34 other) (λ _. first.3)
-      ∙ ap (λ l. behind (b ∷ []) (text_in l)) (sym first.2)
+      (ap (λ l. escaped_value (b ∷ l)) first.2 ∙ text_goes b first.0 first.1 (eqb-false b 34 other) (λ _. first.3)
+      ∙ ap (λ l. behind (b ∷ []) (escaped_value l)) (sym first.2)
       ∙ ap (behind (b ∷ [])) (text_read (c ∷ value) (closed_shorter b (c ∷ value) closed)))
 ]
 
@@ -219,15 +219,15 @@ value_says text value is = elim (cases_Bool (list_any is_equals text)) [
       )
 ]
 
-pub option_says : (text : List ℕ) (o : AuthOption) → option_in text ≡ Some o → IsOption text o
+pub option_says : (text : List ℕ) (o : AuthOption) → option_in text ≡ Some o → IsOptionText text o
 unfolding option_in
 option_says text o is =
     let name : List ℕ = before_first is_equals text in
     elim (cases_Bool (is_name name)) [
       | inl letters ↦
-          let said = mapped (named name) (value_in text) o (rw letters at is) in
+          let said = mapped (auth_option_named name) (value_in text) o (rw letters at is) in
           let value = value_says text said.0 said.1 in
-          let of_named : IsOption text (named name said.0) = record {
+          let of_named : IsOptionText text (auth_option_named name said.0) = record {
             name = name;
             some = some_of_name name letters;
             letters = all_letters name (and_parts (not (length name == 0)) (list_all is_name_byte name) letters).1;
@@ -235,7 +235,7 @@ option_says text o is =
             spelled = value.0;
             closed = value.1;
           } in
-          subst (IsOption text) said.2 of_named
+          subst (IsOptionText text) said.2 of_named
       | inr other ↦ absurd (cc (rw other at is))
     ]
 
@@ -255,10 +255,10 @@ value_is name (Some value) each closed =
       rw (equals_there name rest, cut.after) (ap (option_map Some) (text_read value closed)),
     )
 
-pub option_is : (text : List ℕ) (o : AuthOption) → IsOption text o → option_in text ≡ Some o
+pub option_is : (text : List ℕ) (o : AuthOption) → IsOptionText text o → option_in text ≡ Some o
 unfolding option_in
 option_is text o is =
     let value = value_is is.name o.value is.letters is.closed in
-    let made : named is.name o.value ≡ o = λ i. record { name = sym is.lower i; value = o.value } in
+    let made : auth_option_named is.name o.value ≡ o = λ i. record { name = sym is.lower i; value = o.value } in
     ap option_in is.spelled
     ∙ rw (value.0, is_some_name is.name is.some is.letters, value.1) (ap Some made)

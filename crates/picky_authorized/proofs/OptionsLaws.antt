@@ -7,7 +7,7 @@ use Rattle.std.specs.List.{AllByRecursion}
 use Rattle.std.specs.Option.{option_map}
 use Rattle.picky_authorized.specs.declared.auth_option.AuthOption.{AuthOption}
 use Rattle.picky_authorized.specs.declared.quotes.PartEnd.TheVariants.{Comma}
-use Rattle.picky_authorized.specs.OptionText.{IsClosed, IsOption, escaped, is_name_byte, option_in, value_spelled}
+use Rattle.picky_authorized.specs.OptionText.{IsClosed, IsOptionText, escaped, is_name_byte, option_in, value_spelled}
 use Rattle.picky_authorized.specs.Options.{AreOptions, onto_options, options_in}
 use Rattle.picky_authorized.specs.Quotes.{ends_at, front_from, front_outside, rest_outside}
 use Rattle.picky_authorized.proofs.OptionLaws.{closed_shorter, option_is, option_says}
@@ -78,7 +78,7 @@ valued_run before (Some value) more closed follows =
     ∙ quoted_run 34 value more closed (λ _. refl)
     ∙ ap (λ l. escaped value ++ 34 ∷ l) (stops_there 34 more follows))
 
-option_run : (text : List ℕ) (o : AuthOption) (more : List ℕ) → IsOption text o → MayFollow more
+option_run : (text : List ℕ) (o : AuthOption) (more : List ℕ) → IsOptionText text o → MayFollow more
     → front_from comma false 0 (text ++ more) ≡ text
 option_run text o more is follows =
     ap (λ t. front_from comma false 0 (t ++ more)) is.spelled
@@ -88,7 +88,7 @@ option_run text o more is follows =
     ∙ sym is.spelled
 
 -- so it is the front of a text that it begins, and what follows it is the rest
-option_front : (whole text more : List ℕ) (o : AuthOption) → whole ≡ text ++ more → IsOption text o → MayFollow more
+option_front : (whole text more : List ℕ) (o : AuthOption) → whole ≡ text ++ more → IsOptionText text o → MayFollow more
     → (front_outside (ends_at Comma) whole ≡ text) × (rest_outside (ends_at Comma) whole ≡ more)
 unfolding front_outside rest_outside
 option_front whole text more o is said follows =
@@ -134,17 +134,17 @@ first_says text os is =
 
 -- one option is the whole text
 alone : (text : List ℕ) (p : AuthOption) (rest : List ℕ) → rest_outside (ends_at Comma) text ≡ rest
-    → IsOption (front_outside (ends_at Comma) text) p → rest_options rest ≡ Some [] → IsOption text p
+    → IsOptionText (front_outside (ends_at Comma) text) p → rest_options rest ≡ Some [] → IsOptionText text p
 alone text p [] at said behind =
     let front : List ℕ = front_outside (ends_at Comma) text in
-    subst (λ t. IsOption t p) (sym (append-nil front) ∙ ap (λ r. front ++ r) (sym at) ∙ split_whole (ends_at Comma) text) said
+    subst (λ t. IsOptionText t p) (sym (append-nil front) ∙ ap (λ r. front ++ r) (sym at) ∙ split_whole (ends_at Comma) text) said
 alone text p (b ∷ more) at said behind = let first = first_says more [] behind in absurd (cc first.4)
 
 -- and others stand behind a comma
 with_others : (text : List ℕ) (p next : AuthOption) (others : List AuthOption) (rest : List ℕ)
     → rest_outside (ends_at Comma) text ≡ rest
     → ((tail : List ℕ) → options_in tail ≡ Some (next ∷ others) → AreOptions tail (next ∷ others))
-    → IsOption (front_outside (ends_at Comma) text) p → rest_options rest ≡ Some (next ∷ others)
+    → IsOptionText (front_outside (ends_at Comma) text) p → rest_options rest ≡ Some (next ∷ others)
     → AreOptions text (p ∷ next ∷ others)
 unfolding front_outside rest_outside
 with_others text p next others [] at more said behind = absurd (cc behind)

@@ -8,7 +8,7 @@ use Rattle.std.specs.Option.{option_map}
 use Rattle.picky_text.specs.Lines.{HasNo}
 use Rattle.picky_text.proofs.ListLaws.{all_front, none_passes}
 use Rattle.picky_authorized.specs.declared.auth_option.AuthOption.{AuthOption}
-use Rattle.picky_authorized.specs.OptionText.{is_equals, is_name, named, option_in, quoted_text_in, text_in}
+use Rattle.picky_authorized.specs.OptionText.{is_equals, is_name, auth_option_named, option_in, quoted_text_in, escaped_value}
 
 -- ---- options of values
 
@@ -24,8 +24,8 @@ behind_both xs ys (Some v) = ap Some (sym (append_assoc xs ys v))
 
 -- a byte that is no quote is the value's, unless it is a backslash before one
 pub text_goes : (b c : ℕ) (bs : List ℕ) → b ≢ 34 → (b ≡ 92 → c ≢ 34)
-    → text_in (b ∷ c ∷ bs) ≡ behind (b ∷ []) (text_in (c ∷ bs))
-unfolding text_in
+    → escaped_value (b ∷ c ∷ bs) ≡ behind (b ∷ []) (escaped_value (c ∷ bs))
+unfolding escaped_value
 text_goes b c bs other apart = elim (cases_Bool (b == 92)) [
   | inl backslash ↦
       let next : (c == 34) ≡ false = ne_eqb c 34 (apart (eqb-true b 92 backslash)) in
@@ -35,16 +35,16 @@ text_goes b c bs other apart = elim (cases_Bool (b == 92)) [
 
 -- up to a quote behind a backslash, which is the value's
 pub text_at_escaped : (front after : List ℕ) → HasNo 34 front
-    → text_in (front ++ 92 ∷ 34 ∷ after) ≡ behind (front ++ 34 ∷ []) (text_in after)
-unfolding text_in
+    → escaped_value (front ++ 92 ∷ 34 ∷ after) ≡ behind (front ++ 34 ∷ []) (escaped_value after)
+unfolding escaped_value
 text_at_escaped [] after none = refl
 text_at_escaped (b ∷ []) after none =
     text_goes b 92 (34 ∷ after) none.0 (λ _ same. omega (arith, same))
-    ∙ ap (behind (b ∷ [])) (text_at_escaped [] after tt) ∙ behind_both (b ∷ []) (34 ∷ []) (text_in after)
+    ∙ ap (behind (b ∷ [])) (text_at_escaped [] after tt) ∙ behind_both (b ∷ []) (34 ∷ []) (escaped_value after)
 text_at_escaped (b ∷ c ∷ front) after none =
     text_goes b c (front ++ 92 ∷ 34 ∷ after) none.0 (λ _. none.1.0)
     ∙ ap (behind (b ∷ [])) (text_at_escaped (c ∷ front) after none.1)
-    ∙ behind_both (b ∷ []) (c ∷ front ++ 34 ∷ []) (text_in after)
+    ∙ behind_both (b ∷ []) (c ∷ front ++ 34 ∷ []) (escaped_value after)
 
 -- the piece before a quote doesn't end in a backslash
 abbrev pub IsPiece : List ℕ → Type 0
@@ -57,8 +57,8 @@ piece_behind : (b : ℕ) (piece : List ℕ) → IsPiece (b ∷ piece) → IsPiec
 piece_behind b piece is front same = is (b ∷ front) (ap (λ l. b ∷ l) same)
 
 -- at that quote the value ends, and so has to end the text
-pub text_at_end : (piece : List ℕ) → HasNo 34 piece → IsPiece piece → text_in (piece ++ 34 ∷ []) ≡ Some piece
-unfolding text_in
+pub text_at_end : (piece : List ℕ) → HasNo 34 piece → IsPiece piece → escaped_value (piece ++ 34 ∷ []) ≡ Some piece
+unfolding escaped_value
 text_at_end [] none is = refl
 text_at_end (b ∷ []) none is =
     text_goes b 34 [] none.0 (λ backslash. absurd (is [] (ap (λ c. c ∷ []) backslash)))
@@ -67,8 +67,8 @@ text_at_end (b ∷ c ∷ piece) none is =
     ∙ ap (behind (b ∷ [])) (text_at_end (c ∷ piece) none.1 (piece_behind b (c ∷ piece) is))
 
 pub text_past_end : (piece : List ℕ) (d : ℕ) (more : List ℕ) → HasNo 34 piece → IsPiece piece
-    → text_in (piece ++ 34 ∷ d ∷ more) ≡ None
-unfolding text_in
+    → escaped_value (piece ++ 34 ∷ d ∷ more) ≡ None
+unfolding escaped_value
 text_past_end [] d more none is = refl
 text_past_end (b ∷ []) d more none is =
     text_goes b 34 (d ∷ more) none.0 (λ backslash. absurd (is [] (ap (λ c. c ∷ []) backslash)))
@@ -78,8 +78,8 @@ text_past_end (b ∷ c ∷ piece) d more none is =
     ∙ ap (behind (b ∷ [])) (text_past_end (c ∷ piece) d more none.1 (piece_behind b (c ∷ piece) is))
 
 -- without a quote there is no value
-pub text_without_end : (text : List ℕ) → HasNo 34 text → text_in text ≡ None
-unfolding text_in
+pub text_without_end : (text : List ℕ) → HasNo 34 text → escaped_value text ≡ None
+unfolding escaped_value
 text_without_end [] none = refl
 text_without_end (b ∷ []) none = rw (ne_eqb b 34 none.0) refl
 text_without_end (b ∷ c ∷ text) none =
@@ -88,37 +88,37 @@ text_without_end (b ∷ c ∷ text) none =
 -- ---- the value so far
 
 -- one piece more, and the quote behind its backslash
-pub value_goes : (value next piece front rest after text : List ℕ) → behind value (text_in rest) ≡ text_in text
+pub value_goes : (value next piece front rest after text : List ℕ) → behind value (escaped_value rest) ≡ escaped_value text
     → rest ≡ piece ++ 34 ∷ after → piece ≡ front ++ 92 ∷ [] → HasNo 34 piece → next ≡ (value ++ front) ++ 34 ∷ []
-    → behind next (text_in after) ≡ text_in text
+    → behind next (escaped_value after) ≡ escaped_value text
 value_goes value next piece front rest after text before is ends none more =
     let none_in_front : HasNo 34 front = all_front (λ c. c ≢ 34) front (92 ∷ []) (subst (HasNo 34) ends none) in
     let whole : rest ≡ front ++ 92 ∷ 34 ∷ after =
     is ∙ ap (λ l. l ++ 34 ∷ after) ends ∙ append_assoc front (92 ∷ []) (34 ∷ after) in
-    ap (λ v. behind v (text_in after)) (more ∙ append_assoc value front (34 ∷ []))
-    ∙ sym (behind_both value (front ++ 34 ∷ []) (text_in after))
-    ∙ ap (behind value) (sym (ap text_in whole ∙ text_at_escaped front after none_in_front)) ∙ before
+    ap (λ v. behind v (escaped_value after)) (more ∙ append_assoc value front (34 ∷ []))
+    ∙ sym (behind_both value (front ++ 34 ∷ []) (escaped_value after))
+    ∙ ap (behind value) (sym (ap escaped_value whole ∙ text_at_escaped front after none_in_front)) ∙ before
 
 -- the last piece, whose quote ends the text
-pub value_ends : (value next piece rest after text : List ℕ) → behind value (text_in rest) ≡ text_in text
+pub value_ends : (value next piece rest after text : List ℕ) → behind value (escaped_value rest) ≡ escaped_value text
     → rest ≡ piece ++ 34 ∷ after → HasNo 34 piece → IsPiece piece → (length after == 0) ≡ true → next ≡ value ++ piece
-    → Some next ≡ text_in text
+    → Some next ≡ escaped_value text
 value_ends value next piece rest [] text before is none last empty more =
-    ap Some more ∙ ap (behind value) (sym (ap text_in is ∙ text_at_end piece none last)) ∙ before
+    ap Some more ∙ ap (behind value) (sym (ap escaped_value is ∙ text_at_end piece none last)) ∙ before
 value_ends value next piece rest (d ∷ after) text before is none last empty more =
     absurd (omega (arith, eqb-true (length (d ∷ after)) 0 empty))
 
 -- or doesn't
-pub value_is_open : (value piece rest after text : List ℕ) → behind value (text_in rest) ≡ text_in text
+pub value_is_open : (value piece rest after text : List ℕ) → behind value (escaped_value rest) ≡ escaped_value text
     → rest ≡ piece ++ 34 ∷ after → HasNo 34 piece → IsPiece piece → (length after == 0) ≡ false
-    → None ≡ text_in text
+    → None ≡ escaped_value text
 value_is_open value piece rest [] text before is none last some = cc some
 value_is_open value piece rest (d ∷ after) text before is none last some =
-    ap (behind value) (sym (ap text_in is ∙ text_past_end piece d after none last)) ∙ before
+    ap (behind value) (sym (ap escaped_value is ∙ text_past_end piece d after none last)) ∙ before
 
 -- no quote ends it
-pub value_never_ends : (value rest text : List ℕ) → behind value (text_in rest) ≡ text_in text → HasNo 34 rest
-    → None ≡ text_in text
+pub value_never_ends : (value rest text : List ℕ) → behind value (escaped_value rest) ≡ escaped_value text → HasNo 34 rest
+    → None ≡ escaped_value text
 value_never_ends value rest text before none = ap (behind value) (sym (text_without_end rest none)) ∙ before
 
 -- a text that begins with no quote has no value
@@ -129,7 +129,7 @@ unquoted_none (b ∷ bs) other = rw (ne_eqb b 34 (λ same. other bs (ap (λ c. c
 -- ---- a name without a value
 
 pub bare_option : (text : List ℕ) (o : AuthOption) → position_or_len is_equals text ≡ length text → is_name text ≡ true
-    → o ≡ named text None → Some o ≡ option_in text
+    → o ≡ auth_option_named text None → Some o ≡ option_in text
 unfolding option_in
 bare_option text o ends is made =
     let none : list_any is_equals text ≡ false = none_passes is_equals text ends in

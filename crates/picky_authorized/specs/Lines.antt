@@ -41,11 +41,11 @@ IsSplit line options key_line =
     ⊎ ((begins_with_key line ≡ false) × HasOptions line options key_line)
 
 -- a key with its options; options that don't fit; or the refusal of the public line behind those that do
-abbrev pub Says : (line : List ℕ) → AuthContent → Type 0
-Says line (contents.Key options key) = (key_line : List ℕ) × IsSplit line options key_line × IsPublicLine key_line key
-Says line contents.BadOptions =
+abbrev pub IsContentSaid : (line : List ℕ) → AuthContent → Type 0
+IsContentSaid line (contents.Key options key) = (key_line : List ℕ) × IsSplit line options key_line × IsPublicLine key_line key
+IsContentSaid line contents.BadOptions =
     (begins_with_key line ≡ false) × ((options : List AuthOption) (key_line : List ℕ) → HasOptions line options key_line → ⊥)
-Says line (contents.Unread e) =
+IsContentSaid line (contents.Unread e) =
     (options : List AuthOption) × (key_line : List ℕ) × IsSplit line options key_line × (line_meaning key_line ≡ Err e)
 
 -- ---- the content of a line

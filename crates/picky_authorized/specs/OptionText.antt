@@ -28,7 +28,7 @@ IsClosed None = Unit {0}
 IsClosed (Some value) = slice_index value (length value - 1) ≢ 92
 
 -- NAME or NAME="TEXT", whose name is kept in lower case
-pub record IsOption (text : List ℕ) (o : AuthOption) : Type 0 where
+pub record IsOptionText (text : List ℕ) (o : AuthOption) : Type 0 where
   pub name : List ℕ
   pub some : 0 < length name
   pub letters : AllByRecursion (λ b. is_name_byte b ≡ true) name
@@ -47,21 +47,21 @@ abbrev pub is_equals : ℕ → Bool
 is_equals b = b == 61
 
 -- the value whose quotes have backslashes before them, up to the one quote without, which ends the text
-unfoldable pub text_in : List ℕ → Option (List ℕ)
-text_in [] = None
-text_in (b ∷ []) = if b == 34 then Some [] else None
-text_in (b ∷ c ∷ bs) =
-    if b == 92 && c == 34 then option_map (λ value. 34 ∷ value) (text_in bs)
-    else if b == 34 then None else option_map (λ value. b ∷ value) (text_in (c ∷ bs))
+unfoldable pub escaped_value : List ℕ → Option (List ℕ)
+escaped_value [] = None
+escaped_value (b ∷ []) = if b == 34 then Some [] else None
+escaped_value (b ∷ c ∷ bs) =
+    if b == 92 && c == 34 then option_map (λ value. 34 ∷ value) (escaped_value bs)
+    else if b == 34 then None else option_map (λ value. b ∷ value) (escaped_value (c ∷ bs))
 
 -- the same behind the quote that opens it
 abbrev pub quoted_text_in : List ℕ → Option (List ℕ)
 quoted_text_in [] = None
-quoted_text_in (b ∷ bs) = if b == 34 then text_in bs else None
+quoted_text_in (b ∷ bs) = if b == 34 then escaped_value bs else None
 
 -- an option of this name
-abbrev pub named : (name : List ℕ) → Option (List ℕ) → AuthOption
-named name value = record { name = map to_ascii_lowercase name; value = value }
+abbrev pub auth_option_named : (name : List ℕ) → Option (List ℕ) → AuthOption
+auth_option_named name value = record { name = map to_ascii_lowercase name; value = value }
 
 -- the value behind the first equals sign, and no value where none stands
 abbrev pub value_in : (text : List ℕ) → Option (Option (List ℕ))
@@ -71,4 +71,4 @@ value_in text =
 -- the option that the text says, where it says one
 unfoldable pub option_in : (text : List ℕ) → Option AuthOption
 option_in text =
-    if is_name (before_first is_equals text) then option_map (named (before_first is_equals text)) (value_in text) else None
+    if is_name (before_first is_equals text) then option_map (auth_option_named (before_first is_equals text)) (value_in text) else None

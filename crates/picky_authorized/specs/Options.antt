@@ -3,15 +3,15 @@ use Rattle.std.specs.Prelude.{◌≡◌, ℕ, List, [], ◌∷◌, ◌++◌, Opt
 use Rattle.std.specs.Option.{option_map}
 use Rattle.picky_authorized.specs.declared.auth_option.AuthOption.{AuthOption}
 use Rattle.picky_authorized.specs.declared.quotes.PartEnd.TheVariants.{Comma}
-use Rattle.picky_authorized.specs.OptionText.{IsOption, option_in}
+use Rattle.picky_authorized.specs.OptionText.{IsOptionText, option_in}
 use Rattle.picky_authorized.specs.Quotes.{ends_at, parts_outside}
 
 -- options = option *( "," option )
 abbrev pub AreOptions : (text : List ℕ) → List AuthOption → Type 0
 AreOptions text [] = ⊥
-AreOptions text (o ∷ []) = IsOption text o
+AreOptions text (o ∷ []) = IsOptionText text o
 AreOptions text (o ∷ next ∷ more) =
-    (front : List ℕ) × (rest : List ℕ) × (text ≡ front ++ 44 ∷ rest) × IsOption front o × AreOptions rest (next ∷ more)
+    (front : List ℕ) × (rest : List ℕ) × (text ≡ front ++ 44 ∷ rest) × IsOptionText front o × AreOptions rest (next ∷ more)
 
 -- one option more in front, where there is one, and where the others are some
 abbrev pub onto_options : Option AuthOption → Option (List AuthOption) → Option (List AuthOption)

@@ -3,7 +3,7 @@
 ghost use Rattle.std.specs.Prelude.{◌≡◌, ◌^◌, ◌<◌, ◌≤◌, ◌+◌, ◌++◌, IfOk, IfSome, OnOk, length, string_bytes, string_len};
 ghost use Rattle.std.specs.List.{list_all};
 ghost use Rattle.std.specs.Option.{option_map};
-ghost use Rattle.picky_authorized.specs.OptionText.{is_name as is_name_bytes, is_name_byte as is_byte_of_name, named, option_in, quoted_text_in, text_in};
+ghost use Rattle.picky_authorized.specs.OptionText.{is_name as is_name_bytes, is_name_byte as is_byte_of_name, auth_option_named, option_in, quoted_text_in, escaped_value};
 
 use picky_wire::{NoMemory, Text, TryClone};
 use std::alloc::Global;
@@ -87,7 +87,7 @@ fn are_name_bytes(bytes: &[u8]) -> bool
 /// The option of this name, in lower case. Refuses: `NoMemory`.
 fn named_option(alloc: Global, name: &str, value: Option<Text>) -> Result<AuthOption, NoMemory>
     requires { length name.now < 2 ^ 32 }
-    ensures { IfOk result (λ option. option ≡ named name.now value) }
+    ensures { IfOk result (λ option. option ≡ auth_option_named name.now value) }
 {
     match name.to_ascii_lowercase(alloc) {
         Ok(name) => Ok(AuthOption {
@@ -115,7 +115,7 @@ fn value_of(alloc: Global, text: &str) -> Result<Option<Text>, NoMemory>
 /// The value up to the quote that closes it, which ends the text; a quote after a backslash is the value's. Refuses:
 /// `NoMemory`.
 fn closed_value(alloc: Global, text: &str) -> Result<Option<String>, NoMemory>
-    ensures value { IfOk result (λ value. option_map string_bytes value ≡ text_in text.now) }
+    ensures value { IfOk result (λ value. option_map string_bytes value ≡ escaped_value text.now) }
     ensures short { IfOk result (λ value. IfSome value (λ v. string_len v ≤ length text.now)) }
 {
     let mut value = String::new(alloc);

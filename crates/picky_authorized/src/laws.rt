@@ -6,9 +6,9 @@ ghost use Rattle.picky_wire_base.specs.Equality.{IsEquality};
 ghost use Rattle.picky_authorized.specs.declared.auth_option.AuthOption.{AuthOption as AnOption};
 ghost use Rattle.picky_authorized.specs.declared.entry.AuthContent.{AuthContent as Content};
 ghost use Rattle.picky_authorized.specs.Entries.{entries_in, AreFit};
-ghost use Rattle.picky_authorized.specs.Lines.{content_of, Says};
+ghost use Rattle.picky_authorized.specs.Lines.{content_of, IsContentSaid};
 ghost use Rattle.picky_authorized.specs.Options.{options_in, AreOptions};
-ghost use Rattle.picky_authorized.specs.OptionText.{option_in, IsOption};
+ghost use Rattle.picky_authorized.specs.OptionText.{option_in, IsOptionText};
 ghost use Rattle.picky_authorized.specs.Quotes.{front_outside, rest_outside, IsFront};
 
 use crate::auth_option::AuthOption;
@@ -22,13 +22,13 @@ pub fn front_is_the_longest()
 
 /// A text says an option exactly where it is one, and says options exactly where it is a list of them; so it says one list.
 pub fn options_have_one_meaning()
-    ensures option { (text : List ℕ) (o : AnOption) → (option_in text ≡ Some o) ↔ IsOption text o }
+    ensures option { (text : List ℕ) (o : AnOption) → (option_in text ≡ Some o) ↔ IsOptionText text o }
     ensures options { (text : List ℕ) (os : List AnOption) → (options_in text ≡ Some os) ↔ AreOptions text os }
 {}
 
 /// The content of a line is what it says, and a line says one.
 pub fn line_says_its_content()
-    ensures { (line : List ℕ) (content : Content) → IsBytes line → (content_of line ≡ content) ↔ Says line content }
+    ensures { (line : List ℕ) (content : Content) → IsBytes line → (content_of line ≡ content) ↔ IsContentSaid line content }
 {}
 
 /// The options of each key that a text has fit.

@@ -1,4 +1,6 @@
 //! Authorized keys: public key lines with options before them (sshd(8), "AUTHORIZED_KEYS FILE FORMAT").
+//!
+//! Read first: `specs/Lines.antt` and `specs/Entries.antt`; then `src/laws.rt` and `src/keys.rt`.
 #![tactic(auto)]
 
 mod auth_option;

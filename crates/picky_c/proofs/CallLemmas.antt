@@ -15,8 +15,8 @@ use Rattle.picky_target.specs.{Written.{fault_of as output_fault}, declared.erro
 use Rattle.picky_target.specs.declared.target.KeyTarget.{KeyTarget}
 use Rattle.picky_target.specs.declared.error.ConvertError.TheVariants as errors
 use Rattle.picky_target.specs.declared.target.KeyTarget.TheVariants as targets
-use Rattle.picky_conversion.specs.{Certified.{Relation}, Convert.{IsFaultOf, conversion, converting_asks}}
-use Rattle.picky_conversion.specs.{Made.{Answers, IsUnwritten, Made, ToSign, Whole}, Outside.{Outside}}
+use Rattle.picky_conversion.specs.{Certified.{SignRelation}, Convert.{IsFaultOf, conversion, converting_asks}}
+use Rattle.picky_conversion.specs.{Made.{AnswersMade, IsUnwritten, Made, ToSign, Whole}, Outside.{Outside}}
 use Rattle.picky_conversion.specs.{To.{IsFaultTo, Way, Written, converted}, Refusal.{input_refusal}}
 use Rattle.picky_conversion.proofs.AnswerLemmas.{opening_asks, sealing_asks}
 use Rattle.picky_c.specs.{Calls.{public_key}, Given.{plain_outside, plain_reader}, Refusal.{refusal_of}}
@@ -41,7 +41,7 @@ output_fault_is targets.OpenSshPublic = refl
 output_fault_is targets.PuttyPublic = refl
 
 -- no device signs a text
-none_left : (signs : Relation) (says : Result (List ℕ) ConvertError) (made : Made) (rose : Type 0) (e : ConvertError)
+none_left : (signs : SignRelation) (says : Result (List ℕ) ConvertError) (made : Made) (rose : Type 0) (e : ConvertError)
     → map_ok Whole says ≡ Ok made → IsUnwritten signs made rose e → ⊥
 none_left signs (Ok text) (Whole other) rose e same left = left
 none_left signs (Ok text) (ToSign u) rose e same left = cc same
@@ -51,8 +51,8 @@ whole_err : (says : Result (List ℕ) ConvertError) (e : ConvertError) → map_o
 whole_err (Ok text) e same = cc same
 whole_err (Err d) e same = let one : d ≡ e = cc same in ap Err one
 
-converted_refusal : (signs : Relation) (o : Outside) (to : KeyTarget) (from : List ℕ) (e : ConvertError) (rose signer_rose : Type 0)
-    → Answers {X = List ℕ} signs (λ t. t) (map_ok Whole (conversion o to from)) (λ e. IsFaultOf o to from e rose) signer_rose (Err e)
+converted_refusal : (signs : SignRelation) (o : Outside) (to : KeyTarget) (from : List ℕ) (e : ConvertError) (rose signer_rose : Type 0)
+    → AnswersMade {X = List ℕ} signs (λ t. t) (map_ok Whole (conversion o to from)) (λ e. IsFaultOf o to from e rose) signer_rose (Err e)
     → (refusal_of e ≡ calls.NoMemory) ⊎ ((refusal_of e ≡ calls.NoCipher) × IsAskedFault (converting_asks o to from) (Unit {0}))
     ⊎ (map_err refusal_of (conversion o to from) ≡ Err (refusal_of e))
 converted_refusal signs o to from e rose signer_rose (inl want) = inl (ap refusal_of want)
@@ -66,18 +66,18 @@ converted_refusal signs o to from e rose signer_rose (inr (inr (inr refused))) =
     inr (inr (ap (map_err refusal_of) (whole_err (conversion o to from) e refused)))
 
 -- the same, where the meanings and the target are equal to those
-pub conversion_refusal : (signs : Relation) (m : Meanings) (pass_in pass_out : Option (List ℕ)) (fresh : List ℕ) (way : Way) (to : KeyTarget)
+pub conversion_refusal : (signs : SignRelation) (m : Meanings) (pass_in pass_out : Option (List ℕ)) (fresh : List ℕ) (way : Way) (to : KeyTarget)
     (from : List ℕ) (e : ConvertError) (g : PickyError) (rose signer_rose : Type 0) → m ≡ plain → way ≡ Written to → g ≡ refusal_of e
-    → Answers {X = List ℕ} signs (λ t. t) (converted (record (plain_outside pass_in pass_out fresh) { meanings = m }) way from)
+    → AnswersMade {X = List ℕ} signs (λ t. t) (converted (record (plain_outside pass_in pass_out fresh) { meanings = m }) way from)
     (λ f. IsFaultTo (record (plain_outside pass_in pass_out fresh) { meanings = m }) way from f rose) signer_rose (Err e)
     → (g ≡ calls.NoMemory)
     ⊎ ((g ≡ calls.NoCipher) × IsAskedFault (converting_asks (plain_outside pass_in pass_out fresh) to from) (Unit {0}))
     ⊎ (map_err refusal_of (conversion (plain_outside pass_in pass_out fresh) to from) ≡ Err g)
 conversion_refusal signs m pass_in pass_out fresh way to from e g rose signer_rose means is_way is answers =
     let o : Outside = plain_outside pass_in pass_out fresh in
-    let same_way = subst (λ w. Answers {X = List ℕ} signs (λ t. t) (converted (record o { meanings = m }) w from)
+    let same_way = subst (λ w. AnswersMade {X = List ℕ} signs (λ t. t) (converted (record o { meanings = m }) w from)
     (λ f. IsFaultTo (record o { meanings = m }) w from f rose) signer_rose (Err e)) is_way answers in
-    let same = subst (λ n. Answers {X = List ℕ} signs (λ t. t) (map_ok Whole (conversion (record o { meanings = n }) to from))
+    let same = subst (λ n. AnswersMade {X = List ℕ} signs (λ t. t) (map_ok Whole (conversion (record o { meanings = n }) to from))
     (λ f. IsFaultOf (record o { meanings = n }) to from f rose) signer_rose (Err e)) means same_way in
     subst (λ d. (d ≡ calls.NoMemory) ⊎ ((d ≡ calls.NoCipher) × IsAskedFault (converting_asks o to from) (Unit {0}))
     ⊎ (map_err refusal_of (conversion o to from) ≡ Err d)) (sym is) (converted_refusal signs o to from e rose signer_rose same)

@@ -13,7 +13,7 @@ pub record Hands (bytes : List ℕ) (answer : PickyAnswer) (old new : List ℕ) 
   pub too_small : length old ≤ length bytes → (answer.error ≡ error_number errors.BufferTooSmall) × (new ≡ old)
 
 -- the reason's number is answered, and the buffer is as it was
-pub record Refuses (e : PickyError) (answer : PickyAnswer) (old new : List ℕ) : Type 0 where
+pub record RefusesCall (e : PickyError) (answer : PickyAnswer) (old new : List ℕ) : Type 0 where
   pub number : answer.error ≡ error_number e
   pub len : answer.len ≡ 0
   pub unchanged : new ≡ old
@@ -21,11 +21,11 @@ pub record Refuses (e : PickyError) (answer : PickyAnswer) (old new : List ℕ) 
 -- what is come to is handed out
 abbrev pub Comes : Result (List ℕ) PickyError → PickyAnswer → (old new : List ℕ) → Type 0
 Comes (Ok bytes) answer old new = Hands bytes answer old new
-Comes (Err e) answer old new = Refuses e answer old new
+Comes (Err e) answer old new = RefusesCall e answer old new
 
 -- what is handed out is what the definition says, of which this holds; in its place want of memory may come, or want of a
 -- cipher, where one is asked for
-pub record Answers (says : Result (List ℕ) PickyError) (asked : Bool) (Means : List ℕ → Type 0) (answer : PickyAnswer)
+pub record AnswersCall (says : Result (List ℕ) PickyError) (asked : Bool) (Means : List ℕ → Type 0) (answer : PickyAnswer)
     (old new : List ℕ) : Type 0 where
   pub outcome : Result (List ℕ) PickyError
   pub handed : Comes outcome answer old new

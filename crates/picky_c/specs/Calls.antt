@@ -75,8 +75,8 @@ abbrev pub IsFingerprint : (text bytes : List ℕ) → Type 0
 IsFingerprint text bytes = (key : SshPublicKey) × IsPublicKey text key × (bytes ≡ print key)
 
 -- its part with a number
-abbrev pub public_part : (text : List ℕ) → (part : ℕ) → Result (List ℕ) PickyError
-public_part text part =
+abbrev pub public_part_in : (text : List ℕ) → (part : ℕ) → Result (List ℕ) PickyError
+public_part_in text part =
     and_then (ok_or (part_numbered part) errors.NoSuchPart) (λ part. and_then (public_key text) (λ key. Ok (part_of part key)))
 
 abbrev pub IsPart : (text : List ℕ) → (part : ℕ) → (bytes : List ℕ) → Type 0

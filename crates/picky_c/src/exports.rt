@@ -3,8 +3,8 @@
 //! A slice is a pointer and a length to C, and a `Global` is nothing. What holds of them here a caller in C has to see to.
 
 ghost use Rattle.std.specs.Prelude.{false};
-ghost use Rattle.picky_c.specs.Answer.{Answers};
-ghost use Rattle.picky_c.specs.Calls.{IsConverted, IsFingerprint, IsPart, converted as converted_of, converting_is_asked, fingerprint as fingerprint_of, public_part};
+ghost use Rattle.picky_c.specs.Answer.{AnswersCall};
+ghost use Rattle.picky_c.specs.Calls.{IsConverted, IsFingerprint, IsPart, converted as converted_of, converting_is_asked, fingerprint as fingerprint_of, public_part_in};
 ghost use Rattle.picky_c.specs.Name.{IsNamed, error_name};
 
 use crate::answer::{PickyAnswer, hand};
@@ -28,7 +28,7 @@ pub extern "C" fn picky_convert(
     fresh: PickyBytes<'_>,
     out: &mut [u8],
 ) -> PickyAnswer
-    ensures { Answers
+    ensures { AnswersCall
         (converted_of target text.entry.bytes.now pass_in.entry.bytes.now pass_out.entry.bytes.now fresh.entry.bytes.now)
         (converting_is_asked target text.entry.bytes.now pass_in.entry.bytes.now pass_out.entry.bytes.now fresh.entry.bytes.now)
         (IsConverted target text.entry.bytes.now pass_in.entry.bytes.now pass_out.entry.bytes.now fresh.entry.bytes.now)
@@ -54,7 +54,7 @@ pub extern "C" fn picky_fingerprint(
     text: PickyBytes<'_>,
     out: &mut [u8],
 ) -> PickyAnswer
-    ensures { Answers (fingerprint_of text.entry.bytes.now) false (IsFingerprint text.entry.bytes.now) result out.old out.new }
+    ensures { AnswersCall (fingerprint_of text.entry.bytes.now) false (IsFingerprint text.entry.bytes.now) result out.old out.new }
 {
     let outcome = fingerprint(alloc, text.bytes);
     hand(outcome, out)
@@ -70,7 +70,7 @@ pub extern "C" fn picky_read_public(
     part: u32,
     out: &mut [u8],
 ) -> PickyAnswer
-    ensures { Answers (public_part text.entry.bytes.now part) false (IsPart text.entry.bytes.now part) result out.old out.new }
+    ensures { AnswersCall (public_part_in text.entry.bytes.now part) false (IsPart text.entry.bytes.now part) result out.old out.new }
 {
     let outcome = part_of_text(alloc, text.bytes, part);
     hand(outcome, out)

@@ -1,4 +1,6 @@
 //! The library from C: a static library, whose functions and numbers `include/picky.h` declares.
+//!
+//! Read first: `include/picky.h` and `specs/Answer.antt`; then `src/exports.rt`.
 #![tactic(auto)]
 
 mod answer;

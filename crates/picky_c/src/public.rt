@@ -4,7 +4,7 @@ ghost use Rattle.std.specs.Prelude.{◌≡◌, ◌++◌, IfOk, codes, string_byt
 ghost use Rattle.base64.specs.Engines.{standard_no_pad};
 ghost use Rattle.base64.specs.GeneralPurpose.{encode_of};
 ghost use Rattle.picky_wire_base.specs.Gives.{Gives};
-ghost use Rattle.picky_c.specs.Calls.{IsFingerprint, IsPart, IsPublicKey, fingerprint as fingerprint_of, public_key as public_key_of, public_part};
+ghost use Rattle.picky_c.specs.Calls.{IsFingerprint, IsPart, IsPublicKey, fingerprint as fingerprint_of, public_key as public_key_of, public_part_in};
 
 use crate::error::{PickyError, refusal};
 use crate::given::as_text;
@@ -50,7 +50,7 @@ fn print_digest(alloc: Global, digest: [u8; 32]) -> Result<String, AllocError>
 ///
 /// Refuses, in order: `NoSuchPart`, and as `public_key_of_text`.
 pub fn part(alloc: Global, text: &[u8], part: u32) -> Result<Vec<u8>, PickyError>
-    ensures gives { Gives PickyError.NoMemory (λ bytes. bytes.items) result (public_part text.now part) }
+    ensures gives { Gives PickyError.NoMemory (λ bytes. bytes.items) result (public_part_in text.now part) }
     ensures means { IfOk result (λ bytes. IsPart text.now part bytes.items) }
 {
     let part = match part_by_number(part) {

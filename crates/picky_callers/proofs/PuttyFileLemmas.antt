@@ -8,7 +8,7 @@ use Rattle.picky.specs.KeyOf.{base_key_of}
 use Rattle.picky.specs.KeyParts.{key_parts}
 use Rattle.picky.specs.Meanings.{Meanings}
 use Rattle.picky.specs.Outcome.{and_then}
-use Rattle.picky.specs.PpkFileWritten.{end_of}
+use Rattle.picky.specs.PpkFileWritten.{line_end_of}
 use Rattle.picky.specs.PpkMac.{CarriesMac}
 use Rattle.picky.specs.TextLines.{IsLine}
 use Rattle.picky.specs.declared.putty.KeyParts.{KeyParts}
@@ -35,13 +35,13 @@ made_of_version_3 m key file made = of_version_3 m key.comment (key_parts key.ba
 pub text_is_file_of : (m : Meanings) (key : SshPrivateKey) (file : PpkFile) (result : Result (List ℕ) PuttyError)
     → of_openssh m key ≡ Ok file → CarriesMac m file
     → (base_key_of file ≡ Ok key.base_key) × (file.comment ≡ key.comment) → IsLine Lf key.comment
-    → (IsLine (end_of (version_of file.sealing)) file.comment
+    → (IsLine (line_end_of (version_of file.sealing)) file.comment
     → IfOk result (λ text. (n : Meanings) (more : List ℕ) → (is_sealed file.sealing ≡ true) ⊎ CarriesMac n file
     → ppk_meaning n (text ++ more) ≡ Ok file))
     → IfOk result (IsFileOf m key)
 text_is_file_of m key file (Ok text) made mac back line reads =
     let stands = subst (IsLine Lf) (sym back.1) line in
-    let fits = subst (λ s. IsLine (end_of (version_of s)) file.comment) (sym (made_of_version_3 m key file made)) stands in
+    let fits = subst (λ s. IsLine (line_end_of (version_of s)) file.comment) (sym (made_of_version_3 m key file made)) stands in
     record {
       file = file;
       is_read = subst (λ t. ppk_meaning m t ≡ Ok file) (append-nil text) (reads fits m [] (inr mac));

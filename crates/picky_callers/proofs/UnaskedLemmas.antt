@@ -2,13 +2,13 @@
 use Rattle.std.proofs.Common.{◌≡◌, ◌⊎◌, false, ℕ, List, [], None, Result, Ok, Err, IfErr, ap, sym, inl, inr}
 use Rattle.std.proofs.Common.{refl, subst, ◌∙◌}
 use Rattle.picky.specs.Convert.{asks_for, asks_to_write, conversion, IsFaultOf}
-use Rattle.picky.specs.ConversionMade.{Answers, IsUnwritten, Made, ToSign, Whole}
+use Rattle.picky.specs.ConversionMade.{AnswersMade, IsUnwritten, Made, ToSign, Whole}
 use Rattle.picky.specs.Config.{default_config}
 use Rattle.picky.specs.Meanings.{Meanings, plain}
 use Rattle.picky.specs.Order.{asks}
 use Rattle.picky.specs.Outcome.{map_ok}
 use Rattle.picky.specs.Outside.{outside_of}
-use Rattle.picky.specs.Signs.{Relation}
+use Rattle.picky.specs.Signs.{SignRelation}
 use Rattle.picky.specs.To.{IsFaultTo, converted, way_to}
 use Rattle.picky.specs.TargetWritten.{writing_asks}
 use Rattle.picky.specs.declared.convert.ConvertError.{ConvertError}
@@ -37,14 +37,14 @@ is_no_fault input e rose unasked (inl fault) = cc (sym unasked ∙ fault.1.0)
 is_no_fault input e rose unasked (inr fault) = cc (sym (unasked_to_write input) ∙ fault.1.0)
 
 -- nor of a signer
-is_not_left : (signs : Relation) (text : List ℕ) (made : Made) (rose : Type 0) (e : ConvertError) (says : Result Made ConvertError)
+is_not_left : (signs : SignRelation) (text : List ℕ) (made : Made) (rose : Type 0) (e : ConvertError) (says : Result Made ConvertError)
     → says ≡ Ok (Whole text) → says ≡ Ok made → IsUnwritten signs made rose e → ⊥
 is_not_left signs text (Whole other) rose e says is same left = left
 is_not_left signs text (ToSign u) rose e says is same left = cc (sym is ∙ same)
 
-why_refused : (signs : Relation) (input : List ℕ) (says result : Result (List ℕ) ConvertError) (rose signer_rose : Type 0)
+why_refused : (signs : SignRelation) (input : List ℕ) (says result : Result (List ℕ) ConvertError) (rose signer_rose : Type 0)
     → asks None input ≡ false
-    → Answers signs (λ text. text) (map_ok Whole says) (λ e. IsFaultOf alone to_putty input e rose) signer_rose result
+    → AnswersMade signs (λ text. text) (map_ok Whole says) (λ e. IsFaultOf alone to_putty input e rose) signer_rose result
     → IfErr result (λ e. (e ≡ errors.NoMemory) ⊎ (says ≡ Err e))
 why_refused signs input says (Ok text) rose signer_rose unasked answers = tt
 why_refused signs input says (Err e) rose signer_rose unasked (inl want) = inl want
@@ -57,14 +57,14 @@ why_refused signs input (Err d) (Err e) rose signer_rose unasked (inr (inr (inr 
     let same : d ≡ e = cc refused in inr (ap Err same)
 
 -- the same, where the meanings and the configuration are equal to those
-pub why_refused_by : (m : Meanings) (config : PpkEncryptionConfig) (signs : Relation) (input : List ℕ) (rose signer_rose : Type 0)
+pub why_refused_by : (m : Meanings) (config : PpkEncryptionConfig) (signs : SignRelation) (input : List ℕ) (rose signer_rose : Type 0)
     (result : Result (List ℕ) ConvertError) → asks None input ≡ false → m ≡ plain → config ≡ default_config
-    → Answers signs (λ text. text) (converted (outside_of m None None []) (way_to (Target.Ppk V3 config)) input)
+    → AnswersMade signs (λ text. text) (converted (outside_of m None None []) (way_to (Target.Ppk V3 config)) input)
     (λ e. IsFaultTo (outside_of m None None []) (way_to (Target.Ppk V3 config)) input e rose) signer_rose result
     → IfErr result (λ e. (e ≡ errors.NoMemory) ⊎ (conversion alone to_putty input ≡ Err e))
 why_refused_by m config signs input rose signer_rose result unasked means is_default answers =
     why_refused signs input (conversion alone to_putty input) result rose signer_rose unasked
-    (subst (λ n. Answers signs (λ text. text) (map_ok Whole (conversion (record alone { meanings = n }) to_putty input))
+    (subst (λ n. AnswersMade signs (λ text. text) (map_ok Whole (conversion (record alone { meanings = n }) to_putty input))
     (λ e. IsFaultOf (record alone { meanings = n }) to_putty input e rose) signer_rose result) means
-    (subst (λ d. Answers signs (λ text. text) (map_ok Whole (conversion (record alone { meanings = m }) (Ppk V3 d) input))
+    (subst (λ d. AnswersMade signs (λ text. text) (map_ok Whole (conversion (record alone { meanings = m }) (Ppk V3 d) input))
     (λ e. IsFaultOf (record alone { meanings = m }) (Ppk V3 d) input e rose) signer_rose result) is_default answers))

@@ -18,7 +18,7 @@ use Rattle.picky_cert_parts.specs.declared.critical_option.SshCriticalOption.{Ss
 use Rattle.picky_cert_parts.specs.declared.extension.SshExtension.{SshExtension}
 use Rattle.picky_cert_parts.specs.declared.signature.SshSignature.{SshSignature}
 use Rattle.picky_cert_parts.specs.{declared.signature.SshSignatureBlob.{SshSignatureBlob}, CertType.{cert_type_of}}
-use Rattle.picky_cert_parts.specs.{CertNumber.{cert_type_number}, CriticalOption.{option_of, IsOption}}
+use Rattle.picky_cert_parts.specs.{CertNumber.{cert_type_number}, CriticalOption.{option_of, IsCriticalOption}}
 use Rattle.picky_cert_parts.specs.Extension.{extension_of, IsExtension}
 use Rattle.picky_cert_parts.specs.Signature.{behind_total, signature_of, total_of, IsBlob, IsSignature}
 use Rattle.picky_cert_parts.specs.declared.cert_key_type.SshCertKeyType.TheVariants as keytypes
@@ -114,7 +114,7 @@ list_bytes spelling keeps each (v ∷ vs) all =
 principal_bytes : (v : List ℕ) → IsPrincipal v → IsBytes (string_of v)
 principal_bytes v is = string_bytes_each v (utf8_is_bytes v is.utf8)
 
-option_bytes : (o : SshCriticalOption) → IsOption o → IsBytes (option_of o)
+option_bytes : (o : SshCriticalOption) → IsCriticalOption o → IsBytes (option_of o)
 unfolding option_of
 option_bytes o is =
     bytes_joined _ _ (string_bytes_each _ (option_name_bytes o.option_type))
@@ -151,7 +151,7 @@ terms_bytes t is =
 grants_bytes : (g : Grants) → IsGrants g → IsBytes (grants_spelled g)
 unfolding grants_spelled
 grants_bytes g is =
-    bytes_joined _ _ (string_bytes_each _ (list_bytes option_of IsOption option_bytes g.options is.options))
+    bytes_joined _ _ (string_bytes_each _ (list_bytes option_of IsCriticalOption option_bytes g.options is.options))
     (bytes_joined _ _ (string_bytes_each _ (list_bytes extension_of IsExtension extension_bytes g.extensions is.extensions))
     (bytes_joined _ _ (string_bytes_each [] no_bytes)
     (bytes_joined _ _ (string_bytes_each _ (blob_is_bytes g.issuer is.issuer)) no_bytes)))

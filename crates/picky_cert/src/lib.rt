@@ -1,4 +1,6 @@
 //! OpenSSH certificates: their bytes seen where they stand, as values, and in lines (PROTOCOL.certkeys; sshd(8)).
+//!
+//! Read first: `specs/Certificate.antt` and `specs/Line.antt`; then `src/laws.rt` and `src/certificate.rt`.
 #![tactic(auto)]
 
 mod blob_bytes;

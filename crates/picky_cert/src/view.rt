@@ -35,7 +35,7 @@ pub struct CertView<'a> {
     pub format: SshSignatureFormat,
     /// The signature's string.
     pub signature: Part<'a>,
-    /// A hardware key's flags and counter.
+    /// A security key's flags and counter.
     pub sk: Option<(u8, u32)>,
     /// What is signed: all bytes before the signature.
     pub signed: Part<'a>,

@@ -13,7 +13,7 @@ use Rattle.picky_keys.proofs.KeyLaws.{string_keeps, text_keeps, fields_keep, spe
 use Rattle.picky_cert_parts.specs.declared.cert_key_type.SshCertKeyType.{SshCertKeyType}
 use Rattle.picky_cert_parts.specs.declared.critical_option.SshCriticalOption.{SshCriticalOption}
 use Rattle.picky_cert_parts.specs.declared.extension.SshExtension.{SshExtension}
-use Rattle.picky_cert_parts.specs.{CriticalOption.{critical_option, IsOption}, Extension.{extension, IsExtension}}
+use Rattle.picky_cert_parts.specs.{CriticalOption.{critical_option, IsCriticalOption}, Extension.{extension, IsExtension}}
 use Rattle.picky_cert_parts.proofs.SpellingLaws.{option_keeps, extension_keeps}
 use Rattle.picky_cert_blob.specs.Items.{principal_item, option_item, extension_item}
 use Rattle.picky_cert_blob.specs.Layout.{Body, Grants, Head, Terms, body, grants, head, head_for, head_of, terms, principals}
@@ -56,14 +56,14 @@ unfolding principals
 principals_keep vs bytes each (block, string_is, row) =
     list_keeps principal_item.piece IsPrincipal principal_keeps vs block bytes each string_is row
 
-option_keeps_it : (o : SshCriticalOption) (bytes : List ℕ) → IsBytes bytes → option_item.piece o bytes → IsOption o
+option_keeps_it : (o : SshCriticalOption) (bytes : List ℕ) → IsBytes bytes → option_item.piece o bytes → IsCriticalOption o
 unfolding option_item
-option_keeps_it o bytes each spells = of_piece critical_option IsOption option_keeps o bytes each spells
+option_keeps_it o bytes each spells = of_piece critical_option IsCriticalOption option_keeps o bytes each spells
 
-options_keep : (vs : List SshCriticalOption) (bytes : List ℕ) → IsBytes bytes → critical_options.piece vs bytes → All IsOption vs
+options_keep : (vs : List SshCriticalOption) (bytes : List ℕ) → IsBytes bytes → critical_options.piece vs bytes → All IsCriticalOption vs
 unfolding critical_options
 options_keep vs bytes each (block, string_is, row) =
-    list_keeps option_item.piece IsOption option_keeps_it vs block bytes each string_is row
+    list_keeps option_item.piece IsCriticalOption option_keeps_it vs block bytes each string_is row
 
 extension_keeps_it : (x : SshExtension) (bytes : List ℕ) → IsBytes bytes → extension_item.piece x bytes → IsExtension x
 unfolding extension_item

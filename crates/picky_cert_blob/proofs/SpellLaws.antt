@@ -12,7 +12,7 @@ use Rattle.picky_cert_parts.specs.{CertNames.{cert_key_type_name}, CertNameTable
 use Rattle.picky_cert_parts.specs.declared.cert_type.SshCertType.{SshCertType}
 use Rattle.picky_cert_parts.specs.declared.critical_option.SshCriticalOption.{SshCriticalOption}
 use Rattle.picky_cert_parts.specs.{declared.extension.SshExtension.{SshExtension}, CertType.{cert_type, cert_type_of}}
-use Rattle.picky_cert_parts.specs.{carried.CertType.{cert_type_spells}, CriticalOption.{option_of, IsOption}}
+use Rattle.picky_cert_parts.specs.{carried.CertType.{cert_type_spells}, CriticalOption.{option_of, IsCriticalOption}}
 use Rattle.picky_cert_parts.specs.{carried.CriticalOption.{option_spells}, Extension.{extension_of, IsExtension}}
 use Rattle.picky_cert_parts.specs.carried.Extension.{extension_spells}
 use Rattle.picky_cert_parts.proofs.TypeNameLaws.{cert_key_type_name_good}
@@ -108,7 +108,7 @@ terms_spell t is short = (
 
 -- ---- what is granted, and by whom
 
-option_item_spells : (o : SshCriticalOption) → IsOption o → option_item.piece o (option_of o)
+option_item_spells : (o : SshCriticalOption) → IsCriticalOption o → option_item.piece o (option_of o)
 unfolding option_item
 option_item_spells o is = option_spells o is
 
@@ -118,7 +118,7 @@ unfolding critical_options
 options_spell g is short = (
   options_block g,
   string_spells (options_block g) short,
-  row_spells option_item.piece option_of IsOption option_item_spells g.options is.options,
+  row_spells option_item.piece option_of IsCriticalOption option_item_spells g.options is.options,
 )
 
 extension_item_spells : (x : SshExtension) → IsExtension x → extension_item.piece x (extension_of x)

@@ -3,7 +3,7 @@ use Rattle.std.specs.Prelude.{◌≡◌, ◌<◌, ◌^◌, Some, All, length}
 use Rattle.picky_keys.specs.Key.{IsKey, IsString, IsText, kind_of}
 use Rattle.picky_keys.specs.Blob.{blob_of}
 use Rattle.picky_wire.specs.Principals.{IsPrincipal}
-use Rattle.picky_cert_parts.specs.CriticalOption.{IsOption}
+use Rattle.picky_cert_parts.specs.CriticalOption.{IsCriticalOption}
 use Rattle.picky_cert_parts.specs.Extension.{IsExtension}
 use Rattle.picky_cert_blob.specs.Layout.{Body, Grants, Head, Terms}
 use Rattle.picky_cert_blob.specs.Spelled.{extensions_block, options_block, principals_block}
@@ -22,7 +22,7 @@ pub record IsTerms (t : Terms) : Type 0 where
   pub before : t.before.0 < 2 ^ 64
 
 pub record IsGrants (g : Grants) : Type 0 where
-  pub options : All IsOption g.options
+  pub options : All IsCriticalOption g.options
   pub extensions : All IsExtension g.extensions
   pub issuer : IsKey g.issuer
 

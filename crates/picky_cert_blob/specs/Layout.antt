@@ -145,6 +145,6 @@ body = do
 
 -- ---- the signature
 
--- uint32 length, string format, string blob; of a hardware key byte flags and uint32 counter
+-- uint32 length, string format, string blob; of a security key byte flags and uint32 counter
 unfoldable pub signature_part : Grammar CertReason SshSignature
 signature_part = in_signature signature

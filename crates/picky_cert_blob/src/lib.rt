@@ -1,4 +1,6 @@
 //! All parts of an OpenSSH certificate, seen where they stand in its bytes (PROTOCOL.certkeys).
+//!
+//! Read first: `specs/Layout.antt` and `specs/View.antt`; then `src/body.rt`.
 #![tactic(auto)]
 
 mod body;

@@ -14,7 +14,7 @@ use crate::part::CertPart;
 use picky_cert_parts::SshSignatureFormat;
 use picky_wire::{Part, Stopped, Stuck, byte_in, string_in, uint32_in, word_in};
 
-/// A signature whose payload is a part of the buffer, with a hardware key's flags and counter.
+/// A signature whose payload is a part of the buffer, with a security key's flags and counter.
 #[derive(Clone, Copy, Debug, PartialEq, Eq)]
 pub struct SignatureView<'a> {
     pub format: SshSignatureFormat,
@@ -24,7 +24,7 @@ pub struct SignatureView<'a> {
 
 /// The signature that stands at a place, and the place after it. It isn't verified.
 ///
-/// OpenSSH's PROTOCOL.certkeys, "signature": its length, and then RFC 4253's, section 6.6, or a hardware key's, PROTOCOL.u2f.
+/// OpenSSH's PROTOCOL.certkeys, "signature": its length, and then RFC 4253's, section 6.6, or a security key's, PROTOCOL.u2f.
 /// Refuses at `CertPart::Signature`, in order, by field: `Short`, `NotUtf8`, `Name`. The length is held
 /// against nothing.
 #[tactic(auto, unfolding(crate::specs::Layout::signature_part, picky_cert_parts::specs::Signature::signature, picky_cert_parts::specs::Signature::signature_total))]

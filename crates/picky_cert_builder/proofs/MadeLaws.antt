@@ -18,7 +18,7 @@ use Rattle.picky_cert_parts.specs.declared.signature_format.SshSignatureFormat.{
 use Rattle.picky_cert_parts.specs.{CertNames.{is_sk}, declared.cert_type.SshCertType.{SshCertType}}
 use Rattle.picky_cert_parts.specs.declared.cert_type.SshCertType.TheVariants.{Client, Host}
 use Rattle.picky_cert_parts.specs.{declared.extension.SshExtension.{SshExtension}, Extension.{IsExtension}}
-use Rattle.picky_cert_parts.specs.{Signature.{blob_fits}, CriticalOption.{IsOption}}
+use Rattle.picky_cert_parts.specs.{Signature.{blob_fits}, CriticalOption.{IsCriticalOption}}
 use Rattle.picky_cert_parts.specs.declared.signature_format.SshSignatureFormat.TheVariants as formats
 use Rattle.picky_cert_parts.specs.declared.error.SshCertificateError.TheVariants as refusals
 use Rattle.picky_cert_parts.specs.declared.error.SshSignatureError.TheVariants as signatures
@@ -86,7 +86,7 @@ or_permits_keep Host xs all = all
 
 -- ---- what was judged
 
--- a hardware key's format is none of those that are made
+-- a security key's format is none of those that are made
 format_is_plain : (kind : KeyKind) (algorithm : SignatureAlgorithm) (format : SshSignatureFormat)
     → format_of kind algorithm ≡ Some format → is_sk format ≡ false
 format_is_plain kinds.Rsa (algorithms.RsaPkcs1v15 hashes.SHA1) format is = let same : formats.SshRsa ≡ format = cc is in ap is_sk (sym same)
@@ -149,8 +149,8 @@ certificate_keeps b fit key issuer nonce kept is_nonce says key_is issuer_is = r
       before = some_keeps (λ t. t.0 < 2 ^ 64) b.valid_before fit.valid_before kept.before says.before;
     };
     grants = record {
-      options = order_keeps IsOption _ (or_empty b.critical_options)
-          (empty_keeps (All IsOption) b.critical_options kept.options (All-nil IsOption));
+      options = order_keeps IsCriticalOption _ (or_empty b.critical_options)
+          (empty_keeps (All IsCriticalOption) b.critical_options kept.options (All-nil IsCriticalOption));
       extensions = order_keeps IsExtension _ (or_permits fit.cert_type (or_empty b.extensions)) (or_permits_keep fit.cert_type
           (or_empty b.extensions) (empty_keeps (All IsExtension) b.extensions kept.extensions (All-nil IsExtension)));
       issuer = some_keeps (λ i. IsKey (issuer_part i)) b.issuer issuer kept.issuer issuer_is;
@@ -177,7 +177,7 @@ made_is_formed b nonce u is =
     let fits = judged_fits b made.fit made.key made.judged made.key_is in
     short_is_formed u.certificate (subst (λ c. fits_subject c.cert_key_type c.public_key.inner_key ≡ true) made.is fits) made.short
 
--- its signature's format is no hardware key's
+-- its signature's format is no security key's
 made_is_plain : (b : SshCertificateBuilder) (nonce : List ℕ) (u : Unsigned) → requested b nonce ≡ Ok u
     → is_sk u.certificate.signature.format ≡ false
 made_is_plain b nonce u is =

@@ -21,7 +21,7 @@ default_algorithm types.SshEd25519V01 = algorithms.Ed25519
 default_algorithm types.SkSshEd25519V01 = algorithms.Ed25519
 default_algorithm t = algorithms.RsaPkcs1v15 hashes.SHA2_256
 
--- the format of the signatures that a kind of key makes by an algorithm; a hardware key makes none
+-- the format of the signatures that a kind of key makes by an algorithm; a security key makes none
 abbrev pub format_of : KeyKind → SignatureAlgorithm → Option SshSignatureFormat
 format_of kinds.Rsa (algorithms.RsaPkcs1v15 hashes.SHA1) = Some formats.SshRsa
 format_of kinds.Rsa (algorithms.RsaPkcs1v15 hashes.SHA2_256) = Some formats.RsaSha256

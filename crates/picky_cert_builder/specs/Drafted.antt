@@ -10,6 +10,6 @@ abbrev pub draft_shown : CertificateDraft → Unsigned
 draft_shown d = record { certificate = d.certificate; algorithm = d.algorithm }
 
 -- the message is what is signed of the certificate, and the issuer is the certificate's
-pub record IsWhole (d : CertificateDraft) : Type 0 where
+pub record IsWholeDraft (d : CertificateDraft) : Type 0 where
   pub message : d.message ≡ signed_of d.certificate
   pub issuer : issuer_key d.issuer ≡ public_key_of d.certificate.signature_key.inner_key

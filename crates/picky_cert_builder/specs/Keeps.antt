@@ -3,7 +3,7 @@ use Rattle.std.specs.Prelude.{◌<◌, ◌^◌, All}
 use Rattle.std.specs.Option.{IfSome}
 use Rattle.picky_keys.specs.Key.{IsKey, IsText}
 use Rattle.picky_wire.specs.Principals.{IsPrincipal}
-use Rattle.picky_cert_parts.specs.CriticalOption.{IsOption}
+use Rattle.picky_cert_parts.specs.CriticalOption.{IsCriticalOption}
 use Rattle.picky_cert_parts.specs.Extension.{IsExtension}
 use Rattle.picky_cert.specs.declared.certificate.SshCertificate.{SshCertificate}
 use Rattle.picky_cert.specs.Certificate.{certified, said}
@@ -18,7 +18,7 @@ pub record IsRequest (b : SshCertificateBuilder) : Type 0 where
   pub principals : IfSome b.valid_principals (All IsPrincipal)
   pub after : IfSome b.valid_after (λ t. t.0 < 2 ^ 64)
   pub before : IfSome b.valid_before (λ t. t.0 < 2 ^ 64)
-  pub options : IfSome b.critical_options (All IsOption)
+  pub options : IfSome b.critical_options (All IsCriticalOption)
   pub extensions : IfSome b.extensions (All IsExtension)
   pub issuer : IfSome b.issuer (λ issuer. IsKey (issuer_part issuer))
   pub comment : IfSome b.comment IsText

@@ -28,7 +28,7 @@ pub fn default_algorithm(cert_key_type: SshCertKeyType) -> SignatureAlgorithm
     }
 }
 
-/// The format of the signatures that a kind of key makes by an algorithm, where it makes some. A hardware key makes none here.
+/// The format of the signatures that a kind of key makes by an algorithm, where it makes some. A security key makes none here.
 ///
 /// RFC 4253, section 6.6; RFC 8332, section 3; RFC 5656, section 6.2.1; RFC 8709, section 6.
 pub fn format_of(issuer: KeyKind, algorithm: SignatureAlgorithm) -> Option<SshSignatureFormat>

@@ -8,7 +8,7 @@ ghost use Rattle.picky_cert.specs.Spelled.{signed_of};
 ghost use Rattle.picky_cert_builder.specs.Built.{IsBuilt, LeavesSigner};
 ghost use Rattle.picky_cert_builder.specs.Draft.{requested};
 ghost use Rattle.picky_cert_builder.specs.Request.{unset};
-ghost use Rattle.picky_cert_builder.specs.Drafted.{IsWhole, draft_shown};
+ghost use Rattle.picky_cert_builder.specs.Drafted.{IsWholeDraft, draft_shown};
 
 use crate::builder::SshCertificateBuilder;
 use crate::draft::CertificateDraft;
@@ -83,7 +83,7 @@ impl CertificateDraft {
         alloc: Global,
         signer: &mut G,
     ) -> Result<SshCertificate, SshCertificateGenerationError>
-        requires { IsWhole self }
+        requires { IsWholeDraft self }
         ensures answers { IsBuilt (G.signs signer.old) (Ok (draft_shown self)) (Rose (G.faults signer.old) (G.faults signer.new)) result }
         ensures signer { LeavesSigner G.signs G.faults (Ok (draft_shown self)) result signer.old signer.new }
     {

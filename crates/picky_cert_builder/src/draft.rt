@@ -7,7 +7,7 @@ ghost use Rattle.picky_keys.specs.LineRefusal.{is_short};
 ghost use Rattle.picky_cert_blob.specs.Subject.{fits_subject};
 ghost use Rattle.picky_cert.specs.Spelled.{signed_of};
 ghost use Rattle.picky_cert_builder.specs.Draft.{certificate_of, if_short, requested};
-ghost use Rattle.picky_cert_builder.specs.Drafted.{IsWhole, draft_shown};
+ghost use Rattle.picky_cert_builder.specs.Drafted.{IsWholeDraft, draft_shown};
 ghost use Rattle.picky_cert_builder.specs.Issuer.{issuer_of, issuer_part};
 
 use crate::builder::SshCertificateBuilder;
@@ -57,7 +57,7 @@ impl SshCertificateBuilder {
         nonce: &[u8; 32],
     ) -> Result<CertificateDraft, SshCertificateGenerationError>
         ensures gives { Gives SshCertificateGenerationError.NoMemory draft_shown result (requested self.now nonce.now) }
-        ensures whole { IfOk result IsWhole }
+        ensures whole { IfOk result IsWholeDraft }
         ensures issuer { IfOk result (λ draft. IfSome self.now.issuer (λ issuer. draft.issuer ≡ issuer_of issuer)) }
     {
         match self.terms().judge() {
@@ -87,7 +87,7 @@ fn certificate_draft(
     requires { fits_subject fit.now.cert_key_type key.now.inner_key ≡ true }
     ensures gives { Gives SshCertificateGenerationError.NoMemory draft_shown result
         (if_short (certificate_of builder.now fit.now key.now issuer.now nonce.now) fit.now.signature_algo) }
-    ensures whole { IfOk result IsWhole }
+    ensures whole { IfOk result IsWholeDraft }
     ensures issuer { IfOk result (λ draft. draft.issuer ≡ issuer_of issuer.now) }
 {
     let certificate = unsigned_certificate(alloc, builder, fit, key, issuer, nonce)?;
@@ -105,7 +105,7 @@ fn draft_by(
     requires fits { fits_subject certificate.cert_key_type certificate.public_key.inner_key ≡ true }
     requires issuer { certificate.signature_key.inner_key ≡ issuer_part issuer.now }
     ensures gives { Gives SshCertificateGenerationError.NoMemory draft_shown result (if_short certificate algorithm) }
-    ensures whole { IfOk result IsWhole }
+    ensures whole { IfOk result IsWholeDraft }
     ensures issuer { IfOk result (λ draft. draft.issuer ≡ issuer_of issuer.now) }
 {
     match issuer_and_message(alloc, issuer, &certificate) {

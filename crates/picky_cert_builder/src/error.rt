@@ -14,7 +14,7 @@ pub enum SshCertificateGenerationError {
     /// The type of certificates isn't made here: that of DSS and that of NIST P-521. Or it isn't for the subject's key.
     #[error("UnsupportedCertificateKeyType")]
     UnsupportedCertificateKeyType(SshCertKeyType),
-    /// The issuer's key doesn't sign by the algorithm. A hardware key signs by none.
+    /// The issuer's key doesn't sign by the algorithm. A security key signs by none.
     #[error("IncorrectSignatureAlgorithm")]
     IncorrectSignatureAlgorithm,
     /// No subject's key is given.

@@ -64,7 +64,7 @@ impl TryClone for IssuerKey {
     }
 }
 
-/// The issuer that a device signs for by a private key: with its secret; a hardware key, whose secret stays in the device, by its
+/// The issuer that a device signs for by a private key: with its secret; a security key, whose secret stays in the device, by its
 /// public key. Refuses: `NoMemory`.
 pub fn private_issuer(alloc: Global, key: &SshBasePrivateKey) -> Result<Issuer, NoMemory>
     ensures { IfOk result (λ issuer. issuer ≡ private_issuer_of key.now) }

@@ -1,4 +1,6 @@
 //! OpenSSH certificates made and signed by a device that is handed in (PROTOCOL.certkeys).
+//!
+//! Read first: `specs/Fit.antt`, what fits, and `specs/Draft.antt`; then `src/builder.rt`.
 #![tactic(auto)]
 
 mod algorithm;

@@ -9,7 +9,7 @@ use Rattle.picky_cert_parts.specs.carried.CertNumber.{own_number}
 use Rattle.picky_cert_parts.specs.NumberTable.{cert_types}
 use Rattle.picky_cert_parts.specs.CertType.{cert_type, cert_type_of}
 use Rattle.picky_cert_parts.specs.carried.CertType.{cert_type_spells}
-use Rattle.picky_cert_parts.specs.CriticalOption.{critical_option, option_of, IsOption}
+use Rattle.picky_cert_parts.specs.CriticalOption.{critical_option, option_of, IsCriticalOption}
 use Rattle.picky_cert_parts.specs.carried.CriticalOption.{option_spells}
 use Rattle.picky_cert_parts.specs.Extension.{extension, extension_of, IsExtension}
 use Rattle.picky_cert_parts.specs.carried.Extension.{extension_spells}
@@ -35,7 +35,7 @@ pub ruleset number_laws = (type_of_number, number_of_type)
 pub cert_type_reads_back : (t : SshCertType) (rest : List ℕ) → cert_type.read (cert_type_of t ++ rest) ≡ Ok (t, rest)
 cert_type_reads_back t rest = cert_type.complete t (cert_type_of t) rest (cert_type_spells t)
 
-pub option_reads_back : (o : SshCriticalOption) (rest : List ℕ) → IsOption o
+pub option_reads_back : (o : SshCriticalOption) (rest : List ℕ) → IsCriticalOption o
     → critical_option.read (option_of o ++ rest) ≡ Ok (o, rest)
 option_reads_back o rest is = critical_option.complete o (option_of o) rest (option_spells o is)
 

@@ -61,7 +61,7 @@ standard_payload_cause format e fault cause =
 
 pub ruleset standard_causes = (standard_payload_cause)
 
--- the fields of a hardware key's signature behind those that are read
+-- the fields of a security key's signature behind those that are read
 abbrev counter_and : SshSignatureFormat → List ℕ → ℕ → Grammar SshSignatureError SshSignature
 counter_and format payload flags = signature_counter >>= (λ counter. done (sk_made format payload flags counter))
 

@@ -19,7 +19,7 @@ use Rattle.picky_cert_parts.specs.declared.extension.SshExtension.{SshExtension}
 use Rattle.picky_cert_parts.specs.declared.signature.SshSignature.{SshSignature}
 use Rattle.picky_cert_parts.specs.{declared.signature.SshSignatureBlob.{SshSignatureBlob}, NumberTable.{cert_types}}
 use Rattle.picky_cert_parts.specs.CertType.{cert_type, cert_type_of}
-use Rattle.picky_cert_parts.specs.CriticalOption.{critical_option, option_type, option_payload, option_of, IsOption}
+use Rattle.picky_cert_parts.specs.CriticalOption.{critical_option, option_type, option_payload, option_of, IsCriticalOption}
 use Rattle.picky_cert_parts.specs.Extension.{extension, extension_type, extension_payload, extension_of, IsExtension}
 use Rattle.picky_cert_parts.specs.Signature.{signature_total, signature_format, signature_payload, signature_flags}
 use Rattle.picky_cert_parts.specs.Signature.{signature_counter, standard_fields, sk_fields, fields_when, signature, total_of}
@@ -95,16 +95,16 @@ option_payload_kept payload bytes each spells =
     let exact = string_exact payload bytes each spells in
     record { bytes = in_string payload bytes each exact.0; short = exact.1 }
 
-option_kept : (o : SshCriticalOption) (bytes : List ℕ) → IsBytes bytes → critical_option.piece o bytes → IsOption o
+option_kept : (o : SshCriticalOption) (bytes : List ℕ) → IsBytes bytes → critical_option.piece o bytes → IsCriticalOption o
 unfolding critical_option
 option_kept o bytes each (name, x, y, name_is, (payload, z, w, payload_is, (is, none), inner), outer) =
     let b1 = subst IsBytes outer each in
     let b2 = subst IsBytes inner (bytes_behind x y b1) in
-    subst IsOption (sym is) (option_payload_kept payload z (bytes_in_front z w b2) payload_is)
+    subst IsCriticalOption (sym is) (option_payload_kept payload z (bytes_in_front z w b2) payload_is)
 
 pub option_keeps : (bytes : List ℕ) (o : SshCriticalOption) (rest : List ℕ) → IsBytes bytes
-    → critical_option.read bytes ≡ Ok (o, rest) → IsOption o
-option_keeps bytes o rest each is = of_read critical_option IsOption option_kept bytes o rest each is
+    → critical_option.read bytes ≡ Ok (o, rest) → IsCriticalOption o
+option_keeps bytes o rest each is = of_read critical_option IsCriticalOption option_kept bytes o rest each is
 
 -- ---- extensions
 

@@ -76,7 +76,7 @@ formats_in_order =
     ∷ formats.EcdsaSha2Nistp384 ∷ formats.EcdsaSha2Nistp521 ∷ formats.SshEd25519
     ∷ formats.SkEcdsaSha2NistP256 ∷ formats.SkEd25519 ∷ []
 
--- whether a hardware key signs in the format, so that flags and a counter follow the signature's string
+-- whether a security key signs in the format, so that flags and a counter follow the signature's string
 abbrev pub is_sk : SshSignatureFormat → Bool
 is_sk formats.SshRsa = false
 is_sk formats.RsaSha256 = false

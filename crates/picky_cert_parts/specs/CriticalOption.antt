@@ -45,5 +45,5 @@ unfoldable pub option_of : SshCriticalOption → List ℕ
 option_of o = concat (string_of (option_name o.option_type) ∷ string_of o.payload ∷ [])
 
 -- what each option keeps
-abbrev pub IsOption : SshCriticalOption → Type 0
-IsOption o = IsString o.payload
+abbrev pub IsCriticalOption : SshCriticalOption → Type 0
+IsCriticalOption o = IsString o.payload

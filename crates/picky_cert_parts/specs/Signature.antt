@@ -1,4 +1,4 @@
--- A signature (RFC 4253, section 6.6; before it its length, OpenSSH's PROTOCOL.certkeys; of a hardware key, PROTOCOL.u2f).
+-- A signature (RFC 4253, section 6.6; before it its length, OpenSSH's PROTOCOL.certkeys; of a security key, PROTOCOL.u2f).
 use Rattle.std.specs.Prelude.{Bool, true, false, not, if◌then◌else◌, List, [], ◌∷◌, ℕ, ◌+◌, ◌<◌, ◌^◌, nat_lt, length}
 use Rattle.std.specs.Prelude.{Option, Some, None}
 use Rattle.std.specs.Int.{w8, w32, to_be_bytes}

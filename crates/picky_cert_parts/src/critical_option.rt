@@ -5,7 +5,7 @@ ghost use Rattle.std.specs.List.{concat};
 ghost use Rattle.picky_wire.specs.Count.{Rose};
 ghost use Rattle.picky_wire.specs.Takes.{Takes, HasCause, causes_of};
 ghost use Rattle.picky_cert_parts.specs.CertFromWire.{option_error};
-ghost use Rattle.picky_cert_parts.specs.CriticalOption.{option_type, critical_option, option_of, IsOption};
+ghost use Rattle.picky_cert_parts.specs.CriticalOption.{option_type, critical_option, option_of, IsCriticalOption};
 ghost use Rattle.picky_cert_parts.specs.carried.CriticalOption.{option_spells, option_solid, option_own};
 
 use crate::error::SshCriticalOptionError;
@@ -38,7 +38,7 @@ impl TryClone for SshCriticalOption {
 #[tactic(auto, unfolding(crate::specs::CriticalOption::option_of))]
 pub fn option_pieces(option: &SshCriticalOption) -> [Piece<'_>; 2]
     ensures spelled { concat result ≡ option_of option.now }
-    ensures keeps { IsOption option.now }
+    ensures keeps { IsCriticalOption option.now }
 {
     [
         Piece::string(option.option_type.as_str().as_bytes()),
@@ -53,7 +53,7 @@ impl SshComplexTypeEncode for SshCriticalOption {
 
     ghost write_reason = { λ _. None };
 
-    ghost keeps = { IsOption };
+    ghost keeps = { IsCriticalOption };
 
     ghost reason_is_no_want = { λ option same. Prim.cc same };
 

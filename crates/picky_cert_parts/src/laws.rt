@@ -8,7 +8,7 @@ ghost use Rattle.picky_wire_base.specs.Equality.{IsEquality};
 ghost use Rattle.picky_cert_parts.specs.CertNumber.{cert_type_number};
 ghost use Rattle.picky_cert_parts.specs.NumberTable.{cert_types};
 ghost use Rattle.picky_cert_parts.specs.CertType.{cert_type, cert_type_of};
-ghost use Rattle.picky_cert_parts.specs.CriticalOption.{critical_option, option_of, IsOption};
+ghost use Rattle.picky_cert_parts.specs.CriticalOption.{critical_option, option_of, IsCriticalOption};
 ghost use Rattle.picky_cert_parts.specs.Extension.{extension, extension_of, IsExtension};
 ghost use Rattle.picky_cert_parts.specs.Signature.{signature, total_of, behind_total, signature_of, blob_fits, signature_reason, IsSignature};
 ghost use Rattle.picky_cert_parts.specs.SignatureSpelled.{SignatureSpelled};
@@ -34,7 +34,7 @@ pub fn each_type_has_one_number()
 #[tactic(auto, using(crate::proofs::LawLemmas::element_laws))]
 pub fn parts_are_read_back()
     ensures cert_type { (t : CertType) (rest : List ℕ) → cert_type.read (cert_type_of t ++ rest) ≡ Ok (t, rest) }
-    ensures option { (o : CriticalOption) (rest : List ℕ) → IsOption o → critical_option.read (option_of o ++ rest) ≡ Ok (o, rest) }
+    ensures option { (o : CriticalOption) (rest : List ℕ) → IsCriticalOption o → critical_option.read (option_of o ++ rest) ≡ Ok (o, rest) }
     ensures extension { (x : Extension) (rest : List ℕ) → IsExtension x → extension.read (extension_of x ++ rest) ≡ Ok (x, rest) }
     ensures signature { (s : Signature) (rest : List ℕ) → IsSignature s → signature_reason s ≡ None
         → signature.read (signature_of s ++ rest) ≡ Ok (s, rest) }
@@ -72,7 +72,7 @@ pub fn one_spelling_is_read()
 #[tactic(auto, using(crate::proofs::SpellingLaws::keeping_laws))]
 pub fn what_is_read_is_valid()
     ensures option { (bytes : List ℕ) (o : CriticalOption) (rest : List ℕ) → IsBytes bytes → critical_option.read bytes ≡ Ok (o, rest)
-        → IsOption o }
+        → IsCriticalOption o }
     ensures extension { (bytes : List ℕ) (x : Extension) (rest : List ℕ) → IsBytes bytes → extension.read bytes ≡ Ok (x, rest)
         → IsExtension x }
     ensures signature { (bytes : List ℕ) (s : Signature) (rest : List ℕ) → IsBytes bytes → signature.read bytes ≡ Ok (s, rest)

@@ -1,5 +1,7 @@
 //! The parts of OpenSSH's certificates: their names, types, critical options, extensions and signatures, and the errors of
 //! each (PROTOCOL.certkeys).
+//!
+//! Read first: `specs/CertNames.antt` and `specs/Signature.antt`; then `src/laws.rt`.
 #![tactic(auto)]
 
 mod cert_key_type;

@@ -1,4 +1,4 @@
-//! Signatures as values: their format, and their blob with what a hardware key adds.
+//! Signatures as values: their format, and their blob with what a security key adds.
 
 ghost use Rattle.std.specs.Prelude.{◌≡◌, ◌+◌, ◌<◌, ◌^◌};
 ghost use Rattle.picky_cert_parts.specs.Signature.{blob_size, blob_fits};
@@ -7,7 +7,7 @@ use crate::signature_format::SshSignatureFormat;
 use picky_wire::{Bytes, NoMemory, TryClone};
 use std::alloc::Global;
 
-/// What a signature has after its format (RFC 4253, section 6.6; of a hardware key, PROTOCOL.u2f).
+/// What a signature has after its format (RFC 4253, section 6.6; of a security key, PROTOCOL.u2f).
 #[derive(Debug, Drop, PartialEq, Eq)]
 pub enum SshSignatureBlob {
     /// The string of the signature.

@@ -116,7 +116,7 @@ impl SshComplexTypeDecode for SshSignature {
     ghost own = { signature_own };
 
     /// `uint32 total`, which nothing is held against, `string format` and `string blob` (RFC 4253, section 6.6), and for a
-    /// hardware key's format `byte flags` and `uint32 counter` (PROTOCOL.u2f). What follows the last of them is left.
+    /// security key's format `byte flags` and `uint32 counter` (PROTOCOL.u2f). What follows the last of them is left.
     ///
     /// Refuses, in order, at each field: `IoError(ReadFault)`; `IoError(UnexpectedEnd)`; for the format `InvalidUtf8`, and
     /// `UnsupportedSignatureFormat`, where it is the name of none, with it.

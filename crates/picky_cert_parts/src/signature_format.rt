@@ -49,7 +49,7 @@ impl SshSignatureFormat {
         }
     }
 
-    /// Whether a hardware key signs in it, so that flags and a counter follow the signature's string (PROTOCOL.u2f).
+    /// Whether a security key signs in it, so that flags and a counter follow the signature's string (PROTOCOL.u2f).
     pub fn is_sk(self) -> bool
         ensures { result ≡ is_sk self }
     {

@@ -18,7 +18,7 @@ use Rattle.picky_target.specs.declared.error.ConvertError.TheVariants as errors
 use Rattle.picky_target.specs.declared.target.KeyTarget.{KeyTarget}
 use Rattle.picky_target.specs.declared.target.KeyTarget.TheVariants as targets
 use Rattle.picky_target.specs.Written.{fault_of as output_fault, written, writing_asks}
-use Rattle.picky_conversion.specs.Convert.{AnswersText, IsFaultOf, LeavesAskedSuite, asks_for, asks_to_write, conversion, converting_asks}
+use Rattle.picky_conversion.specs.Convert.{AnswersKeyText, IsFaultOf, LeavesAskedSuite, asks_for, asks_to_write, conversion, converting_asks}
 use Rattle.picky_conversion.specs.Outside.{Outside, reader}
 use Rattle.picky_conversion.specs.Want.{IsFault}
 use Rattle.picky_conversion.specs.Refusal.{input_refusal, issuer_refusal}
@@ -190,7 +190,7 @@ conversion_written o target input meaning m means same = rw means (ap (λ n. wri
 pub written_gives : {X : Type 0} (view : X → List ℕ) (o : Outside) (target : KeyTarget) (input : List ℕ) (meaning : Meaning)
     (m : Meanings) (before between after : ℕ) (r : Result X ConvertError) → reading (reader o) input ≡ Ok meaning
     → m ≡ o.meanings → between ≡ before → WritingAnswers view o target meaning m (Rose between after) r
-    → AnswersText view o target input (Rose before after) r
+    → AnswersKeyText view o target input (Rose before after) r
 written_gives view o target input meaning m before between after (Ok text) means same count gives =
     conversion_written o target input meaning m means same ∙ gives
 written_gives view o target input meaning m before between after (Err e) means same count (inl want) = inl want

@@ -16,12 +16,12 @@ use Rattle.picky_target.specs.{declared.error.ConvertError.{ConvertError}, Judge
 use Rattle.picky_target.specs.declared.error.ConvertError.TheVariants as errors
 use Rattle.picky_target.specs.declared.target.KeyTarget.TheVariants as targets
 use Rattle.picky_conversion.specs.declared.request.CertRequest.{CertRequest}
-use Rattle.picky_conversion.specs.Certified.{Certifies, Relation, LeavesSigner as LeavesDevice}
+use Rattle.picky_conversion.specs.Certified.{Certifies, SignRelation, LeavesSigner as LeavesDevice}
 use Rattle.picky_conversion.specs.Drafted.{drafted, drafted_of, if_line_fits, line_drafted, nonce_in, request_refusal}
 use Rattle.picky_conversion.specs.Drafted.{unsigned_line}
-use Rattle.picky_conversion.specs.{Request.{asked_for}, Certify.{IsReadFault, certification, drafting}}
+use Rattle.picky_conversion.specs.{Request.{builder_asked}, Certify.{IsInputFault, certification, drafting}}
 use Rattle.picky_conversion.specs.Convert.{LeavesAskedSuite}
-use Rattle.picky_conversion.specs.Made.{Answers, AnswersPlain, LeavesSigner, Made, ToSign, Whole, is_signed}
+use Rattle.picky_conversion.specs.Made.{AnswersMade, AnswersPlain, LeavesAskedSigner, Made, ToSign, Whole, is_signed}
 use Rattle.picky_conversion.specs.{Outside.{Outside, reader}, Want.{IsFault}, Refusal.{input_refusal}}
 use Rattle.picky_conversion.proofs.AnswerLemmas.{ReadingRefuses, refused_gives, refuses_input}
 use Rattle.picky_conversion.proofs.JudgedLemmas.{IsOwn, mapped_is, next_is, reading_is_own}
@@ -72,7 +72,7 @@ drafted_is_own : (request : CertRequest) (m : Meaning) (fresh : List ℕ) (e : C
 unfolding drafted
 drafted_is_own request m fresh e is =
     either_is (carries_comment targets.OpenSshPublic m.comment) _ errors.CommentNotCarried e own_comment
-    (drafted_of_is_own (asked_for request m) fresh e) is
+    (drafted_of_is_own (builder_asked request m) fresh e) is
 
 pub line_is_own : (request : CertRequest) (m : Meaning) (fresh : List ℕ) (e : ConvertError) → line_drafted request m fresh ≡ Err e
     → IsOwn e
@@ -97,16 +97,16 @@ drafting_is_own o request input e is =
 
 -- ---- where no device signs
 
-pub plain_made : {X : Type 0} (signs : Relation) (view : X → List ℕ) (says : Result (List ℕ) ConvertError)
+pub plain_made : {X : Type 0} (signs : SignRelation) (view : X → List ℕ) (says : Result (List ℕ) ConvertError)
     (Faults : ConvertError → Type 0) (rose : Type 0) (r : Result X ConvertError) → AnswersPlain view says Faults r
-    → Answers signs view (map_ok Whole says) Faults rose r
+    → AnswersMade signs view (map_ok Whole says) Faults rose r
 plain_made signs view says Faults rose (Ok x) is = (Whole (view x), ap (map_ok Whole) is, refl)
 plain_made signs view says Faults rose (Err e) (inl want) = inl want
 plain_made signs view says Faults rose (Err e) (inr (inl fault)) = inr (inl fault)
 plain_made signs view says Faults rose (Err e) (inr (inr refused)) = inr (inr (inr (ap (map_ok Whole) refused)))
 
-pub still : {S A : Type 0} (signs : S → Relation) (faults : S → ℕ) (asked : Bool) (r : Result A ConvertError) (s : S)
-    → LeavesSigner signs faults asked r s s
+pub still : {S A : Type 0} (signs : S → SignRelation) (faults : S → ℕ) (asked : Bool) (r : Result A ConvertError) (s : S)
+    → LeavesAskedSigner signs faults asked r s s
 still signs faults asked r s = record {
   kept = λ k a m b. (λ x. x, λ x. x);
   calm = λ other. refl;
@@ -126,9 +126,9 @@ pub certification_refused : (o : Outside) (request : CertRequest) (input : List 
 unfolding certification
 certification_refused o request input e refused = rw refused refl
 
-certifies_gives : (Faults : ConvertError → Type 0) (signs : Relation) (says : Result Unsigned ConvertError) (rose : Type 0)
+certifies_gives : (Faults : ConvertError → Type 0) (signs : SignRelation) (says : Result Unsigned ConvertError) (rose : Type 0)
     (r : Result (List ℕ) ConvertError) → Certifies signs says rose r
-    → Answers signs (λ text. text) (map_ok ToSign says) Faults rose r
+    → AnswersMade signs (λ text. text) (map_ok ToSign says) Faults rose r
 certifies_gives Faults signs (Ok u) rose (Ok text) is = (ToSign u, refl, is)
 certifies_gives Faults signs (Ok u) rose (Err e) (inl want) = inl want
 certifies_gives Faults signs (Ok u) rose (Err e) (inr left) = inr (inr (inl (ToSign u, refl, left)))
@@ -136,15 +136,15 @@ certifies_gives Faults signs (Err f) rose (Ok text) is = absurd is
 certifies_gives Faults signs (Err f) rose (Err e) (inl want) = inl want
 certifies_gives Faults signs (Err f) rose (Err e) (inr is) = inr (inr (inr (ap Err (sym is))))
 
-pub certified_gives : (signs : Relation) (o : Outside) (request : CertRequest) (input : List ℕ) (m : Meaning)
+pub certified_gives : (signs : SignRelation) (o : Outside) (request : CertRequest) (input : List ℕ) (m : Meaning)
     (Faults : ConvertError → Type 0) (rose : Type 0) (r : Result (List ℕ) ConvertError) → reading (reader o) input ≡ Ok m
     → Certifies signs (line_drafted request m o.output.fresh) rose r
-    → Answers signs (λ text. text) (map_ok ToSign (certification o request input)) Faults rose r
+    → AnswersMade signs (λ text. text) (map_ok ToSign (certification o request input)) Faults rose r
 certified_gives signs o request input m Faults rose r means is =
     rw (certification_of o request input m means) (certifies_gives Faults signs (line_drafted request m o.output.fresh) rose r is)
 
 -- no refusal of it is the suite's fault
-certifies_no_fault : (signs : Relation) (request : CertRequest) (m : Meaning) (fresh : List ℕ) (says : Result Unsigned ConvertError)
+certifies_no_fault : (signs : SignRelation) (request : CertRequest) (m : Meaning) (fresh : List ℕ) (says : Result Unsigned ConvertError)
     (rose : Type 0) (e : ConvertError) → line_drafted request m fresh ≡ says → Certifies signs says rose (Err e) → IsFault e → ⊥
 certifies_no_fault signs request m fresh (Ok u) rose e same (inl want) fault = absurd (subst IsFault want fault)
 certifies_no_fault signs request m fresh (Ok u) rose e same (inr (inl device)) fault = absurd (subst IsFault device.0 fault)
@@ -153,7 +153,7 @@ certifies_no_fault signs request m fresh (Err f) rose e same (inl want) fault = 
 certifies_no_fault signs request m fresh (Err f) rose e same (inr is) fault =
     (line_is_own request m fresh f same).1 (subst IsFault is fault)
 
-pub certified_leaves : {S : Type 0} (meanings : S → Meanings) (faults : S → ℕ) (signs : Relation) (request : CertRequest)
+pub certified_leaves : {S : Type 0} (meanings : S → Meanings) (faults : S → ℕ) (signs : SignRelation) (request : CertRequest)
     (m : Meaning) (input : List ℕ) (fresh : List ℕ) (asked : Bool) (rose : Type 0) (r : Result (List ℕ) ConvertError) (old new : S)
     → LeavesSuite {A = Meaning} {E = ReadError} meanings faults (input_fault input) asked (Ok m) old new
     → Certifies signs (line_drafted request m fresh) rose r → LeavesAskedSuite meanings faults asked r old new
@@ -178,10 +178,10 @@ not_signed : (says : Result Unsigned ConvertError) (Same : Type 0) → is_signed
 not_signed (Ok u) Same none same = cc none
 not_signed (Err e) Same none same = same
 
-pub certified_signer : {S A : Type 0} (signs : S → Relation) (faults : S → ℕ) (o : Outside) (request : CertRequest)
+pub certified_signer : {S A : Type 0} (signs : S → SignRelation) (faults : S → ℕ) (o : Outside) (request : CertRequest)
     (input : List ℕ) (m : Meaning) (r : Result A ConvertError) (old new : S) → reading (reader o) input ≡ Ok m
     → LeavesDevice signs faults (line_drafted request m o.output.fresh) r old new
-    → LeavesSigner signs faults (is_signed (map_ok ToSign (certification o request input))) r old new
+    → LeavesAskedSigner signs faults (is_signed (map_ok ToSign (certification o request input))) r old new
 certified_signer signs faults o request input m r old new means leaves = record {
   kept = leaves.kept;
   calm = leaves.calm;
@@ -192,9 +192,9 @@ certified_signer signs faults o request input m r old new means leaves = record 
 
 -- ---- a refusal, as what may be signed
 
-pub refused_made : {X A : Type 0} (signs : Relation) (view : X → List ℕ) (make : A → Made) (says : Result A ConvertError)
+pub refused_made : {X A : Type 0} (signs : SignRelation) (view : X → List ℕ) (make : A → Made) (says : Result A ConvertError)
     (Faults : ConvertError → Type 0) (rose : Type 0) (e : ConvertError)
-    → (e ≡ errors.NoMemory) ⊎ Faults e ⊎ (says ≡ Err e) → Answers {X = X} signs view (map_ok make says) Faults rose (Err e)
+    → (e ≡ errors.NoMemory) ⊎ Faults e ⊎ (says ≡ Err e) → AnswersMade {X = X} signs view (map_ok make says) Faults rose (Err e)
 refused_made signs view make says Faults rose e (inl want) = inl want
 refused_made signs view make says Faults rose e (inr (inl fault)) = inr (inl fault)
 refused_made signs view make says Faults rose e (inr (inr refused)) = inr (inr (inr (ap (map_ok make) refused)))
@@ -253,9 +253,9 @@ drafted_leaves view meanings faults request m input fresh asked (Err e) old new 
 
 pub input_refused : {A : Type 0} (o : Outside) (input : List ℕ) (e : ReadError) (rose : Type 0) (says : Result A ConvertError)
     → ReadingRefuses (reader o) input e rose → (reading (reader o) input ≡ Err e → says ≡ Err (errors.Input e))
-    → (input_refusal e ≡ errors.NoMemory) ⊎ IsReadFault o input (input_refusal e) rose ⊎ (says ≡ Err (input_refusal e))
+    → (input_refusal e ≡ errors.NoMemory) ⊎ IsInputFault o input (input_refusal e) rose ⊎ (says ≡ Err (input_refusal e))
 input_refused o input e rose says gives refused =
-    refused_gives (λ f. errors.Input f) input_refusal refuses_input (reader o) input e rose (λ f. IsReadFault o input f rose) says gives
+    refused_gives (λ f. errors.Input f) input_refusal refuses_input (reader o) input e rose (λ f. IsInputFault o input f rose) says gives
     (λ is asked. (ap errors.Input is, asked)) refused
 
 -- ---- the devices
@@ -271,8 +271,8 @@ still_leaves meanings faults asked e old new leaves = record {
   unasked = leaves.unasked;
 }
 
-pub still_signs : {S A B : Type 0} (signs : S → Relation) (faults : S → ℕ) (asked : Bool) (e : ConvertError) (old new : S)
-    → LeavesSigner {A = A} signs faults asked (Err e) old new → LeavesSigner {A = B} signs faults asked (Err e) old new
+pub still_signs : {S A B : Type 0} (signs : S → SignRelation) (faults : S → ℕ) (asked : Bool) (e : ConvertError) (old new : S)
+    → LeavesAskedSigner {A = A} signs faults asked (Err e) old new → LeavesAskedSigner {A = B} signs faults asked (Err e) old new
 still_signs signs faults asked e old new leaves = record {
   kept = leaves.kept;
   calm = λ other. leaves.calm (λ is. let same : e ≡ errors.Request requests.SignatureError = cc is in other (ap Err same));
@@ -280,9 +280,9 @@ still_signs signs faults asked e old new leaves = record {
 }
 
 -- no more than one of the two counts moved
-pub one_counted : {S G A : Type 0} (meanings : S → Meanings) (faults : S → ℕ) (asked : Bool) (signs : G → Relation) (signer_faults : G → ℕ)
+pub one_counted : {S G A : Type 0} (meanings : S → Meanings) (faults : S → ℕ) (asked : Bool) (signs : G → SignRelation) (signer_faults : G → ℕ)
     (signed : Bool) (r : Result A ConvertError) (old new : S) (before after : G) → LeavesAskedSuite meanings faults asked r old new
-    → LeavesSigner signs signer_faults signed r before after → (faults new ≡ faults old) ⊎ (signer_faults after ≡ signer_faults before)
+    → LeavesAskedSigner signs signer_faults signed r before after → (faults new ≡ faults old) ⊎ (signer_faults after ≡ signer_faults before)
 one_counted meanings faults asked signs signer_faults signed (Ok x) old new before after suite signer = inl (suite.calm (λ e is fault. cc is))
 one_counted meanings faults asked signs signer_faults signed (Err (errors.Request requests.SignatureError)) old new before after suite signer =
     inl (suite.calm (λ e is fault. let same : e ≡ errors.Request requests.SignatureError = cc is in subst IsFault same fault))

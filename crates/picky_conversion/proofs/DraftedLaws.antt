@@ -20,7 +20,7 @@ use Rattle.picky_target.proofs.PlaceLemmas.{comment_holds, comment_test}
 use Rattle.picky_conversion.specs.declared.request.CertRequest.{CertRequest}
 use Rattle.picky_conversion.specs.Drafted.{IsDrafted, IsLineDrafted, drafted, drafted_of, if_line_fits, line_drafted, nonce_in}
 use Rattle.picky_conversion.specs.Drafted.{request_refusal, unsigned_line}
-use Rattle.picky_conversion.specs.Request.{asked_for}
+use Rattle.picky_conversion.specs.Request.{builder_asked}
 
 -- what passed a test
 passes : {A E : Type 0} (b : Bool) (x : Result A E) (e : E) (y : A)
@@ -52,11 +52,11 @@ drafted_is : (request : CertRequest) (m : Meaning) (fresh : List ℕ) (u : Unsig
 unfolding drafted drafted_of
 drafted_is request m fresh u is =
     let comment = passes (carries_comment targets.OpenSshPublic m.comment) _ errors.CommentNotCarried u is in
-    let terms = and_then_ok (map_err request_refusal (judged_terms (terms_of (asked_for request m)))) (λ _.
-    and_then (nonce_in fresh) (λ nonce. map_err request_refusal (requested (asked_for request m) nonce))) u comment.1 in
-    let second = and_then_ok (nonce_in fresh) (λ nonce. map_err request_refusal (requested (asked_for request m) nonce)) u terms.2 in
+    let terms = and_then_ok (map_err request_refusal (judged_terms (terms_of (builder_asked request m)))) (λ _.
+    and_then (nonce_in fresh) (λ nonce. map_err request_refusal (requested (builder_asked request m) nonce))) u comment.1 in
+    let second = and_then_ok (nonce_in fresh) (λ nonce. map_err request_refusal (requested (builder_asked request m) nonce)) u terms.2 in
     let nonce = passes (nat_le 32 (length fresh)) (Ok (take 32 fresh)) errors.FreshTooShort second.0 second.1 in
-    let made = map_err_ok request_refusal (requested (asked_for request m) second.0) u second.2 in
+    let made = map_err_ok request_refusal (requested (builder_asked request m) second.0) u second.2 in
     let front : take 32 fresh ≡ second.0 = cc nonce.1 in
     record {
       comment = comment_holds targets.OpenSshPublic m.comment comment.0;
@@ -68,7 +68,7 @@ is_drafted : (request : CertRequest) (m : Meaning) (fresh : List ℕ) (u : Unsig
     → drafted request m fresh ≡ Ok u
 unfolding drafted drafted_of
 is_drafted request m fresh u is =
-    let fit = (requested_is_made (asked_for request m) _ u is.is).judged in
+    let fit = (requested_is_made (builder_asked request m) _ u is.is).judged in
     rw (comment_test targets.OpenSshPublic m.comment is.comment, fit, le-leb 32 (length fresh) is.enough, is.is) refl
 
 line_is : (request : CertRequest) (m : Meaning) (fresh : List ℕ) (u : Unsigned) → line_drafted request m fresh ≡ Ok u

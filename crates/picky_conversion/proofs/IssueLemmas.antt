@@ -10,19 +10,19 @@ use Rattle.picky_wire.specs.Count.{Rose}
 use Rattle.picky_cert.specs.Spelled.{signed_of}
 use Rattle.picky_cert_builder.specs.Draft.{Unsigned}
 use Rattle.picky_issuing.specs.declared.options.CertOptions.{CertOptions}
-use Rattle.picky_issuing.specs.Parts.{issuer_part, key_part}
+use Rattle.picky_issuing.specs.Parts.{issuer_text_part, key_part}
 use Rattle.picky_key_text.specs.declared.error.ReadError.{ReadError}
 use Rattle.picky_key_text.specs.declared.meaning.Key.{Key}
 use Rattle.picky_key_text.specs.declared.meaning.Meaning.{Meaning}
 use Rattle.picky_key_text.specs.Order.{asks, fault_of as input_fault, reading}
 use Rattle.picky_target.specs.declared.error.ConvertError.{ConvertError}
 use Rattle.picky_target.specs.declared.error.ConvertError.TheVariants as errors
-use Rattle.picky_conversion.specs.Certified.{Relation}
-use Rattle.picky_conversion.specs.Certify.{IsReadFault, certification, drafting, hex_line}
+use Rattle.picky_conversion.specs.Certified.{SignRelation}
+use Rattle.picky_conversion.specs.Certify.{IsInputFault, certification, drafting, hex_line}
 use Rattle.picky_conversion.specs.Convert.{LeavesAskedSuite}
 use Rattle.picky_conversion.specs.Issue.{IsIssuingFault, asks_issuer, asks_key, issued, issued_bytes, issuer_fault}
 use Rattle.picky_conversion.specs.Issue.{issuer_read, issuing_asks, request_by, unsigned}
-use Rattle.picky_conversion.specs.Made.{Answers, AnswersPlain, LeavesSigner, Made, ToSign, is_signed}
+use Rattle.picky_conversion.specs.Made.{AnswersMade, AnswersPlain, LeavesAskedSigner, Made, ToSign, is_signed}
 use Rattle.picky_conversion.specs.Outside.{Outside, reader}
 use Rattle.picky_conversion.specs.Want.{IsFault}
 use Rattle.picky_conversion.specs.Refusal.{issuer_refusal}
@@ -32,9 +32,9 @@ use Rattle.picky_conversion.proofs.JudgedLemmas.{IsOwn, issuer_is_own, mapped_is
 
 -- ---- the same answer to what is the same
 
-pub answers_same : {X : Type 0} (signs : Relation) (view : X → List ℕ) (says other : Result Made ConvertError)
+pub answers_same : {X : Type 0} (signs : SignRelation) (view : X → List ℕ) (says other : Result Made ConvertError)
     (Faults Others : ConvertError → Type 0) (rose : Type 0) (r : Result X ConvertError) → says ≡ other
-    → ((e : ConvertError) → Faults e → Others e) → Answers signs view says Faults rose r → Answers signs view other Others rose r
+    → ((e : ConvertError) → Faults e → Others e) → AnswersMade signs view says Faults rose r → AnswersMade signs view other Others rose r
 answers_same signs view says other Faults Others rose (Ok x) same each is = (is.0, sym same ∙ is.1, is.2)
 answers_same signs view says other Faults Others rose (Err e) same each (inl want) = inl want
 answers_same signs view says other Faults Others rose (Err e) same each (inr (inl fault)) = inr (inl (each e fault))
@@ -63,41 +63,41 @@ pub issued_is_own : (o : Outside) (options : CertOptions) (input : List ℕ) (e 
     → IsOwn e
 unfolding issued
 issued_is_own o options input e is =
-    next_is IsOwn (issuer_read o (issuer_part input)) _ e (issuer_own o (issuer_part input))
+    next_is IsOwn (issuer_read o (issuer_text_part input)) _ e (issuer_own o (issuer_text_part input))
     (λ issuer f was. certification_is_own o (request_by options issuer) (key_part input) f) is
 
 pub unsigned_is_own : (o : Outside) (options : CertOptions) (input : List ℕ) (e : ConvertError) → unsigned o options input ≡ Err e
     → IsOwn e
 unfolding unsigned
 unsigned_is_own o options input e is =
-    next_is IsOwn (issuer_read o (issuer_part input)) _ e (issuer_own o (issuer_part input))
+    next_is IsOwn (issuer_read o (issuer_text_part input)) _ e (issuer_own o (issuer_text_part input))
     (λ issuer f was. drafting_is_own o (request_by options issuer) (key_part input) f) is
 
 -- ---- what is issued by an issuer that was read
 
 pub issued_by : (o : Outside) (options : CertOptions) (input : List ℕ) (issuer : Option Key)
-    → issuer_read o (issuer_part input) ≡ Ok issuer → certification o (request_by options issuer) (key_part input) ≡ issued o options input
+    → issuer_read o (issuer_text_part input) ≡ Ok issuer → certification o (request_by options issuer) (key_part input) ≡ issued o options input
 unfolding issued
 issued_by o options input issuer is = rw is refl
 
 pub unsigned_by : (o : Outside) (options : CertOptions) (input : List ℕ) (issuer : Option Key)
-    → issuer_read o (issuer_part input) ≡ Ok issuer → drafting o (request_by options issuer) (key_part input) ≡ unsigned o options input
+    → issuer_read o (issuer_text_part input) ≡ Ok issuer → drafting o (request_by options issuer) (key_part input) ≡ unsigned o options input
 unfolding unsigned
 unsigned_by o options input issuer is = rw is refl
 
 issued_refused : (o : Outside) (options : CertOptions) (input : List ℕ) (e : ConvertError)
-    → issuer_read o (issuer_part input) ≡ Err e → issued o options input ≡ Err e
+    → issuer_read o (issuer_text_part input) ≡ Err e → issued o options input ≡ Err e
 unfolding issued
 issued_refused o options input e is = rw is refl
 
 unsigned_refused : (o : Outside) (options : CertOptions) (input : List ℕ) (e : ConvertError)
-    → issuer_read o (issuer_part input) ≡ Err e → unsigned o options input ≡ Err e
+    → issuer_read o (issuer_text_part input) ≡ Err e → unsigned o options input ≡ Err e
 unfolding unsigned
 unsigned_refused o options input e is = rw is refl
 
 -- a fault in reading the key text is one in issuing
 key_fault : (o : Outside) (input : List ℕ) (issuer : Option Key) (later rose : Type 0)
-    → issuer_read o (issuer_part input) ≡ Ok issuer → (later → rose) → (e : ConvertError) → IsReadFault o (key_part input) e later
+    → issuer_read o (issuer_text_part input) ≡ Ok issuer → (later → rose) → (e : ConvertError) → IsInputFault o (key_part input) e later
     → IsIssuingFault o input e rose
 key_fault o input issuer later rose is whole e fault =
     inr (fault.0, ((rw is fault.1.0), whole fault.1.1))
@@ -109,22 +109,22 @@ abbrev pub ReadsIssuer : Outside → Option (List ℕ) → Type 0 → Result (Op
 ReadsIssuer o issuer rose r =
     AnswersPlain (λ key. key) (issuer_read o issuer) (λ e. (e ≡ issuer_fault issuer) × IsAskedFault (asks_issuer o issuer) rose) r
 
-pub issue_gives : {X : Type 0} (signs : Relation) (view : X → List ℕ) (o : Outside) (m : Meanings) (options : CertOptions)
+pub issue_gives : {X : Type 0} (signs : SignRelation) (view : X → List ℕ) (o : Outside) (m : Meanings) (options : CertOptions)
     (input : List ℕ) (issuer : Option Key) (before between after : ℕ) (signer_rose : Type 0) (r : Result X ConvertError)
-    → issuer_read o (issuer_part input) ≡ Ok issuer → m ≡ o.meanings → between ≡ before
-    → Answers signs view (map_ok ToSign (certification (record o { meanings = m }) (request_by options issuer) (key_part input)))
-    (λ e. IsReadFault (record o { meanings = m }) (key_part input) e (Rose between after)) signer_rose r
-    → Answers signs view (map_ok ToSign (issued o options input)) (λ e. IsIssuingFault o input e (Rose before after)) signer_rose r
+    → issuer_read o (issuer_text_part input) ≡ Ok issuer → m ≡ o.meanings → between ≡ before
+    → AnswersMade signs view (map_ok ToSign (certification (record o { meanings = m }) (request_by options issuer) (key_part input)))
+    (λ e. IsInputFault (record o { meanings = m }) (key_part input) e (Rose between after)) signer_rose r
+    → AnswersMade signs view (map_ok ToSign (issued o options input)) (λ e. IsIssuingFault o input e (Rose before after)) signer_rose r
 issue_gives signs view o m options input issuer before between after signer_rose r is same count answers =
     answers_same signs view (map_ok ToSign (certification o (request_by options issuer) (key_part input))) _ _ _ signer_rose r
     (ap (map_ok ToSign) (issued_by o options input issuer is))
     (key_fault o input issuer (Rose between after) (Rose before after) is (λ rose. subst (λ n. Rose n after) count rose))
-    (subst (λ n. Answers signs view (map_ok ToSign (certification (record o { meanings = n }) (request_by options issuer) (key_part input)))
-    (λ e. IsReadFault (record o { meanings = n }) (key_part input) e (Rose between after)) signer_rose r) same answers)
+    (subst (λ n. AnswersMade signs view (map_ok ToSign (certification (record o { meanings = n }) (request_by options issuer) (key_part input)))
+    (λ e. IsInputFault (record o { meanings = n }) (key_part input) e (Rose between after)) signer_rose r) same answers)
 
-pub issue_refused : {X : Type 0} (signs : Relation) (view : X → List ℕ) (o : Outside) (options : CertOptions) (input : List ℕ)
-    (rose signer_rose : Type 0) (e : ConvertError) → ReadsIssuer o (issuer_part input) rose (Err e)
-    → Answers signs view (map_ok ToSign (issued o options input)) (λ f. IsIssuingFault o input f rose) signer_rose (Err e)
+pub issue_refused : {X : Type 0} (signs : SignRelation) (view : X → List ℕ) (o : Outside) (options : CertOptions) (input : List ℕ)
+    (rose signer_rose : Type 0) (e : ConvertError) → ReadsIssuer o (issuer_text_part input) rose (Err e)
+    → AnswersMade signs view (map_ok ToSign (issued o options input)) (λ f. IsIssuingFault o input f rose) signer_rose (Err e)
 issue_refused signs view o options input rose signer_rose e (inl want) = inl want
 issue_refused signs view o options input rose signer_rose e (inr (inl fault)) = inr (inl (inl fault))
 issue_refused signs view o options input rose signer_rose e (inr (inr refused)) =
@@ -157,19 +157,19 @@ plain_same view says other Faults Others (Err e) same each (inr (inr refused)) =
 
 pub print_gives : {X : Type 0} (view : X → List ℕ) (o : Outside) (m : Meanings) (options : CertOptions) (input : List ℕ)
     (issuer : Option Key) (before between after : ℕ) (r : Result X ConvertError)
-    → issuer_read o (issuer_part input) ≡ Ok issuer → m ≡ o.meanings → between ≡ before
+    → issuer_read o (issuer_text_part input) ≡ Ok issuer → m ≡ o.meanings → between ≡ before
     → AnswersPlain view (map_ok hex_line (drafting (record o { meanings = m }) (request_by options issuer) (key_part input)))
-    (λ e. IsReadFault (record o { meanings = m }) (key_part input) e (Rose between after)) r
+    (λ e. IsInputFault (record o { meanings = m }) (key_part input) e (Rose between after)) r
     → AnswersPlain view (issued_bytes o options input) (λ e. IsIssuingFault o input e (Rose before after)) r
 print_gives view o m options input issuer before between after r is same count answers =
     plain_same view (map_ok hex_line (drafting o (request_by options issuer) (key_part input))) _ _ _ r
     (ap (map_ok hex_line) (unsigned_by o options input issuer is))
     (key_fault o input issuer (Rose between after) (Rose before after) is (λ rose. subst (λ n. Rose n after) count rose))
     (subst (λ n. AnswersPlain view (map_ok hex_line (drafting (record o { meanings = n }) (request_by options issuer) (key_part input)))
-    (λ e. IsReadFault (record o { meanings = n }) (key_part input) e (Rose between after)) r) same answers)
+    (λ e. IsInputFault (record o { meanings = n }) (key_part input) e (Rose between after)) r) same answers)
 
 pub print_refused : {X : Type 0} (view : X → List ℕ) (o : Outside) (options : CertOptions) (input : List ℕ) (rose : Type 0)
-    (e : ConvertError) → ReadsIssuer o (issuer_part input) rose (Err e)
+    (e : ConvertError) → ReadsIssuer o (issuer_text_part input) rose (Err e)
     → AnswersPlain {X = X} view (issued_bytes o options input) (λ f. IsIssuingFault o input f rose) (Err e)
 print_refused view o options input rose e (inl want) = inl want
 print_refused view o options input rose e (inr (inl fault)) = inr (inl (inl fault))
@@ -187,30 +187,30 @@ pub issuing_fault_asks : (o : Outside) (input : List ℕ) (e : ConvertError) (ro
     → IsFault e × IsAskedFault (issuing_asks o input) rose
 unfolding issuing_asks
 issuing_fault_asks o input e rose (inl fault) = (
-  subst IsFault (sym fault.0) (issuer_fault_is (issuer_part input)),
-  (either_true (asks_issuer o (issuer_part input)) (asks_key o input) (inl fault.1.0), fault.1.1),
+  subst IsFault (sym fault.0) (issuer_fault_is (issuer_text_part input)),
+  (either_true (asks_issuer o (issuer_text_part input)) (asks_key o input) (inl fault.1.0), fault.1.1),
 )
 issuing_fault_asks o input e rose (inr fault) = (
   subst IsFault (sym fault.0) (input_fault_is (key_part input)),
-  (either_true (asks_issuer o (issuer_part input)) (asks_key o input) (inr fault.1.0), fault.1.1),
+  (either_true (asks_issuer o (issuer_text_part input)) (asks_key o input) (inr fault.1.0), fault.1.1),
 )
 
 -- it is asked neither for the issuer's text nor for the key text
-asks_none : (o : Outside) (input : List ℕ) (issuer : Option Key) → issuer_read o (issuer_part input) ≡ Ok issuer
-    → issuing_asks o input ≡ false → (asks_issuer o (issuer_part input) ≡ false) × (asks o.pass_in (key_part input) ≡ false)
+asks_none : (o : Outside) (input : List ℕ) (issuer : Option Key) → issuer_read o (issuer_text_part input) ≡ Ok issuer
+    → issuing_asks o input ≡ false → (asks_issuer o (issuer_text_part input) ≡ false) × (asks o.pass_in (key_part input) ≡ false)
 unfolding issuing_asks
 asks_none o input issuer is unasked =
-    let two = either_false (asks_issuer o (issuer_part input)) (asks_key o input) unasked in
+    let two = either_false (asks_issuer o (issuer_text_part input)) (asks_key o input) unasked in
     (two.0, sym (ap (λ r. is_ok r && asks o.pass_in (key_part input)) is) ∙ two.1)
 
-pub asks_no_issuer : (o : Outside) (input : List ℕ) → issuing_asks o input ≡ false → asks_issuer o (issuer_part input) ≡ false
+pub asks_no_issuer : (o : Outside) (input : List ℕ) → issuing_asks o input ≡ false → asks_issuer o (issuer_text_part input) ≡ false
 unfolding issuing_asks
-asks_no_issuer o input unasked = (either_false (asks_issuer o (issuer_part input)) (asks_key o input) unasked).0
+asks_no_issuer o input unasked = (either_false (asks_issuer o (issuer_text_part input)) (asks_key o input) unasked).0
 
 -- two texts are read, one after the other
 pub then_leaves : {S A : Type 0} (meanings : S → Meanings) (faults : S → ℕ) (o : Outside) (input : List ℕ) (issuer : Option Key)
-    (r : Result A ConvertError) (old between new : S) → issuer_read o (issuer_part input) ≡ Ok issuer
-    → LeavesAskedSuite {A = Option Key} meanings faults (asks_issuer o (issuer_part input)) (Ok issuer) old between
+    (r : Result A ConvertError) (old between new : S) → issuer_read o (issuer_text_part input) ≡ Ok issuer
+    → LeavesAskedSuite {A = Option Key} meanings faults (asks_issuer o (issuer_text_part input)) (Ok issuer) old between
     → LeavesAskedSuite meanings faults (asks o.pass_in (key_part input)) r between new
     → LeavesAskedSuite meanings faults (issuing_asks o input) r old new
 then_leaves meanings faults o input issuer r old between new is first second = record {
@@ -224,7 +224,7 @@ then_leaves meanings faults o input issuer r old between new is first second = r
 
 -- the first is refused
 pub first_leaves : {S A B : Type 0} (meanings : S → Meanings) (faults : S → ℕ) (o : Outside) (input : List ℕ) (e : ConvertError)
-    (old new : S) → LeavesAskedSuite {A = A} meanings faults (asks_issuer o (issuer_part input)) (Err e) old new
+    (old new : S) → LeavesAskedSuite {A = A} meanings faults (asks_issuer o (issuer_text_part input)) (Err e) old new
     → LeavesAskedSuite {A = B} meanings faults (issuing_asks o input) (Err e) old new
 first_leaves meanings faults o input e old new leaves = record {
   kept = leaves.kept;
@@ -235,14 +235,14 @@ first_leaves meanings faults o input e old new leaves = record {
 
 -- ---- the signer
 
-pub issue_signer : {S A : Type 0} (signs : S → Relation) (faults : S → ℕ) (o : Outside) (m : Meanings) (options : CertOptions)
-    (input : List ℕ) (issuer : Option Key) (r : Result A ConvertError) (old new : S) → issuer_read o (issuer_part input) ≡ Ok issuer
+pub issue_signer : {S A : Type 0} (signs : S → SignRelation) (faults : S → ℕ) (o : Outside) (m : Meanings) (options : CertOptions)
+    (input : List ℕ) (issuer : Option Key) (r : Result A ConvertError) (old new : S) → issuer_read o (issuer_text_part input) ≡ Ok issuer
     → m ≡ o.meanings
-    → LeavesSigner signs faults (is_signed (map_ok ToSign (certification (record o { meanings = m }) (request_by options issuer) (key_part input)))) r old new
-    → LeavesSigner signs faults (is_signed (map_ok ToSign (issued o options input))) r old new
+    → LeavesAskedSigner signs faults (is_signed (map_ok ToSign (certification (record o { meanings = m }) (request_by options issuer) (key_part input)))) r old new
+    → LeavesAskedSigner signs faults (is_signed (map_ok ToSign (issued o options input))) r old new
 issue_signer signs faults o m options input issuer r old new is same leaves =
-    let at = subst (λ n. LeavesSigner signs faults (is_signed (map_ok ToSign (certification (record o { meanings = n }) (request_by options issuer) (key_part input)))) r old new) same leaves in
-    subst (λ says. LeavesSigner signs faults (is_signed (map_ok ToSign says)) r old new) (issued_by o options input issuer is) at
+    let at = subst (λ n. LeavesAskedSigner signs faults (is_signed (map_ok ToSign (certification (record o { meanings = n }) (request_by options issuer) (key_part input)))) r old new) same leaves in
+    subst (λ says. LeavesAskedSigner signs faults (is_signed (map_ok ToSign says)) r old new) (issued_by o options input issuer is) at
 
 -- a text that is read leaves the suite so
 pub read_leaves : {S A : Type 0} (meanings : S → Meanings) (faults : S → ℕ) (input : List ℕ) (asked : Bool) (m : Meaning) (x : A)
@@ -296,8 +296,8 @@ want_leaves meanings faults asked x old new leaves = record {
 }
 
 -- and the signer
-pub ok_signs : {S A B : Type 0} (signs : S → Relation) (faults : S → ℕ) (asked : Bool) (x : A) (y : B) (old new : S)
-    → LeavesSigner signs faults asked (Ok x) old new → LeavesSigner signs faults asked (Ok y) old new
+pub ok_signs : {S A B : Type 0} (signs : S → SignRelation) (faults : S → ℕ) (asked : Bool) (x : A) (y : B) (old new : S)
+    → LeavesAskedSigner signs faults asked (Ok x) old new → LeavesAskedSigner signs faults asked (Ok y) old new
 ok_signs signs faults asked x y old new leaves = record {
   kept = leaves.kept;
   calm = λ other. leaves.calm (λ is. cc is);

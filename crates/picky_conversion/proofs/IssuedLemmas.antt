@@ -6,7 +6,7 @@ use Rattle.picky_wire_base.specs.carried.Outcome.{and_then_ok, map_err_ok}
 use Rattle.picky_wire_base.specs.Outcome.{map_err, map_ok}
 use Rattle.picky_cert_builder.specs.Draft.{Unsigned}
 use Rattle.picky_issuing.specs.declared.options.CertOptions.{CertOptions}
-use Rattle.picky_issuing.specs.Parts.{issuer_part, key_part}
+use Rattle.picky_issuing.specs.Parts.{issuer_text_part, key_part}
 use Rattle.picky_issuing.proofs.PartsText.{parts_are_text}
 use Rattle.picky_key_text.specs.declared.meaning.Key.{Key}
 use Rattle.picky_key_text.specs.declared.meaning.Meaning.{Meaning}
@@ -16,7 +16,7 @@ use Rattle.picky_key_text.proofs.ReadingLaws.{reading_of as read}
 use Rattle.picky_target.specs.declared.error.ConvertError.{ConvertError}
 use Rattle.picky_target.specs.declared.error.ConvertError.TheVariants as errors
 use Rattle.picky_conversion.specs.declared.request.CertRequest.{CertRequest}
-use Rattle.picky_conversion.specs.Certified.{IsLineOf, Relation}
+use Rattle.picky_conversion.specs.Certified.{IsLineOf, SignRelation}
 use Rattle.picky_conversion.specs.Drafted.{IsDrafted, IsLineDrafted, drafted, line_drafted}
 use Rattle.picky_conversion.proofs.DraftedLaws.{drafted_where, line_drafted_where}
 use Rattle.picky_conversion.proofs.ReadBackLemmas.{line_is_read_back}
@@ -24,7 +24,7 @@ use Rattle.picky_conversion.specs.Certify.{IsCertified, IsToBeSigned, certificat
 use Rattle.picky_conversion.specs.Chain.{IsGiven}
 use Rattle.picky_conversion.specs.Issue.{CanIssue, CanIssueBytes, IsIssued, IsIssuedBytes, IsIssuer, issued, issued_bytes}
 use Rattle.picky_conversion.specs.Issue.{issuer_read, request_by, unsigned}
-use Rattle.picky_conversion.specs.Made.{IsLeft, IsTextOf, IsUnwritten, ToSign, Whole, Writes}
+use Rattle.picky_conversion.specs.Made.{IsLeft, IsMadeText, IsUnwritten, ToSign, Whole, WritesMade}
 use Rattle.picky_conversion.specs.Outside.{Outside, reader, reader_back}
 use Rattle.picky_conversion.proofs.ConvertLemmas.{means_one, says_in}
 
@@ -36,30 +36,30 @@ map_ok_ok f (Err e) y is = cc is
 -- ---- the text of what is come to
 
 -- where no device signs
-pub whole_of : (signs : Relation) (says : Result (List ℕ) ConvertError) (text : List ℕ) → Writes signs (map_ok Whole says) text
+pub whole_of : (signs : SignRelation) (says : Result (List ℕ) ConvertError) (text : List ℕ) → WritesMade signs (map_ok Whole says) text
     → says ≡ Ok text
 whole_of signs (Ok t) text (made, is, of) =
     let same : made ≡ Whole t = cc is in
-    ap Ok (sym (subst (λ m. IsTextOf signs m text) same of))
+    ap Ok (sym (subst (λ m. IsMadeText signs m text) same of))
 whole_of signs (Err e) text (made, is, of) = cc is
 
 -- and then nothing is left unwritten
-pub none_left : (signs : Relation) (says : Result (List ℕ) ConvertError) (rose : Type 0) (e : ConvertError)
+pub none_left : (signs : SignRelation) (says : Result (List ℕ) ConvertError) (rose : Type 0) (e : ConvertError)
     → IsLeft signs (map_ok Whole says) rose e → ⊥
 none_left signs (Ok t) rose e (made, is, left) =
     let same : made ≡ Whole t = cc is in subst (λ m. IsUnwritten signs m rose e) same left
 none_left signs (Err f) rose e (made, is, left) = cc is
 
 -- where one does
-pub signed_of_it : (signs : Relation) (says : Result Unsigned ConvertError) (text : List ℕ) → Writes signs (map_ok ToSign says) text
+pub signed_of_it : (signs : SignRelation) (says : Result Unsigned ConvertError) (text : List ℕ) → WritesMade signs (map_ok ToSign says) text
     → (u : Unsigned) × (says ≡ Ok u) × IsLineOf signs u text
 signed_of_it signs (Ok u) text (made, is, of) =
     let same : made ≡ ToSign u = cc is in
-    (u, refl, subst (λ m. IsTextOf signs m text) same of)
+    (u, refl, subst (λ m. IsMadeText signs m text) same of)
 signed_of_it signs (Err e) text (made, is, of) = cc is
 
 -- the line of a certificate
-pub certified_is : (signs : Relation) (o : Outside) (request : CertRequest) (input text : List ℕ) (u : Unsigned) → IsGiven o
+pub certified_is : (signs : SignRelation) (o : Outside) (request : CertRequest) (input text : List ℕ) (u : Unsigned) → IsGiven o
     → IsUtf8 input → certification o request input ≡ Ok u → IsLineOf signs u text → IsCertified signs o request input text
 unfolding certification
 certified_is signs o request input text u given utf8 done line =
@@ -99,14 +99,14 @@ issuer_says o (Some text) issuer given utf8 is =
     let means = map_err_ok errors.Issuer (reading (reader o) text) steps.0 steps.1 in
     (steps.0, says_in o text steps.0 given utf8 means, sym (cc steps.2))
 
-pub issued_is : (signs : Relation) (o : Outside) (options : CertOptions) (input text : List ℕ) (u : Unsigned) → IsGiven o
+pub issued_is : (signs : SignRelation) (o : Outside) (options : CertOptions) (input text : List ℕ) (u : Unsigned) → IsGiven o
     → IsUtf8 input → issued o options input ≡ Ok u → IsLineOf signs u text → IsIssued signs o options input text
 unfolding issued
 issued_is signs o options input text u given utf8 done line =
     let parts = parts_are_text input utf8 in
-    let steps = and_then_ok (issuer_read o (issuer_part input)) _ u done in (
+    let steps = and_then_ok (issuer_read o (issuer_text_part input)) _ u done in (
       steps.0,
-      issuer_says o (issuer_part input) steps.0 given parts.0 steps.1,
+      issuer_says o (issuer_text_part input) steps.0 given parts.0 steps.1,
       certified_is signs o (request_by options steps.0) (key_part input) text u given parts.1 steps.2 line,
     )
 
@@ -116,9 +116,9 @@ unfolding unsigned
 issued_bytes_is o options input text given utf8 done =
     let parts = parts_are_text input utf8 in
     let mapped = map_ok_ok hex_line (unsigned o options input) text done in
-    let steps = and_then_ok (issuer_read o (issuer_part input)) _ mapped.0 mapped.1 in (
+    let steps = and_then_ok (issuer_read o (issuer_text_part input)) _ mapped.0 mapped.1 in (
       steps.0,
-      issuer_says o (issuer_part input) steps.0 given parts.0 steps.1,
+      issuer_says o (issuer_text_part input) steps.0 given parts.0 steps.1,
       to_be_signed_is o (request_by options steps.0) (key_part input) text mapped.0 given parts.1 steps.2 mapped.2,
     )
 
@@ -145,7 +145,7 @@ pub issued_from : (o : Outside) (options : CertOptions) (input : List ℕ) → C
 unfolding issued
 issued_from o options input (issuer, is, m, reads, can) = (
   can.0,
-  rw (issuer_of o (issuer_part input) issuer is) (certification_from o (request_by options issuer) (key_part input) m can.0 reads can.1),
+  rw (issuer_of o (issuer_text_part input) issuer is) (certification_from o (request_by options issuer) (key_part input) m can.0 reads can.1),
 )
 
 pub unsigned_from : (o : Outside) (options : CertOptions) (input : List ℕ) → CanIssueBytes o options input
@@ -153,5 +153,5 @@ pub unsigned_from : (o : Outside) (options : CertOptions) (input : List ℕ) →
 unfolding unsigned
 unsigned_from o options input (issuer, is, m, reads, u, drafted) = (
   u,
-  rw (issuer_of o (issuer_part input) issuer is) (drafting_from o (request_by options issuer) (key_part input) m u reads drafted),
+  rw (issuer_of o (issuer_text_part input) issuer is) (drafting_from o (request_by options issuer) (key_part input) m u reads drafted),
 )

@@ -14,10 +14,10 @@ use Rattle.picky_target.specs.declared.error.ConvertError.TheVariants as errors
 use Rattle.picky_target.specs.{declared.target.KeyTarget.{KeyTarget}, Judged.{judged_meaning}, Output.{Output}}
 use Rattle.picky_target.specs.{ReadBack.{IsTarget, kept, under}, Texts.{text_for}, Written.{keeps_secret}}
 use Rattle.picky_target.specs.declared.target.KeyTarget.TheVariants as targets
-use Rattle.picky_conversion.specs.Certified.{Relation}
+use Rattle.picky_conversion.specs.Certified.{SignRelation}
 use Rattle.picky_conversion.specs.{Drafted.{line_drafted}, Chain.{IsGiven}, AnyChain.{AnyStep, Through, pass_after}}
 use Rattle.picky_conversion.specs.{Binds.{Binds}, Certify.{certification}, Convert.{conversion}}
-use Rattle.picky_conversion.specs.{Made.{Writes}, Outside.{Outside, reader}}
+use Rattle.picky_conversion.specs.{Made.{WritesMade}, Outside.{Outside, reader}}
 use Rattle.picky_conversion.specs.To.{Certified, IsWay, Way, Written, converted}
 use Rattle.picky_conversion.proofs.{DraftedLaws.{line_drafted_where}, ReadBackLemmas.{line_is_read_back}}
 use Rattle.picky_conversion.proofs.ConvertLemmas.{conversion_from, conversion_parts}
@@ -95,8 +95,8 @@ record HasPublic (r : Reader) (text : List ℕ) (key : SshPublicKey) : Type 0 wh
   is_kept : IsKeptMeaning meaning
   is : public_key meaning ≡ key
 
-step_keeps : (signs : Relation) (o : Outside) (way : Way) (from next : List ℕ) (key : SshPublicKey) → IsGiven (record o { pass_in = None })
-    → IsWay way → HasPublic (reader o) from key → Writes signs (converted o way from) next
+step_keeps : (signs : SignRelation) (o : Outside) (way : Way) (from next : List ℕ) (key : SshPublicKey) → IsGiven (record o { pass_in = None })
+    → IsWay way → HasPublic (reader o) from key → WritesMade signs (converted o way from) next
     → HasPublic (under o.meanings o.output.pass) next key
 unfolding certification
 step_keeps signs o (Written to) from next key given fits before wrote =
@@ -122,7 +122,7 @@ step_keeps signs o (Certified request) from next key given fits before wrote =
       is = ap public_key same ∙ before.is;
     }
 
-steps_keep : (signs : Relation) (o : Outside) (steps : List AnyStep) (from to : List ℕ) (key : SshPublicKey)
+steps_keep : (signs : SignRelation) (o : Outside) (steps : List AnyStep) (from to : List ℕ) (key : SshPublicKey)
     → HasPublic (reader o) from key → Through signs o steps from to
     → HasPublic (under o.meanings (pass_after o.pass_in steps)) to key
 steps_keep signs o [] from to key before is = subst (λ t. HasPublic (reader o) t key) (sym is) before
@@ -137,7 +137,7 @@ kept_alike (targets.Ppk version config) m n public same = cc public
 kept_alike targets.OpenSshPublic m n public same = ap public_meaning same
 kept_alike targets.PuttyPublic m n public same = ap public_meaning same
 
-pub public_parts_stay : (signs : Relation) (o : Outside) (steps : List AnyStep) (out : Output) (to : KeyTarget) (input between text : List ℕ)
+pub public_parts_stay : (signs : SignRelation) (o : Outside) (steps : List AnyStep) (out : Output) (to : KeyTarget) (input between text : List ℕ)
     → IfSome o.pass_in IsUtf8 → IsUtf8 input → (m : Meaning) → reading (reader o) input ≡ Ok m
     → keeps_secret to ≡ false → Through signs o steps input between
     → conversion (record o { pass_in = pass_after o.pass_in steps; output = out }) to between ≡ Ok text

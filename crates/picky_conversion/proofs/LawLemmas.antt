@@ -3,9 +3,9 @@ use Rattle.std.proofs.Common.{◌≡◌, ℕ, List, [], ◌∷◌, true, Option,
 use Rattle.std.specs.Str.{IsUtf8}
 use Rattle.picky_wire_base.specs.{carried.Outcome.{and_then_ok, map_err_ok}, Outcome.{map_err, map_ok}}
 use Rattle.picky_cert_builder.specs.Draft.{Unsigned}
-use Rattle.picky_issuing.specs.{declared.options.CertOptions.{CertOptions}, Parts.{issuer_part, key_part}}
+use Rattle.picky_issuing.specs.{declared.options.CertOptions.{CertOptions}, Parts.{issuer_text_part, key_part}}
 use Rattle.picky_conversion.specs.{declared.request.CertRequest.{CertRequest}, Drafted.{line_drafted}}
-use Rattle.picky_conversion.specs.Chain.{IsGiven, Step, last_of, through}
+use Rattle.picky_conversion.specs.Chain.{IsGiven, ChainStep, last_of, through}
 use Rattle.picky_conversion.specs.{Certify.{certification, drafting, hex_line}, Convert.{conversion}}
 use Rattle.picky_conversion.specs.Issue.{issued, issued_bytes, issuer_read, request_by, unsigned}
 use Rattle.picky_conversion.specs.Outside.{Outside, reader}
@@ -87,7 +87,7 @@ record IsWritten (m : Meanings) (out : Output) (to : KeyTarget) (meaning : Meani
   passed : judged_meaning out to meaning ≡ Ok tt
   is : text_for m out to meaning ≡ text
 
-step_written : (o : Outside) (step : Step) (input next : List ℕ) (meaning : Meaning) → reading (reader o) input ≡ Ok meaning
+step_written : (o : Outside) (step : ChainStep) (input next : List ℕ) (meaning : Meaning) → reading (reader o) input ≡ Ok meaning
     → conversion (record o { output = step.output }) step.target input ≡ Ok next
     → IsWritten o.meanings step.output step.target meaning next
 step_written o step input next meaning means done =
@@ -96,7 +96,7 @@ step_written o step input next meaning means done =
     subst (λ n. IsWritten o.meanings step.output step.target n next) same (record { passed = parts.passed; is = parts.is })
 
 -- the meaning stays from step to step
-chain_written : (o : Outside) (step : Step) (steps : List Step) (input text : List ℕ) (meaning : Meaning) → IsKeptMeaning meaning
+chain_written : (o : Outside) (step : ChainStep) (steps : List ChainStep) (input text : List ℕ) (meaning : Meaning) → IsKeptMeaning meaning
     → reading (reader o) input ≡ Ok meaning → through o (step ∷ steps) input ≡ Ok text
     → IsWritten o.meanings (last_of step steps).output (last_of step steps).target meaning text
 chain_written o step [] input text meaning is_kept means done =
@@ -118,7 +118,7 @@ chain_written o step (next ∷ steps) input text meaning is_kept means done =
     subst (λ t. reading (reader later) t ≡ Ok meaning) written.is (whole ∙ ap Ok (keeps_all step.target meaning step.private)) in
     chain_written later next steps first.0 text meaning is_kept again first.2
 
-pub chain_is_direct : (o : Outside) (steps : List Step) (step : Step) (input text : List ℕ) → IsGiven o → IsUtf8 input
+pub chain_is_direct : (o : Outside) (steps : List ChainStep) (step : ChainStep) (input text : List ℕ) → IsGiven o → IsUtf8 input
     → through o (step ∷ steps) input ≡ Ok text
     → conversion (record o { output = (last_of step steps).output }) (last_of step steps).target input ≡ Ok text
 chain_is_direct o steps step input text given utf8 done =
@@ -145,7 +145,7 @@ issued_is_unsigned : (o : Outside) (options : CertOptions) (input : List ℕ) (u
     → unsigned o options input ≡ Ok u
 unfolding issued
 issued_is_unsigned o options input u done =
-    let issuer = and_then_ok (issuer_read o (issuer_part input)) _ u done in
+    let issuer = and_then_ok (issuer_read o (issuer_text_part input)) _ u done in
     sym (unsigned_by o options input issuer.0 issuer.1)
     ∙ certification_drafts o (request_by options issuer.0) (key_part input) u issuer.2
 

@@ -27,9 +27,9 @@ use Rattle.picky_target.specs.{declared.error.ConvertError.{ConvertError}, Judge
 use Rattle.picky_target.specs.declared.error.ConvertError.TheVariants as errors
 use Rattle.picky_target.specs.declared.target.KeyTarget.TheVariants as targets
 use Rattle.picky_target.proofs.ByteLemmas.{take_bytes}
-use Rattle.picky_conversion.specs.{declared.request.CertRequest.{CertRequest}, Certified.{IsLineOf, Relation}}
+use Rattle.picky_conversion.specs.{declared.request.CertRequest.{CertRequest}, Certified.{IsLineOf, SignRelation}}
 use Rattle.picky_conversion.specs.{Drafted.{IsDrafted, drafted, drafted_of}, inner.Signed.{IsReadBack}}
-use Rattle.picky_conversion.specs.Request.{asked_for}
+use Rattle.picky_conversion.specs.Request.{builder_asked}
 use Rattle.picky_conversion.proofs.DraftedLaws.{drafted_where}
 
 -- ---- its form
@@ -83,10 +83,10 @@ nonce_is_string fresh bytes =
 
 -- Signed, it has a line that is read back.
 pub line_is_kept : (request : CertRequest) (m : Meaning) (fresh : List ℕ) (u : Unsigned) (bytes : List ℕ)
-    → IsRequest (asked_for request m) → IsBytes fresh → IsString bytes → IsDrafted request m fresh u
+    → IsRequest (builder_asked request m) → IsBytes fresh → IsString bytes → IsDrafted request m fresh u
     → length (line_of (signed_with u.certificate bytes)) < 2 ^ 32 → IsReadBackCertificate (without_key_comments (signed_with u.certificate bytes))
 line_is_kept request m fresh u bytes kept are_bytes is_bytes is short =
-    let b = asked_for request m in
+    let b = builder_asked request m in
     let comment : m.comment ≡ u.certificate.comment = made_comment b (take 32 fresh) u is.is in
     signed_is_kept b (take 32 fresh) u bytes kept (nonce_is_string fresh are_bytes) is_bytes is.is
     (subst (HasNo 13) comment is.comment.no_cr) (subst (HasNo 10) comment is.comment.no_lf)
@@ -97,7 +97,7 @@ pub line_means : (request : CertRequest) (m : Meaning) (fresh : List ℕ) (u : U
     → IsDrafted request m fresh u → IsReadBackCertificate (without_key_comments (signed_with u.certificate bytes))
     → line_text (signed_with u.certificate bytes) ≡ Ok text → Reads r text (public_meaning (public_key m))
 line_means request m fresh u bytes text r is kept written =
-    let b = asked_for request m in
+    let b = builder_asked request m in
     let c : SshCertificate = without_key_comments (signed_with u.certificate bytes) in
     let line = signed_line (signed_with u.certificate bytes) text written in
     let key : public_key m ≡ u.certificate.public_key = cc (made_key b (take 32 fresh) u is.is) in
@@ -110,7 +110,7 @@ line_means request m fresh u bytes text r is kept written =
     (subst (λ f. Means f r (line_of c) (public_meaning (public_key m))) (sym (line_form c)) (c, says, same))
 
 -- So does each text that is one.
-pub line_is_read_back : (signs : Relation) (request : CertRequest) (m : Meaning) (fresh : List ℕ) (u : Unsigned) (text : List ℕ)
+pub line_is_read_back : (signs : SignRelation) (request : CertRequest) (m : Meaning) (fresh : List ℕ) (u : Unsigned) (text : List ℕ)
     (r : Reader) → IsDrafted request m fresh u → IsLineOf signs u text → Reads r text (public_meaning (public_key m))
 line_is_read_back signs request m fresh u text r is line =
     let bytes = line.1.0 in
@@ -120,8 +120,8 @@ line_is_read_back signs request m fresh u text r is line =
 
 -- Whatever signature a draft gets, its line is read back.
 pub draft_reads_back : (request : CertRequest) (m : Meaning) (fresh : List ℕ) (r : Result CertificateDraft ConvertError)
-    → carries_comment targets.OpenSshPublic m.comment ≡ true → IsRequest (asked_for request m) → IsBytes fresh
-    → Gives errors.NoMemory draft_shown r (drafted_of (asked_for request m) fresh) → IfOk r (λ d. IsReadBack d.certificate)
+    → carries_comment targets.OpenSshPublic m.comment ≡ true → IsRequest (builder_asked request m) → IsBytes fresh
+    → Gives errors.NoMemory draft_shown r (drafted_of (builder_asked request m) fresh) → IfOk r (λ d. IsReadBack d.certificate)
 unfolding drafted
 draft_reads_back request m fresh (Ok d) carries kept are_bytes gives =
     let is : drafted request m fresh ≡ Ok (draft_shown d) = rw carries gives in

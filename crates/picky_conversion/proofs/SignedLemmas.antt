@@ -12,7 +12,7 @@ use Rattle.picky_cert_builder.specs.Keeps.{without_key_comments}
 use Rattle.picky_cert_builder.proofs.MadeLaws.{signed_line}
 use Rattle.picky_target.specs.declared.error.ConvertError.{ConvertError}
 use Rattle.picky_target.specs.declared.error.ConvertError.TheVariants as errors
-use Rattle.picky_conversion.specs.Certified.{Certifies, Relation}
+use Rattle.picky_conversion.specs.Certified.{Certifies, SignRelation}
 use Rattle.picky_conversion.specs.inner.Signed.{IsReadBack}
 
 signed_is_kept_back : (u : Unsigned) (c : SshCertificate) (bytes text : List ℕ) → c ≡ signed_with u.certificate bytes
@@ -22,7 +22,7 @@ signed_is_kept_back u c bytes text same back ranges written =
     (back bytes (subst (λ d. IsSignature d.signature) same ranges)
     (subst (λ d. length (line_of d) < 2 ^ 32) same (signed_line c text written).1))
 
-pub signed_line_answers : (signs : Relation) (u : Unsigned) (c : SshCertificate) (rose : Type 0) (r : Result (List ℕ) ConvertError)
+pub signed_line_answers : (signs : SignRelation) (u : Unsigned) (c : SshCertificate) (rose : Type 0) (r : Result (List ℕ) ConvertError)
     → IsReadBack u.certificate → IsSigned signs u c → IsSignature c.signature → IfOk r (λ text. line_text c ≡ Ok text)
     → (r ≡ Err errors.TooLong → line_text c ≡ Err lines.TooLong)
     → IfErr r (λ e. e ≢ errors.TooLong → e ≡ errors.NoMemory) → Certifies signs (Ok u) rose r

@@ -12,7 +12,7 @@ use Rattle.picky_key_text.specs.Reads.{Reads}
 use Rattle.picky_target.specs.declared.error.ConvertError.{ConvertError}
 use Rattle.picky_target.specs.declared.error.ConvertError.TheVariants as errors
 use Rattle.picky_conversion.specs.declared.request.CertRequest.{CertRequest}
-use Rattle.picky_conversion.specs.Certified.{IsLineOf, Relation}
+use Rattle.picky_conversion.specs.Certified.{IsLineOf, SignRelation}
 use Rattle.picky_conversion.specs.Drafted.{IsDrafted, IsLineDrafted, drafted, line_drafted}
 use Rattle.picky_conversion.specs.Outside.{Outside, reader, reader_back}
 
@@ -31,12 +31,12 @@ drafting o request input =
     and_then (map_err errors.Input (reading (reader o) input)) (λ meaning. drafted request meaning o.output.fresh)
 
 -- the suite's fault in reading the key text, where it was asked and counted one
-abbrev pub IsReadFault : Outside → List ℕ → ConvertError → Type 0 → Type 0
-IsReadFault o input e rose = (e ≡ errors.Input (input_fault input)) × IsAskedFault (asks o.pass_in input) rose
+abbrev pub IsInputFault : Outside → List ℕ → ConvertError → Type 0 → Type 0
+IsInputFault o input e rose = (e ≡ errors.Input (input_fault input)) × IsAskedFault (asks o.pass_in input) rose
 
 -- the text is the line of the certificate that the request asks of the one thing that the key text means, with a good
 -- signature of exactly its signed bytes; and it is read back
-pub record IsCertified (signs : Relation) (o : Outside) (request : CertRequest) (input text : List ℕ) : Type 0 where
+pub record IsCertified (signs : SignRelation) (o : Outside) (request : CertRequest) (input text : List ℕ) : Type 0 where
   pub meaning : Meaning
   pub reads : Reads (reader o) input meaning
   pub one : (other : Meaning) → Reads (reader o) input other → other ≡ meaning

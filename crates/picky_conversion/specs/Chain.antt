@@ -20,7 +20,7 @@ pub record IsGiven (o : Outside) : Type 0 where
   pub fresh : IsBytes o.output.fresh
 
 -- a target that keeps the secret, whose numbers are a value's, and what it is written under
-pub record Step : Type 0 where
+pub record ChainStep : Type 0 where
   pub target : KeyTarget
   pub output : Output
   pub fits : IsTarget target
@@ -28,12 +28,12 @@ pub record Step : Type 0 where
   pub pass : IfSome output.pass IsUtf8
   pub fresh : IsBytes output.fresh
 
-abbrev pub last_of : Step → List Step → Step
+abbrev pub last_of : ChainStep → List ChainStep → ChainStep
 last_of step [] = step
 last_of step (next ∷ more) = last_of next more
 
 -- each text is read under the passphrase that it was written under
-abbrev pub through : Outside → List Step → List ℕ → Result (List ℕ) ConvertError
+abbrev pub through : Outside → List ChainStep → List ℕ → Result (List ℕ) ConvertError
 through o [] text = Ok text
 through o (step ∷ more) text =
     and_then (conversion (record o { output = step.output }) step.target text) (λ next.

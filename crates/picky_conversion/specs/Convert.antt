@@ -58,8 +58,8 @@ IsFaultOf o target input e rose =
 
 -- what the conversion to a key's text answers: it, or the first reason; in its place want of memory may come, or the suite's
 -- fault
-abbrev pub AnswersText : {X : Type 0} → (X → List ℕ) → Outside → KeyTarget → List ℕ → Type 0 → Result X ConvertError → Type 0
-AnswersText view o target input rose result =
+abbrev pub AnswersKeyText : {X : Type 0} → (X → List ℕ) → Outside → KeyTarget → List ℕ → Type 0 → Result X ConvertError → Type 0
+AnswersKeyText view o target input rose result =
     AnswersPlain view (conversion o target input) (λ e. IsFaultOf o target input e rose) result
 
 -- what the suite's calls mean stays; the count rises exactly where a fault is answered; a suite that isn't asked is as it was

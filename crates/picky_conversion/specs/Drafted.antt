@@ -19,7 +19,7 @@ use Rattle.picky_target.specs.declared.target.KeyTarget.TheVariants as targets
 use Rattle.picky_target.specs.Carried.{LineCarries}
 use Rattle.picky_target.specs.Judged.{carries_comment}
 use Rattle.picky_conversion.specs.declared.request.CertRequest.{CertRequest}
-use Rattle.picky_conversion.specs.Request.{asked_for}
+use Rattle.picky_conversion.specs.Request.{builder_asked}
 
 -- ---- the order: the comment, which a line must carry; the terms; 32 fresh bytes, the nonce; the lengths
 
@@ -43,7 +43,7 @@ drafted_of b fresh =
 unfoldable pub drafted : CertRequest → Meaning → (fresh : List ℕ) → Result Unsigned ConvertError
 drafted request meaning fresh =
     if carries_comment targets.OpenSshPublic meaning.comment
-    then drafted_of (asked_for request meaning) fresh
+    then drafted_of (builder_asked request meaning) fresh
     else Err errors.CommentNotCarried
 
 -- its line without a signature
@@ -63,7 +63,7 @@ line_drafted request meaning fresh = and_then (drafted request meaning fresh) if
 pub record IsDrafted (request : CertRequest) (meaning : Meaning) (fresh : List ℕ) (u : Unsigned) : Type 0 where
   pub comment : LineCarries meaning.comment
   pub enough : 32 ≤ length fresh
-  pub is : requested (asked_for request meaning) (take 32 fresh) ≡ Ok u
+  pub is : requested (builder_asked request meaning) (take 32 fresh) ≡ Ok u
 
 -- so it does, and the line has room for it
 pub record IsLineDrafted (request : CertRequest) (meaning : Meaning) (fresh : List ℕ) (u : Unsigned) : Type 0 where

@@ -6,7 +6,7 @@ use Rattle.picky_cert_builder.specs.declared.error.SshCertificateGenerationError
 use Rattle.picky_cert_builder.specs.Draft.{Unsigned}
 use Rattle.picky_target.specs.declared.error.ConvertError.{ConvertError}
 use Rattle.picky_target.specs.declared.error.ConvertError.TheVariants as errors
-use Rattle.picky_conversion.specs.Certified.{IsLineOf, IsTooLong, IsUnsigned, Relation}
+use Rattle.picky_conversion.specs.Certified.{IsLineOf, IsLineTooLong, IsUnsigned, SignRelation}
 
 -- a text, or a certificate whose line is to be signed
 pub data Made : Type 0 where
@@ -14,17 +14,17 @@ pub data Made : Type 0 where
   ToSign : Unsigned → Made
 
 -- the text is the one, or the line with a good signature
-abbrev pub IsTextOf : Relation → Made → List ℕ → Type 0
-IsTextOf signs (Whole text) written = written ≡ text
-IsTextOf signs (ToSign u) written = IsLineOf signs u written
+abbrev pub IsMadeText : SignRelation → Made → List ℕ → Type 0
+IsMadeText signs (Whole text) written = written ≡ text
+IsMadeText signs (ToSign u) written = IsLineOf signs u written
 
 -- there is a good signature with which the line is too long
-abbrev pub CanBeTooLong : Relation → Made → Type 0
+abbrev pub CanBeTooLong : SignRelation → Made → Type 0
 CanBeTooLong signs (Whole text) = ⊥
-CanBeTooLong signs (ToSign u) = IsTooLong signs u
+CanBeTooLong signs (ToSign u) = IsLineTooLong signs u
 
 -- why there is no text of it: the device's fault, or a signature with which the line is too long
-abbrev pub IsUnwritten : Relation → Made → Type 0 → ConvertError → Type 0
+abbrev pub IsUnwritten : SignRelation → Made → Type 0 → ConvertError → Type 0
 IsUnwritten signs (Whole text) rose e = ⊥
 IsUnwritten signs (ToSign u) rose e = IsUnsigned signs u rose e
 
@@ -35,11 +35,11 @@ is_signed (Ok (ToSign u)) = true
 is_signed (Err e) = false
 
 -- its text is written
-abbrev pub Writes : {E : Type 0} → Relation → Result Made E → List ℕ → Type 0
-Writes signs says text = (made : Made) × (says ≡ Ok made) × IsTextOf signs made text
+abbrev pub WritesMade : {E : Type 0} → SignRelation → Result Made E → List ℕ → Type 0
+WritesMade signs says text = (made : Made) × (says ≡ Ok made) × IsMadeText signs made text
 
 -- it has none
-abbrev pub IsLeft : {E : Type 0} → Relation → Result Made E → Type 0 → ConvertError → Type 0
+abbrev pub IsLeft : {E : Type 0} → SignRelation → Result Made E → Type 0 → ConvertError → Type 0
 IsLeft signs says rose e = (made : Made) × (says ≡ Ok made) × IsUnwritten signs made rose e
 
 -- what is answered where no device signs: what is said; or the first reason why there is nothing; in its place want of memory
@@ -51,14 +51,14 @@ AnswersPlain view says IsFault (Err e) = (e ≡ errors.NoMemory) ⊎ IsFault e �
 
 -- what is answered where a device may sign: the text; or the first reason why there is none; in its place want of memory may
 -- come, or the suite's fault
-abbrev pub Answers : {X : Type 0} → Relation → (X → List ℕ) → Result Made ConvertError → (IsFault : ConvertError → Type 0)
+abbrev pub AnswersMade : {X : Type 0} → SignRelation → (X → List ℕ) → Result Made ConvertError → (IsFault : ConvertError → Type 0)
     → (signer_rose : Type 0) → Result X ConvertError → Type 0
-Answers signs view says IsFault signer_rose (Ok text) = Writes signs says (view text)
-Answers signs view says IsFault signer_rose (Err e) =
+AnswersMade signs view says IsFault signer_rose (Ok text) = WritesMade signs says (view text)
+AnswersMade signs view says IsFault signer_rose (Err e) =
     (e ≡ errors.NoMemory) ⊎ IsFault e ⊎ IsLeft signs says signer_rose e ⊎ (says ≡ Err e)
 
 -- which signatures are good stays; a fault is counted only where it is answered; a device that isn't asked is as it was
-pub record LeavesSigner {S A : Type 0} (signs : S → Relation) (faults : S → ℕ) (asked : Bool)
+pub record LeavesAskedSigner {S A : Type 0} (signs : S → SignRelation) (faults : S → ℕ) (asked : Bool)
     (result : Result A ConvertError) (old new : S) : Type 0 where
   pub kept : (k : PublicKey) (a : SignatureAlgorithm) (m s : List ℕ) → signs new k a m s ↔ signs old k a m s
   pub calm : result ≢ Err (errors.Request requests.SignatureError) → faults new ≡ faults old

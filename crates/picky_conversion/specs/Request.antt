@@ -16,8 +16,8 @@ issuer_in (Some (keys.Public key)) = Some (issuers.Public key)
 issuer_in None = None
 
 -- the certificate of the key's public part, with the comment
-abbrev pub asked_for : CertRequest → Meaning → SshCertificateBuilder
-asked_for request meaning = record {
+abbrev pub builder_asked : CertRequest → Meaning → SshCertificateBuilder
+builder_asked request meaning = record {
   cert_key_type = request.options.cert_key_type;
   public_key = Some (public_key meaning);
   serial = request.options.serial;

@@ -10,11 +10,11 @@ use Rattle.picky_target.specs.declared.target.KeyTarget.TheVariants as keys
 use Rattle.picky_target.specs.Carried.{Carries}
 use Rattle.picky_target.specs.ReadBack.{IsTarget}
 use Rattle.picky_conversion.specs.declared.request.CertRequest.{CertRequest}
-use Rattle.picky_conversion.specs.Certified.{Relation}
+use Rattle.picky_conversion.specs.Certified.{SignRelation}
 use Rattle.picky_conversion.specs.Drafted.{IsLineDrafted}
 use Rattle.picky_conversion.specs.declared.target.Target.{Target}
 use Rattle.picky_conversion.specs.declared.target.Target.TheVariants as targets
-use Rattle.picky_conversion.specs.Certify.{IsCertified, IsReadFault, certification}
+use Rattle.picky_conversion.specs.Certify.{IsCertified, IsInputFault, certification}
 use Rattle.picky_conversion.specs.Convert.{IsConversion, IsFaultOf, conversion, converting_asks}
 use Rattle.picky_conversion.specs.Made.{Made, ToSign, Whole}
 use Rattle.picky_conversion.specs.Outside.{Outside}
@@ -44,10 +44,10 @@ asks_to o (Certified request) input = asks o.pass_in input
 -- the refusal is the suite's fault
 abbrev pub IsFaultTo : Outside → Way → List ℕ → ConvertError → Type 0 → Type 0
 IsFaultTo o (Written target) input e rose = IsFaultOf o target input e rose
-IsFaultTo o (Certified request) input e rose = IsReadFault o input e rose
+IsFaultTo o (Certified request) input e rose = IsInputFault o input e rose
 
 -- the text is the target's for the one thing that the key text means, and it is read back
-abbrev pub IsConverted : Relation → Outside → Way → List ℕ → List ℕ → Type 0
+abbrev pub IsConverted : SignRelation → Outside → Way → List ℕ → List ℕ → Type 0
 IsConverted signs o (Written target) input text = IsConversion o target input text
 IsConverted signs o (Certified request) input text = IsCertified signs o request input text
 

@@ -4,7 +4,7 @@ ghost use Rattle.std.specs.Prelude.{◌≡◌, ◌≢◌, Ok, Err, IfErr, IfOk};
 ghost use Rattle.picky_wire.specs.Count.{Rose};
 ghost use Rattle.picky_cert_parts.specs.declared.error.SshCertificateError.TheVariants as lines;
 ghost use Rattle.picky_cert.specs.LineRefusal.{line_text};
-ghost use Rattle.picky_cert_builder.specs.Drafted.{IsWhole, draft_shown};
+ghost use Rattle.picky_cert_builder.specs.Drafted.{IsWholeDraft, draft_shown};
 ghost use Rattle.picky_conversion.specs.Certified.{Certifies, LeavesSigner};
 ghost use Rattle.picky_conversion.specs.Drafted.{line_drafted};
 ghost use Rattle.picky_conversion.specs.inner.Signed.{IsReadBack};
@@ -50,7 +50,7 @@ fn sign_line<G: Signer>(
     signer: &mut G,
     draft: CertificateDraft,
 ) -> Result<Text, ConvertError>
-    requires whole { IsWhole draft }
+    requires whole { IsWholeDraft draft }
     requires back { IsReadBack draft.certificate }
     ensures answers { Certifies (G.signs signer.old) (Ok (draft_shown draft)) (Rose (G.faults signer.old) (G.faults signer.new)) result }
     ensures signer { LeavesSigner G.signs G.faults (Ok (draft_shown draft)) result signer.old signer.new }

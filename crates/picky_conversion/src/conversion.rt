@@ -11,12 +11,12 @@ ghost use Rattle.picky_key_text.specs.declared.meaning.Meaning.{Meaning as Meant
 ghost use Rattle.picky_key_text.specs.Order.{asks};
 ghost use Rattle.picky_key_text.specs.Reads.{Reads};
 ghost use Rattle.picky_target.specs.ReadBack.{IsConfig};
-ghost use Rattle.picky_conversion.specs.Certify.{IsReadFault, certification, drafting};
+ghost use Rattle.picky_conversion.specs.Certify.{IsInputFault, certification, drafting};
 ghost use Rattle.picky_conversion.specs.Binds.{BindsTo};
 ghost use Rattle.picky_conversion.specs.Chain.{IsGiven};
 ghost use Rattle.picky_conversion.specs.Outside.{outside, outside_of, reader};
-ghost use Rattle.picky_conversion.specs.Convert.{AnswersText, LeavesAskedSuite, converting_asks};
-ghost use Rattle.picky_conversion.specs.Made.{Answers, AnswersPlain, IsLeft, LeavesSigner, ToSign, is_signed};
+ghost use Rattle.picky_conversion.specs.Convert.{AnswersKeyText, LeavesAskedSuite, converting_asks};
+ghost use Rattle.picky_conversion.specs.Made.{AnswersMade, AnswersPlain, IsLeft, LeavesAskedSigner, ToSign, is_signed};
 ghost use Rattle.picky_conversion.specs.To.{CanConvert, IsConverted, IsFaultTo, IsWay, asks_to, converted, way_to};
 ghost use Rattle.picky_conversion.specs.Refusal.{input_refusal as input_refusal_of, issuer_refusal as issuer_refusal_of};
 
@@ -50,14 +50,14 @@ pub fn convert<S: Suite, G: Signer>(
     pass_out: Option<&str>,
     fresh: &[u8],
 ) -> Result<Text, ConvertError>
-    ensures gives { Answers (G.signs signer.old) (λ text. text)
+    ensures gives { AnswersMade (G.signs signer.old) (λ text. text)
         (converted (outside_of (S.meanings suite.old) pass_in.entry pass_out.entry fresh.now) (way_to target) input.now)
         (λ e. IsFaultTo (outside_of (S.meanings suite.old) pass_in.entry pass_out.entry fresh.now) (way_to target) input.now e (Rose (S.faults suite.old) (S.faults suite.new)))
         (Rose (G.faults signer.old) (G.faults signer.new)) result }
     ensures suite { LeavesAskedSuite S.meanings S.faults
         (asks_to (outside_of (S.meanings suite.old) pass_in.entry pass_out.entry fresh.now) (way_to target) input.now)
         result suite.old suite.new }
-    ensures signer { LeavesSigner G.signs G.faults
+    ensures signer { LeavesAskedSigner G.signs G.faults
         (is_signed (converted (outside_of (S.meanings suite.old) pass_in.entry pass_out.entry fresh.now) (way_to target) input.now))
         result signer.old signer.new }
 
@@ -97,13 +97,13 @@ fn convert_to<S: Suite, G: Signer>(
     target: Target,
     given: ConversionGiven<'_>,
 ) -> Result<Text, ConvertError>
-    ensures gives { Answers (G.signs signer.old) (λ text. text)
+    ensures gives { AnswersMade (G.signs signer.old) (λ text. text)
         (converted (outside (S.meanings suite.old) given.entry) (way_to target) input.now)
         (λ e. IsFaultTo (outside (S.meanings suite.old) given.entry) (way_to target) input.now e (Rose (S.faults suite.old) (S.faults suite.new)))
         (Rose (G.faults signer.old) (G.faults signer.new)) result }
     ensures suite { LeavesAskedSuite S.meanings S.faults
         (asks_to (outside (S.meanings suite.old) given.entry) (way_to target) input.now) result suite.old suite.new }
-    ensures signer { LeavesSigner G.signs G.faults
+    ensures signer { LeavesAskedSigner G.signs G.faults
         (is_signed (converted (outside (S.meanings suite.old) given.entry) (way_to target) input.now))
         result signer.old signer.new }
 {
@@ -126,7 +126,7 @@ fn convert_key<S: Suite>(
     target: KeyTarget,
     given: ConversionGiven<'_>,
 ) -> Result<Text, ConvertError>
-    ensures gives { AnswersText (λ text. text) (outside (S.meanings suite.old) given.entry) target input.now
+    ensures gives { AnswersKeyText (λ text. text) (outside (S.meanings suite.old) given.entry) target input.now
         (Rose (S.faults suite.old) (S.faults suite.new)) result }
     ensures suite { LeavesAskedSuite S.meanings S.faults
         (converting_asks (outside (S.meanings suite.old) given.entry) target input.now) result suite.old suite.new }
@@ -151,12 +151,12 @@ fn certify<S: Suite, G: Signer>(
     request: CertRequest,
     given: ConversionGiven<'_>,
 ) -> Result<Text, ConvertError>
-    ensures gives { Answers (G.signs signer.old) (λ text. text)
+    ensures gives { AnswersMade (G.signs signer.old) (λ text. text)
         (map_ok ToSign (certification (outside (S.meanings suite.old) given.entry) request input.now))
-        (λ e. IsReadFault (outside (S.meanings suite.old) given.entry) input.now e (Rose (S.faults suite.old) (S.faults suite.new)))
+        (λ e. IsInputFault (outside (S.meanings suite.old) given.entry) input.now e (Rose (S.faults suite.old) (S.faults suite.new)))
         (Rose (G.faults signer.old) (G.faults signer.new)) result }
     ensures suite { LeavesAskedSuite S.meanings S.faults (asks (option_copied given.entry.pass_in) input.now) result suite.old suite.new }
-    ensures signer { LeavesSigner G.signs G.faults
+    ensures signer { LeavesAskedSigner G.signs G.faults
         (is_signed (map_ok ToSign (certification (outside (S.meanings suite.old) given.entry) request input.now)))
         result signer.old signer.new }
 {
@@ -181,7 +181,7 @@ pub fn bytes_to_sign<S: Suite>(
 ) -> Result<Bytes, ConvertError>
     ensures gives { AnswersPlain (λ bytes. bytes)
         (map_ok (λ u. signed_of u.certificate) (drafting (outside (S.meanings suite.old) given.entry) request input.now))
-        (λ e. IsReadFault (outside (S.meanings suite.old) given.entry) input.now e (Rose (S.faults suite.old) (S.faults suite.new))) result }
+        (λ e. IsInputFault (outside (S.meanings suite.old) given.entry) input.now e (Rose (S.faults suite.old) (S.faults suite.new))) result }
     ensures suite { LeavesAskedSuite S.meanings S.faults (asks (option_copied given.entry.pass_in) input.now) result suite.old suite.new }
 {
     match read_text(alloc, suite, input, given.pass_in) {

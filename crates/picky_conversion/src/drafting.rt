@@ -5,7 +5,7 @@ ghost use Rattle.picky_wire_base.specs.Numbers.{IsBytes};
 ghost use Rattle.picky_wire_base.specs.Outcome.{map_ok};
 ghost use Rattle.picky_wire_base.specs.Gives.{Gives};
 ghost use Rattle.picky_cert.specs.Spelled.{signed_of};
-ghost use Rattle.picky_cert_builder.specs.Drafted.{IsWhole, draft_shown};
+ghost use Rattle.picky_cert_builder.specs.Drafted.{IsWholeDraft, draft_shown};
 ghost use Rattle.picky_cert_builder.specs.Keeps.{IsRequest};
 ghost use Rattle.picky_conversion.specs.Drafted.{drafted, drafted_of as drafted_by, line_drafted, nonce_in, unsigned_line, request_refusal as request_refusal_of};
 ghost use Rattle.picky_conversion.specs.inner.Signed.{IsReadBack};
@@ -54,7 +54,7 @@ pub fn draft_line(
     fresh: &[u8],
 ) -> Result<CertificateDraft, ConvertError>
     ensures gives { Gives ConvertError.NoMemory draft_shown result (line_drafted request meaning fresh.now) }
-    ensures whole { IfOk result IsWhole }
+    ensures whole { IfOk result IsWholeDraft }
     ensures back { IfOk result (λ d. IsReadBack d.certificate) }
 {
     match draft(alloc, request, meaning, fresh) {
@@ -78,7 +78,7 @@ fn draft(
     fresh: &[u8],
 ) -> Result<CertificateDraft, ConvertError>
     ensures gives { Gives ConvertError.NoMemory draft_shown result (drafted request meaning fresh.now) }
-    ensures whole { IfOk result IsWhole }
+    ensures whole { IfOk result IsWholeDraft }
     ensures back { IfOk result (λ d. IsReadBack d.certificate) }
 {
     if !carries_comment(KeyTarget::OpenSshPublic, meaning.comment.as_str()) {
@@ -106,7 +106,7 @@ fn builder_draft(
     fresh: &[u8],
 ) -> Result<CertificateDraft, ConvertError>
     ensures gives { Gives ConvertError.NoMemory draft_shown result (drafted_by builder.now fresh.now) }
-    ensures whole { IfOk result IsWhole }
+    ensures whole { IfOk result IsWholeDraft }
     ensures ranges { IsRequest builder.now }
     ensures bytes { IsBytes fresh.now }
 {
@@ -141,7 +141,7 @@ fn nonce_of(fresh: &[u8]) -> Result<[u8; NONCE_LEN], ConvertError>
 
 /// How long the line is without a signature.
 fn unsigned_line_len(draft: &CertificateDraft) -> usize
-    requires { IsWhole draft.now }
+    requires { IsWholeDraft draft.now }
     ensures { result ≡ length (unsigned_line draft.now.certificate) }
 {
     let name = draft.certificate.cert_key_type.as_str();

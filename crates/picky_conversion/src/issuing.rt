@@ -8,10 +8,10 @@ ghost use Rattle.picky_wire.specs.Count.{Rose};
 ghost use Rattle.picky_cert_builder.specs.Draft.{Unsigned};
 ghost use Rattle.picky_key_text.specs.Order.{asks};
 ghost use Rattle.picky_cert.specs.Spelled.{signed_of};
-ghost use Rattle.picky_conversion.specs.Certify.{IsReadFault, drafting, hex_line};
+ghost use Rattle.picky_conversion.specs.Certify.{IsInputFault, drafting, hex_line};
 ghost use Rattle.picky_conversion.specs.Convert.{LeavesAskedSuite};
 ghost use Rattle.picky_conversion.specs.Issue.{IsIssuingFault, asks_issuer, issued, issued_bytes, issuer_fault, issuer_read, issuing_asks};
-ghost use Rattle.picky_conversion.specs.Made.{Answers, AnswersPlain, LeavesSigner, ToSign, is_signed};
+ghost use Rattle.picky_conversion.specs.Made.{AnswersMade, AnswersPlain, LeavesAskedSigner, ToSign, is_signed};
 ghost use Rattle.picky_conversion.specs.Outside.{outside};
 
 use crate::conversion::{bytes_to_sign, convert, issuer_refusal};
@@ -36,11 +36,11 @@ pub fn issue<S: Suite, G: Signer>(
     input: &str,
     given: ConversionGiven<'_>,
 ) -> Result<Text, ConvertError>
-    ensures gives { Answers (G.signs signer.old) (λ text. text) (map_ok ToSign (issued (outside (S.meanings suite.old) given.entry) options input.now))
+    ensures gives { AnswersMade (G.signs signer.old) (λ text. text) (map_ok ToSign (issued (outside (S.meanings suite.old) given.entry) options input.now))
         (λ e. IsIssuingFault (outside (S.meanings suite.old) given.entry) input.now e (Rose (S.faults suite.old) (S.faults suite.new)))
         (Rose (G.faults signer.old) (G.faults signer.new)) result }
     ensures suite { LeavesAskedSuite S.meanings S.faults (issuing_asks (outside (S.meanings suite.old) given.entry) input.now) result suite.old suite.new }
-    ensures signer { LeavesSigner G.signs G.faults
+    ensures signer { LeavesAskedSigner G.signs G.faults
         (is_signed (map_ok ToSign (issued (outside (S.meanings suite.old) given.entry) options input.now))) result signer.old signer.new }
 {
     let parts = parts_of(input);
@@ -101,7 +101,7 @@ fn print_request<S: Suite>(
     given: ConversionGiven<'_>,
 ) -> Result<String, ConvertError>
     ensures gives { AnswersPlain string_bytes (map_ok hex_line (drafting (outside (S.meanings suite.old) given.entry) request input.now))
-        (λ e. IsReadFault (outside (S.meanings suite.old) given.entry) input.now e (Rose (S.faults suite.old) (S.faults suite.new))) result }
+        (λ e. IsInputFault (outside (S.meanings suite.old) given.entry) input.now e (Rose (S.faults suite.old) (S.faults suite.new))) result }
     ensures suite { LeavesAskedSuite S.meanings S.faults (asks (option_copied given.entry.pass_in) input.now) result suite.old suite.new }
 {
     match bytes_to_sign(alloc, suite, input, request, given) {

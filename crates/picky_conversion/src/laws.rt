@@ -16,7 +16,7 @@ ghost use Rattle.picky_target.specs.declared.target.KeyTarget.{KeyTarget as To};
 ghost use Rattle.picky_target.specs.Carried.{Carries};
 ghost use Rattle.picky_target.specs.ReadBack.{IsTarget};
 ghost use Rattle.picky_conversion.specs.Certify.{hex_line};
-ghost use Rattle.picky_conversion.specs.Chain.{IsGiven, Step, last_of, through};
+ghost use Rattle.picky_conversion.specs.Chain.{IsGiven, ChainStep, last_of, through};
 ghost use Rattle.picky_conversion.specs.Convert.{IsConversion, conversion};
 ghost use Rattle.picky_conversion.specs.Issue.{issued, issued_bytes};
 ghost use Rattle.picky_conversion.specs.Outside.{Outside, reader};
@@ -41,7 +41,7 @@ pub fn written_text_is_kept()
 /// A list of conversions through private targets, each read under the passphrase that the one before was written under, gives
 /// what the last of them gives of the first key text.
 pub fn conversions_through_private_targets_lose_nothing()
-    ensures { (o : Outside) (steps : List Step) (step : Step) (input text : List ℕ) → IsGiven o → IsUtf8 input
+    ensures { (o : Outside) (steps : List ChainStep) (step : ChainStep) (input text : List ℕ) → IsGiven o → IsUtf8 input
         → through o (step ∷ steps) input ≡ Ok text
         → conversion (record o { output = (last_of step steps).output }) (last_of step steps).target input ≡ Ok text }
 {}

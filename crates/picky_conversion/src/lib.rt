@@ -1,4 +1,6 @@
 //! The conversion of key texts to any target, and certificates issued from one source.
+//!
+//! Read first: `specs/To.antt` and `specs/Made.antt`; then `src/conversion.rt`.
 #![tactic(auto)]
 
 mod certificate;

@@ -2,7 +2,7 @@
 
 ghost use Rattle.std.specs.Prelude.{◌≡◌, IfOk};
 ghost use Rattle.picky_key_text.specs.Key.{public_key as public_key_of};
-ghost use Rattle.picky_conversion.specs.Request.{asked_for, issuer_in};
+ghost use Rattle.picky_conversion.specs.Request.{builder_asked, issuer_in};
 
 use picky_cert_builder::{IssuerKey, SshCertificateBuilder};
 use picky_issuing::CertOptions;
@@ -38,7 +38,7 @@ pub fn builder_of(
     request: CertRequest,
     meaning: Meaning,
 ) -> Result<SshCertificateBuilder, NoMemory>
-    ensures { IfOk result (λ builder. builder ≡ asked_for request meaning) }
+    ensures { IfOk result (λ builder. builder ≡ builder_asked request meaning) }
 {
     let CertRequest { options, issuer } = request;
     match subject_of(alloc, meaning) {

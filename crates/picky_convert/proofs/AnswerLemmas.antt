@@ -10,14 +10,14 @@ use Rattle.picky_target.specs.declared.error.ConvertError.TheVariants as errors
 use Rattle.picky_target.specs.declared.target.KeyTarget.{KeyTarget}
 use Rattle.picky_target.specs.declared.target.KeyTarget.TheVariants as targets
 use Rattle.picky_target.specs.Written.{fault_of, writing_asks, written}
-use Rattle.picky_conversion.specs.Certified.{Relation}
+use Rattle.picky_conversion.specs.Certified.{SignRelation}
 use Rattle.picky_conversion.specs.Convert.{conversion}
-use Rattle.picky_conversion.specs.Made.{Answers, Whole}
+use Rattle.picky_conversion.specs.Made.{AnswersMade, Whole}
 use Rattle.picky_conversion.specs.To.{IsFaultTo, Written, converted}
 use Rattle.picky_conversion.proofs.IssuedLemmas.{none_left}
 use Rattle.picky_convert.specs.SampleChain.{without_passphrase}
 use Rattle.picky_convert.specs.SampleKeys.{meaning_at}
-use Rattle.picky_convert.specs.SampleTexts.{text_at, unsealed}
+use Rattle.picky_convert.specs.SampleTexts.{text_at, unsealed_output}
 use Rattle.picky_key_text.proofs.UnaskedLaws.{unasked}
 use Rattle.picky_convert.proofs.AskedLemmas.{write_asks_none, writing_asks_none}
 use Rattle.picky_convert.proofs.ChainLemmas.{envelope_is_written}
@@ -25,16 +25,16 @@ use Rattle.picky_convert.proofs.ChainLemmas.{envelope_is_written}
 -- ---- what is written first
 
 written_so : (m : Meanings) (i : ℕ) (meaning : Meaning) → i < 2 ^ 16 → meaning ≡ meaning_at i
-    → written m unsealed targets.OpenSsh meaning ≡ Ok (text_at m i targets.OpenSsh)
-written_so m i meaning small same = ap (written m unsealed targets.OpenSsh) same ∙ envelope_is_written m i small
+    → written m unsealed_output targets.OpenSsh meaning ≡ Ok (text_at m i targets.OpenSsh)
+written_so m i meaning small same = ap (written m unsealed_output targets.OpenSsh) same ∙ envelope_is_written m i small
 
 pub first_is : (m : Meanings) (i : ℕ) (meaning : Meaning) (text : List ℕ) → i < 2 ^ 16 → meaning ≡ meaning_at i
-    → written m unsealed targets.OpenSsh meaning ≡ Ok text → text ≡ text_at m i targets.OpenSsh
+    → written m unsealed_output targets.OpenSsh meaning ≡ Ok text → text ≡ text_at m i targets.OpenSsh
 first_is m i meaning text small same gives = let other = written_so m i meaning small same in cc (gives, other)
 
 pub first_wants : (m : Meanings) (i : ℕ) (meaning : Meaning) (e : ConvertError) (rose : Type 0) → i < 2 ^ 16 → meaning ≡ meaning_at i
     → GivesAsked errors.NoMemory (fault_of targets.OpenSsh) (λ (text : List ℕ). text) (Err e)
-    (written m unsealed targets.OpenSsh meaning) (writing_asks unsealed targets.OpenSsh meaning) rose → e ≡ errors.NoMemory
+    (written m unsealed_output targets.OpenSsh meaning) (writing_asks unsealed_output targets.OpenSsh meaning) rose → e ≡ errors.NoMemory
 first_wants m i meaning e rose small same (inl want) = want
 first_wants m i meaning e rose small same (inr (inl fault)) = cc (fault.1.0, writing_asks_none targets.OpenSsh meaning)
 first_wants m i meaning e rose small same (inr (inr refused)) = cc (refused, written_so m i meaning small same)
@@ -45,9 +45,9 @@ no_refusal : (r : Result (List ℕ) ConvertError) (e : ConvertError) → IsOk r 
 no_refusal (Ok text) e ok is = cc is
 no_refusal (Err f) e ok is = cc ok
 
-pub converted_wants : (signs : Relation) (m : Meanings) (target : KeyTarget) (input : List ℕ) (e : ConvertError)
+pub converted_wants : (signs : SignRelation) (m : Meanings) (target : KeyTarget) (input : List ℕ) (e : ConvertError)
     (rose signer_rose : Type 0) → IsOk (conversion (without_passphrase m) target input)
-    → Answers signs (λ (text : List ℕ). text) (converted (without_passphrase m) (Written target) input)
+    → AnswersMade signs (λ (text : List ℕ). text) (converted (without_passphrase m) (Written target) input)
     (λ f. IsFaultTo (without_passphrase m) (Written target) input f rose) signer_rose (Err e) → e ≡ errors.NoMemory
 converted_wants signs m target input e rose signer_rose ok (inl want) = want
 converted_wants signs m target input e rose signer_rose ok (inr (inl (inl read))) = cc (read.1.0, unasked input)

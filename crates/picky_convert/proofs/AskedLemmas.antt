@@ -11,9 +11,9 @@ use Rattle.picky_target.specs.Written.{writing_asks}
 use Rattle.picky_conversion.specs.Convert.{asks_for, asks_to_write, converting_asks}
 use Rattle.picky_conversion.specs.Outside.{reader}
 use Rattle.picky_convert.specs.SampleChain.{without_passphrase}
-use Rattle.picky_convert.specs.SampleTexts.{unsealed}
+use Rattle.picky_convert.specs.SampleTexts.{unsealed_output}
 
-pub writing_asks_none : (target : KeyTarget) (meaning : Meaning) → writing_asks unsealed target meaning ≡ false
+pub writing_asks_none : (target : KeyTarget) (meaning : Meaning) → writing_asks unsealed_output target meaning ≡ false
 unfolding writing_asks
 writing_asks_none targets.OpenSsh meaning = refl
 writing_asks_none (targets.Ppk version config) meaning = refl

@@ -9,7 +9,7 @@ use Rattle.picky_sshkey_blob.specs.Key.{public_part}
 use Rattle.picky_ppk_parts.specs.Config.{default_config}
 use Rattle.picky_ppk_parts.specs.Secret.{secret_bytes}
 use Rattle.picky_ppk_parts.specs.declared.config.PpkEncryptionConfig.{PpkEncryptionConfig}
-use Rattle.picky_ppk_file.specs.Written.{end_of}
+use Rattle.picky_ppk_file.specs.Written.{line_end_of}
 use Rattle.picky_key_text.specs.Key.{public_key}
 use Rattle.picky_target.specs.declared.target.KeyTarget.TheVariants as targets
 use Rattle.picky_target.specs.Carried.{Carries, HasFileRoom, Holds, Place}
@@ -19,7 +19,7 @@ use Rattle.picky_target.specs.Judged.{mac_len}
 use Rattle.picky_target.specs.ReadBack.{IsConfig}
 use Rattle.picky_target.proofs.FileWritten.{plain_len}
 use Rattle.picky_convert.specs.SampleKeys.{comment_at, key_at, kind_at, meaning_at}
-use Rattle.picky_convert.specs.SampleTexts.{is_on_device, unsealed}
+use Rattle.picky_convert.specs.SampleTexts.{is_security_key_kind, unsealed_output}
 use Rattle.picky_convert.proofs.CommentLemmas.{comment_has_no_cr, comment_has_no_lf, comment_is_trimmed, comment_size}
 use Rattle.picky_convert.proofs.FileSizes.{file_size, line_size, putty_size}
 use Rattle.picky_convert.proofs.KeyLemmas.{key_is_of_kind, key_is_small}
@@ -38,7 +38,7 @@ mac_is_short V2 = omega arith
 mac_is_short V3 = omega arith
 
 file_room : (version : PpkVersionKey) (config : PpkEncryptionConfig) (i : ℕ) → i < 2 ^ 16
-    → HasFileRoom unsealed version config (key_at i) (comment_at i)
+    → HasFileRoom unsealed_output version config (key_at i) (comment_at i)
 file_room version config i small =
     let key = key_at i in
     let blob = blob_of (public_part key) in
@@ -56,7 +56,7 @@ file_room version config i small =
 
 -- ---- each target, place by place
 
-envelope_holds : (i : ℕ) → i < 2 ^ 16 → (place : Place) → Holds unsealed targets.OpenSsh (meaning_at i) place
+envelope_holds : (i : ℕ) → i < 2 ^ 16 → (place : Place) → Holds unsealed_output targets.OpenSsh (meaning_at i) place
 envelope_holds i small PrivateKey = tt
 envelope_holds i small Kind = tt
 envelope_holds i small Comment = comment_is_trimmed i small
@@ -66,18 +66,18 @@ envelope_holds i small Length =
     λ m. envelope_size m (key_at i) (comment_at i) (key_is_small (kind_at i) (i + 1)) (comment_size i small)
 envelope_holds i small Lines = tt
 
-file_holds : (version : PpkVersionKey) (config : PpkEncryptionConfig) (i : ℕ) → i < 2 ^ 16 → is_on_device (kind_at i) ≡ false
-    → (place : Place) → Holds unsealed (targets.Ppk version config) (meaning_at i) place
+file_holds : (version : PpkVersionKey) (config : PpkEncryptionConfig) (i : ℕ) → i < 2 ^ 16 → is_security_key_kind (kind_at i) ≡ false
+    → (place : Place) → Holds unsealed_output (targets.Ppk version config) (meaning_at i) place
 file_holds version config i small plain PrivateKey = tt
 file_holds version config i small plain Kind = key_is_of_kind (kind_at i) (i + 1) ∙ plain
 file_holds version config i small plain Comment =
-    one_line (end_of version) (comment_at i) (comment_has_no_cr i small, comment_has_no_lf i small)
+    one_line (line_end_of version) (comment_at i) (comment_has_no_cr i small, comment_has_no_lf i small)
 file_holds version config i small plain Derivation = tt
 file_holds version config i small plain Fresh = omega arith
 file_holds version config i small plain Length = file_room version config i small
 file_holds version config i small plain Lines = (omega (arith, blob_is_short i), omega (arith, secret_is_short i))
 
-line_holds : (i : ℕ) → i < 2 ^ 16 → (place : Place) → Holds unsealed targets.OpenSshPublic (meaning_at i) place
+line_holds : (i : ℕ) → i < 2 ^ 16 → (place : Place) → Holds unsealed_output targets.OpenSshPublic (meaning_at i) place
 line_holds i small PrivateKey = tt
 line_holds i small Kind = tt
 line_holds i small Comment = record {
@@ -91,8 +91,8 @@ line_holds i small Length =
     omega (arith, line_size (public_key (meaning_at i)) (omega (arith, blob_is_short i)) (comment_size i small))
 line_holds i small Lines = tt
 
-putty_holds : (i : ℕ) → i < 2 ^ 16 → is_on_device (kind_at i) ≡ false → (place : Place)
-    → Holds unsealed targets.PuttyPublic (meaning_at i) place
+putty_holds : (i : ℕ) → i < 2 ^ 16 → is_security_key_kind (kind_at i) ≡ false → (place : Place)
+    → Holds unsealed_output targets.PuttyPublic (meaning_at i) place
 putty_holds i small plain PrivateKey = tt
 putty_holds i small plain Kind = key_is_of_kind (kind_at i) (i + 1) ∙ plain
 putty_holds i small plain Comment = comment_has_no_lf i small
@@ -109,18 +109,18 @@ putty_holds i small plain Lines = tt
 
 -- ---- each target
 
-pub envelope_carries : (i : ℕ) → i < 2 ^ 16 → Carries unsealed targets.OpenSsh (meaning_at i)
+pub envelope_carries : (i : ℕ) → i < 2 ^ 16 → Carries unsealed_output targets.OpenSsh (meaning_at i)
 envelope_carries i small = record { holds = envelope_holds i small }
 
-pub file_carries : (version : PpkVersionKey) (config : PpkEncryptionConfig) (i : ℕ) → i < 2 ^ 16 → is_on_device (kind_at i) ≡ false
-    → Carries unsealed (targets.Ppk version config) (meaning_at i)
+pub file_carries : (version : PpkVersionKey) (config : PpkEncryptionConfig) (i : ℕ) → i < 2 ^ 16 → is_security_key_kind (kind_at i) ≡ false
+    → Carries unsealed_output (targets.Ppk version config) (meaning_at i)
 file_carries version config i small plain = record { holds = file_holds version config i small plain }
 
-pub line_carries : (i : ℕ) → i < 2 ^ 16 → Carries unsealed targets.OpenSshPublic (meaning_at i)
+pub line_carries : (i : ℕ) → i < 2 ^ 16 → Carries unsealed_output targets.OpenSshPublic (meaning_at i)
 line_carries i small = record { holds = line_holds i small }
 
-pub putty_carries : (i : ℕ) → i < 2 ^ 16 → is_on_device (kind_at i) ≡ false
-    → Carries unsealed targets.PuttyPublic (meaning_at i)
+pub putty_carries : (i : ℕ) → i < 2 ^ 16 → is_security_key_kind (kind_at i) ≡ false
+    → Carries unsealed_output targets.PuttyPublic (meaning_at i)
 putty_carries i small plain = record { holds = putty_holds i small plain }
 
 -- ---- the numbers of a configuration

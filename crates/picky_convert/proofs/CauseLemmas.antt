@@ -7,15 +7,15 @@ use Rattle.std.specs.Str.{IsUtf8, is_utf8}
 use Rattle.picky_wire_base.specs.Outcome.{map_err}
 use Rattle.picky_target.specs.declared.error.ConvertError.{ConvertError}
 use Rattle.picky_target.specs.declared.error.ConvertError.TheVariants as errors
-use Rattle.picky_conversion.specs.Certified.{Relation}
+use Rattle.picky_conversion.specs.Certified.{SignRelation}
 use Rattle.picky_convert.specs.declared.command.Command.{Command}
 use Rattle.picky_convert.specs.declared.error.Status.{Status}
 use Rattle.picky_convert.specs.declared.error.Status.TheVariants as statuses
 use Rattle.picky_convert.specs.Command.{answer}
-use Rattle.picky_conversion.specs.Made.{Made, Writes, is_signed}
+use Rattle.picky_conversion.specs.Made.{Made, WritesMade, is_signed}
 use Rattle.picky_conversion.specs.Outside.{Outside}
 use Rattle.picky_wire.specs.Count.{Rose}
-use Rattle.picky_convert.specs.Run.{input_limit, outcome, outcome_asks, outcome_signs, Ends, IsOutsideFault, IsTooLongFor, Moment, Refuses}
+use Rattle.picky_convert.specs.Run.{input_limit, outcome, outcome_asks, outcome_signs, Ends, IsOutsideFault, IsTooLongFor, Moment, RefusesInput}
 use Rattle.picky_conversion.proofs.CertifyLemmas.{own_length}
 use Rattle.picky_conversion.proofs.JudgedLemmas.{IsOwn}
 use Rattle.picky_convert.proofs.OutcomeLemmas.{answer_is_own}
@@ -71,8 +71,8 @@ no_text_of o command input refused = elim (outcome_err o command input statuses.
 ]
 
 -- a refusal neither says that memory ran out nor that a device failed
-pub refused_is_own : (signs : Relation) (o : Outside) (command : Command) (input : List ℕ) (e : ConvertError)
-    → Refuses signs (outcome o command input) e → IsOwn e
+pub refused_is_own : (signs : SignRelation) (o : Outside) (command : Command) (input : List ℕ) (e : ConvertError)
+    → RefusesInput signs (outcome o command input) e → IsOwn e
 refused_is_own signs o command input e (inl refused) = elim (outcome_err o command input (statuses.Refused e) refused) [
   | TooLong long is ↦ cc is
   | NoText none is ↦ cc is
@@ -90,13 +90,13 @@ no_outside o command input suite_rose signer_rose (inl fault) calm still = calm 
 no_outside o command input suite_rose signer_rose (inr fault) calm still = still fault.0 fault.1
 
 -- what a run that is done wrote
-pub wrote_all : (signs : Relation) (o : Outside) (command : Command) (input : List ℕ) (tells : Type 0) (old new : Moment) (status : Status)
+pub wrote_all : (signs : SignRelation) (o : Outside) (command : Command) (input : List ℕ) (tells : Type 0) (old new : Moment) (status : Status)
     → status ≡ statuses.Done → Ends signs o command input tells old new status
-    → (text : List ℕ) × Writes signs (outcome o command input) text × (tells → new.written ≡ old.written ++ text)
+    → (text : List ℕ) × WritesMade signs (outcome o command input) text × (tells → new.written ≡ old.written ++ text)
 wrote_all signs o command input tells old new status is ends = subst (λ s. Ends signs o command input tells old new s) is ends
 
 -- where the command comes to something and nothing was counted, the run is done, wants memory, or the signature was too long
-pub settled : (signs : Relation) (o : Outside) (command : Command) (input : List ℕ) (tells : Type 0) (old new : Moment) (status : Status)
+pub settled : (signs : SignRelation) (o : Outside) (command : Command) (input : List ℕ) (tells : Type 0) (old new : Moment) (status : Status)
     (made : Made) → outcome o command input ≡ Ok made → (Rose old.source_faults new.source_faults → ⊥)
     → (Rose old.sink_faults new.sink_faults → ⊥)
     → (outcome_asks o command input ≡ true → Rose old.suite_faults new.suite_faults → ⊥)
@@ -117,7 +117,7 @@ settled signs o command input tells old new statuses.InputTooLong made ok calm_i
 settled signs o command input tells old new statuses.InputNotUtf8 made ok calm_in calm_out calm still ends = cc (ok, ends)
 
 -- where it comes to nothing, the run ends so, or wants memory
-pub ends_so : (signs : Relation) (o : Outside) (command : Command) (input : List ℕ) (tells : Type 0) (old new : Moment)
+pub ends_so : (signs : SignRelation) (o : Outside) (command : Command) (input : List ℕ) (tells : Type 0) (old new : Moment)
     (status said : Status) → outcome o command input ≡ Err said → (Rose old.source_faults new.source_faults → ⊥)
     → (outcome_asks o command input ≡ true → Rose old.suite_faults new.suite_faults → ⊥)
     → Ends signs o command input tells old new status → (status ≡ said) ⊎ (status ≡ statuses.NoMemory)

@@ -5,8 +5,8 @@ use Rattle.std.specs.{Option.{option_map}, Str.{bytes_eq, IsUtf8}}
 use Rattle.picky_wire_base.specs.{carried.Outcome.{and_then_ok, map_err_ok}, Outcome.{map_err, map_ok}}
 use Rattle.picky_ppk_parts.specs.Config.{default_config}
 use Rattle.picky_target.specs.ReadBack.{IsConfig}
-use Rattle.picky_conversion.specs.{Certified.{Relation}, Certify.{hex_line}, Chain.{IsGiven}}
-use Rattle.picky_conversion.specs.{Issue.{issued, issued_bytes}, Made.{IsTextOf, Made, ToSign, Whole, Writes}}
+use Rattle.picky_conversion.specs.{Certified.{SignRelation}, Certify.{hex_line}, Chain.{IsGiven}}
+use Rattle.picky_conversion.specs.{Issue.{issued, issued_bytes}, Made.{IsMadeText, Made, ToSign, Whole, WritesMade}}
 use Rattle.picky_conversion.specs.{Outside.{Outside, reader}, To.{Written}}
 use Rattle.picky_issuing.specs.{declared.options.CertOptions.{CertOptions}, Options.{options_named}}
 use Rattle.picky_key_text.specs.{Key.{public_part}, Order.{reading}}
@@ -23,8 +23,8 @@ use Rattle.picky_convert.specs.{Fingerprint.{fingerprint_text}, Sample.{sample_t
 use Rattle.picky_convert.specs.declared.command.Command.TheVariants as commands
 
 -- what a command writes is its answer to the source's text
-pub answer_is : (signs : Relation) (o : Outside) (command : Command) (input text : List ℕ) → IsGiven o → IsCommand command
-    → IsUtf8 input → Writes signs (answer o command input) text → IsAnswer signs o command input text
+pub answer_is : (signs : SignRelation) (o : Outside) (command : Command) (input text : List ℕ) → IsGiven o → IsCommand command
+    → IsUtf8 input → WritesMade signs (answer o command input) text → IsAnswer signs o command input text
 answer_is signs o (commands.Convert target) input text given fits utf8 done =
     converted_is signs o (Written target) input text given fits utf8 done
 answer_is signs o (commands.Certify options) input text given fits utf8 done =
@@ -44,7 +44,7 @@ answer_is signs o commands.Fingerprint input text given fits utf8 done =
       is = sym is;
     }
 answer_is signs o (commands.Sample keys) input text given fits utf8 (made, is, of) =
-    let same : Whole (sample_text o.meanings keys) ≡ made = cc is in subst (λ m. IsTextOf signs m text) (sym same) of
+    let same : Whole (sample_text o.meanings keys) ≡ made = cc is in subst (λ m. IsMadeText signs m text) (sym same) of
 
 pub answer_of : (o : Outside) (command : Command) (input : List ℕ) → CanAnswer o command input
     → (made : Made) × (answer o command input ≡ Ok made)

@@ -20,7 +20,7 @@ use Rattle.picky_kv.specs.declared.PpkEncryptionValue.TheVariants as encryptions
 use Rattle.picky_kv.specs.declared.algorithm.PpkKeyAlgorithmValue.TheVariants as algorithms
 use Rattle.picky_ppk_file.specs.PuttyPublic.{comment_line, comment_start, footer, header, putty_public}
 use Rattle.picky_ppk_file.specs.declared.file.PpkSealing.TheVariants.{Unsealed}
-use Rattle.picky_ppk_file.specs.Written.{end_of, file_lines, file_text, line_of, rows_under}
+use Rattle.picky_ppk_file.specs.Written.{line_end_of, file_lines, file_text, line_under, rows_under}
 use Rattle.picky_convert.proofs.BlobSizes.{name_size}
 use Rattle.picky_convert.proofs.TextSizes.{base64_size, decimal_size, lines_size, lines_size-append, quote_size, rows_count}
 use Rattle.picky_convert.proofs.TextSizes.{rows_size, text_size}
@@ -105,18 +105,18 @@ pub file_size : (version : PpkVersionKey) (algorithm : PpkKeyAlgorithmValue) (co
     ≤ 100000
 unfolding file_text file_lines
 file_size version algorithm comment public private mac few_comment few_public few_private few_mac =
-    let first = line_of version_field algorithm_field version algorithm in
-    let second = line_of encryption_key encryption_field (record {}) encryptions.None in
-    let third = line_of comment_key comment_field (record {}) comment in
+    let first = line_under version_field algorithm_field version algorithm in
+    let second = line_under encryption_key encryption_field (record {}) encryptions.None in
+    let third = line_under comment_key comment_field (record {}) comment in
     let rows = rows_under public_lines_key (record {}) public in
     let front : List (List ℕ) = first ∷ second ∷ third ∷ rows in
     let more = rows_under private_lines_key (record {}) private in
-    let last = line_of private_mac_key hex_field (record {}) mac in
+    let last = line_under private_mac_key hex_field (record {}) mac in
     omega (
       arith,
       few_comment,
       few_mac,
-      text_size (end_of version) (((front ++ []) ++ more) ++ last ∷ []),
+      text_size (line_end_of version) (((front ++ []) ++ more) ++ last ∷ []),
       lines_size-append ((front ++ []) ++ more) (last ∷ []),
       lines_size-append (front ++ []) more,
       lines_size-append front [],

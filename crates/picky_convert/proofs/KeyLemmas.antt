@@ -5,10 +5,10 @@ use Rattle.picky_keys.specs.declared.curve.EcCurve.TheVariants.{NistP256, NistP3
 use Rattle.picky_keys.specs.declared.kind.KeyKind.{KeyKind}
 use Rattle.picky_keys.specs.declared.kind.KeyKind.TheVariants as kinds
 use Rattle.picky_sshkey_blob.specs.Key.{IsPrivateKey, public_part}
-use Rattle.picky_ppk_file.specs.PuttyRefusal.{is_hardware}
+use Rattle.picky_ppk_file.specs.PuttyRefusal.{is_security_key}
 use Rattle.picky_key_text.specs.Kept.{IsKeptMeaning}
 use Rattle.picky_convert.specs.SampleKeys.{drawn_key, kind_at, meaning_at, numbers_len, secret_len}
-use Rattle.picky_convert.specs.SampleTexts.{is_on_device}
+use Rattle.picky_convert.specs.SampleTexts.{is_security_key_kind}
 use Rattle.picky_convert.proofs.CommentLemmas.{comment_is_text}
 use Rattle.picky_convert.proofs.PartLemmas.{application_is, application_size, ed_is, exponent_is, field_is, field_size}
 use Rattle.picky_convert.proofs.PartLemmas.{number_is, number_size, point_is, point_size}
@@ -63,7 +63,7 @@ key_is_private kinds.SkEcdsaSha2NistP256 s =
     (point_is s 64 (omega arith), application_is, omega arith, field_is s 64 64 (omega arith))
 key_is_private kinds.SkEd25519 s = (ed_is s 0, application_is, omega arith, field_is s 32 64 (omega arith))
 
-pub key_is_of_kind : (kind : KeyKind) (s : ℕ) → is_hardware (public_part (drawn_key kind s)) ≡ is_on_device kind
+pub key_is_of_kind : (kind : KeyKind) (s : ℕ) → is_security_key (public_part (drawn_key kind s)) ≡ is_security_key_kind kind
 unfolding drawn_key
 key_is_of_kind kinds.Rsa s = refl
 key_is_of_kind (kinds.Ec curve) s = refl

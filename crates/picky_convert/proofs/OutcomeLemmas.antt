@@ -13,9 +13,9 @@ use Rattle.picky_key_text.specs.{Key.{public_part}, Order.{reading}}
 use Rattle.picky_target.specs.{declared.error.ConvertError.{ConvertError}, declared.target.KeyTarget.{KeyTarget}}
 use Rattle.picky_target.specs.Written.{written}
 use Rattle.picky_target.specs.declared.error.ConvertError.TheVariants as errors
-use Rattle.picky_conversion.specs.{Certified.{Relation}, Certify.{hex_line}, Convert.{LeavesAskedSuite, conversion}}
+use Rattle.picky_conversion.specs.{Certified.{SignRelation}, Certify.{hex_line}, Convert.{LeavesAskedSuite, conversion}}
 use Rattle.picky_conversion.specs.Issue.{issued, issued_bytes, unsigned}
-use Rattle.picky_conversion.specs.Made.{Answers, IsUnwritten, LeavesSigner, Made, ToSign, Whole, Writes, is_signed}
+use Rattle.picky_conversion.specs.Made.{AnswersMade, IsUnwritten, LeavesAskedSigner, Made, ToSign, Whole, WritesMade, is_signed}
 use Rattle.picky_conversion.specs.{Outside.{Outside, reader}, Want.{IsFault, IsSignerFault, WantsMemory}}
 use Rattle.picky_convert.specs.declared.command.Command.{Command}
 use Rattle.picky_convert.specs.Command.{IsFaultFor, answer, answering_asks, fingerprints}
@@ -147,12 +147,12 @@ outcome_asks_as o command input short utf8 =
 
 -- ---- what a command answers, as a run's status
 
-pub text_comes : (signs : Relation) (o : Outside) (command : Command) (input text : List ℕ) → length input ≤ input_limit
-    → IsUtf8 input → Writes signs (answer o command input) text → Writes signs (outcome o command input) text
+pub text_comes : (signs : SignRelation) (o : Outside) (command : Command) (input text : List ℕ) → length input ≤ input_limit
+    → IsUtf8 input → WritesMade signs (answer o command input) text → WritesMade signs (outcome o command input) text
 text_comes signs o command input text short utf8 (made, is, of) = (made, outcome_done o command input made short utf8 is, of)
 
 -- why there is no text of what it came to
-left_comes : (signs : Relation) (o : Outside) (command : Command) (input : List ℕ) (e : ConvertError)
+left_comes : (signs : SignRelation) (o : Outside) (command : Command) (input : List ℕ) (e : ConvertError)
     (read_rose suite_rose signer_rose : Type 0) (made : Made) → outcome o command input ≡ Ok made → IsUnwritten signs made signer_rose e
     → Stops signs o command input read_rose suite_rose signer_rose (refusal_status e)
 left_comes signs o command input e read_rose suite_rose signer_rose (Whole text) is left = absurd left
@@ -163,9 +163,9 @@ left_comes signs o command input e read_rose suite_rose signer_rose (ToSign u) i
     subst (λ s. Stops signs o command input read_rose suite_rose signer_rose s) (sym (ap refusal_status long.0))
     (inr (refl, (ToSign u, is, long.1)))
 
-pub refused_comes : {X Y : Type 0} (signs : Relation) (view : X → List ℕ) (seen : Y → List ℕ) (o : Outside) (command : Command)
+pub refused_comes : {X Y : Type 0} (signs : SignRelation) (view : X → List ℕ) (seen : Y → List ℕ) (o : Outside) (command : Command)
     (input : List ℕ) (read_rose suite_rose signer_rose : Type 0) (e : ConvertError) → length input ≤ input_limit → IsUtf8 input
-    → Answers {X = X} signs view (answer o command input) (λ f. IsFaultFor o command input f suite_rose) signer_rose (Err e)
+    → AnswersMade {X = X} signs view (answer o command input) (λ f. IsFaultFor o command input f suite_rose) signer_rose (Err e)
     → Comes {X = Y} signs seen o command input read_rose suite_rose signer_rose (Err (refusal_status e))
 refused_comes signs view seen o command input read_rose suite_rose signer_rose e short utf8 (inl want) =
     subst (λ s. Stops signs o command input read_rose suite_rose signer_rose s) (sym (ap refusal_status want)) tt
@@ -181,11 +181,11 @@ refused_comes signs view seen o command input read_rose suite_rose signer_rose e
 
 -- ---- the devices
 
-pub done_leaves : {S G A : Type 0} (meanings : S → Meanings) (faults : S → ℕ) (signs : G → Relation) (signer_faults : G → ℕ)
+pub done_leaves : {S G A : Type 0} (meanings : S → Meanings) (faults : S → ℕ) (signs : G → SignRelation) (signer_faults : G → ℕ)
     (o : Outside) (command : Command) (input : List ℕ) (x : A) (ended : Type 0) (old new : S) (before after : G)
     → length input ≤ input_limit → IsUtf8 input
     → LeavesAskedSuite {A = A} meanings faults (answering_asks o command input) (Ok x) old new
-    → LeavesSigner {A = A} signs signer_faults (is_signed (answer o command input)) (Ok x) before after
+    → LeavesAskedSigner {A = A} signs signer_faults (is_signed (answer o command input)) (Ok x) before after
     → Devices meanings faults signs signer_faults ended (outcome_asks o command input ≡ false) (outcome_signs o command input ≡ false)
     old new before after
 done_leaves meanings faults signs signer_faults o command input x ended old new before after short utf8 leaves keeps = record {
@@ -203,11 +203,11 @@ done_leaves meanings faults signs signer_faults o command input x ended old new 
       old new before after leaves keeps;
 }
 
-pub refused_leaves : {S G A : Type 0} (meanings : S → Meanings) (faults : S → ℕ) (signs : G → Relation) (signer_faults : G → ℕ)
+pub refused_leaves : {S G A : Type 0} (meanings : S → Meanings) (faults : S → ℕ) (signs : G → SignRelation) (signer_faults : G → ℕ)
     (o : Outside) (command : Command) (input : List ℕ) (e : ConvertError) (ended : Type 0) (old new : S) (before after : G)
     → (refusal_status e ≡ statuses.OutsideFault → ended) → length input ≤ input_limit → IsUtf8 input
     → LeavesAskedSuite {A = A} meanings faults (answering_asks o command input) (Err e) old new
-    → LeavesSigner {A = A} signs signer_faults (is_signed (answer o command input)) (Err e) before after
+    → LeavesAskedSigner {A = A} signs signer_faults (is_signed (answer o command input)) (Err e) before after
     → Devices meanings faults signs signer_faults ended (outcome_asks o command input ≡ false) (outcome_signs o command input ≡ false)
     old new before after
 refused_leaves meanings faults signs signer_faults o command input e ended old new before after ends short utf8 leaves keeps = record {
@@ -228,7 +228,7 @@ refused_leaves meanings faults signs signer_faults o command input e ended old n
 }
 
 -- devices that weren't asked are as they were
-pub untouched_devices : {S G : Type 0} (meanings : S → Meanings) (faults : S → ℕ) (signs : G → Relation) (signer_faults : G → ℕ)
+pub untouched_devices : {S G : Type 0} (meanings : S → Meanings) (faults : S → ℕ) (signs : G → SignRelation) (signer_faults : G → ℕ)
     (failed unasked unsigned : Type 0) (suite : S) (signer : G)
     → Devices meanings faults signs signer_faults failed unasked unsigned suite suite signer signer
 untouched_devices meanings faults signs signer_faults failed unasked unsigned suite signer = record {

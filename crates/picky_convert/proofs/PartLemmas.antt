@@ -10,8 +10,8 @@ use Rattle.picky_wire_base.specs.Zeros.{without_zeros}
 use Rattle.picky_wire_base.specs.carried.Zeros.{no_zero_begins}
 use Rattle.picky_keys.specs.Key.{IsEdKey, IsNumber, IsString, IsText}
 use Rattle.picky_keys.proofs.ByteLaws.{bytes_first, no_bytes}
-use Rattle.picky_convert.specs.Generator.{after}
-use Rattle.picky_convert.specs.SampleKeys.{application, exponent, field, number, point}
+use Rattle.picky_convert.specs.Generator.{state_after}
+use Rattle.picky_convert.specs.SampleKeys.{application, exponent, sample_field, sample_number, point}
 use Rattle.picky_convert.proofs.GeneratorLemmas.{drawn_is_bytes, length-drawn}
 
 -- ---- numbers
@@ -26,14 +26,14 @@ zeros_size [] = omega arith
 zeros_size (zero ∷ bytes) = omega (arith, zeros_size bytes)
 zeros_size (suc b ∷ bytes) = omega arith
 
-pub number_size : (s behind len : ℕ) → length (number s behind len) ≤ len
-number_size s behind len = omega (arith, zeros_size (field s behind len), length-drawn len (after behind s))
+pub number_size : (s behind len : ℕ) → length (sample_number s behind len) ≤ len
+number_size s behind len = omega (arith, zeros_size (sample_field s behind len), length-drawn len (state_after behind s))
 
-pub number_is : (s behind len : ℕ) → len ≤ 256 → IsNumber (number s behind len)
+pub number_is : (s behind len : ℕ) → len ≤ 256 → IsNumber (sample_number s behind len)
 number_is s behind len few = record {
-  bytes = zeros_bytes (field s behind len) (drawn_is_bytes len (after behind s));
+  bytes = zeros_bytes (sample_field s behind len) (drawn_is_bytes len (state_after behind s));
   mpint = record {
-    begins = no_zero_begins (field s behind len);
+    begins = no_zero_begins (sample_field s behind len);
     short = omega (arith, few, number_size s behind len);
   };
 }
@@ -46,12 +46,12 @@ exponent_is = record {
 
 -- ---- strings
 
-pub field_size : (s behind len : ℕ) → length (field s behind len) ≡ len
-field_size s behind len = length-drawn len (after behind s)
+pub field_size : (s behind len : ℕ) → length (sample_field s behind len) ≡ len
+field_size s behind len = length-drawn len (state_after behind s)
 
-pub field_is : (s behind len : ℕ) → len ≤ 256 → IsString (field s behind len)
+pub field_is : (s behind len : ℕ) → len ≤ 256 → IsString (sample_field s behind len)
 field_is s behind len few = record {
-  bytes = drawn_is_bytes len (after behind s);
+  bytes = drawn_is_bytes len (state_after behind s);
   short = omega (arith, field_size s behind len);
 }
 
@@ -60,12 +60,12 @@ point_size s len = omega (arith, field_size s 0 len)
 
 pub point_is : (s len : ℕ) → len ≤ 256 → IsString (point s len)
 point_is s len few = record {
-  bytes = bytes_first 4 (field s 0 len) (omega arith) (drawn_is_bytes len (after 0 s));
+  bytes = bytes_first 4 (sample_field s 0 len) (omega arith) (drawn_is_bytes len (state_after 0 s));
   short = omega (arith, point_size s len);
 }
 
-pub ed_is : (s behind : ℕ) → IsEdKey (field s behind 32)
-ed_is s behind = record { bytes = drawn_is_bytes 32 (after behind s); len = field_size s behind 32 }
+pub ed_is : (s behind : ℕ) → IsEdKey (sample_field s behind 32)
+ed_is s behind = record { bytes = drawn_is_bytes 32 (state_after behind s); len = field_size s behind 32 }
 
 -- ---- the application
 

@@ -6,7 +6,7 @@ use Rattle.std.specs.Str.{IsUtf8, is_utf8}
 use Rattle.picky_wire_base.specs.Outcome.{map_err, map_ok}
 use Rattle.picky_wire_base.specs.carried.Outcome.{map_err_ok}
 use Rattle.picky_cert_builder.specs.Draft.{Unsigned}
-use Rattle.picky_conversion.specs.Certified.{Relation}
+use Rattle.picky_conversion.specs.Certified.{SignRelation}
 use Rattle.picky_issuing.specs.declared.options.CertOptions.{CertOptions}
 use Rattle.picky_convert.specs.declared.command.Command.{Command}
 use Rattle.picky_convert.specs.declared.command.Command.TheVariants as commands
@@ -14,7 +14,7 @@ use Rattle.picky_convert.specs.declared.error.Status.TheVariants as statuses
 use Rattle.picky_conversion.specs.Chain.{IsGiven}
 use Rattle.picky_conversion.specs.Convert.{conversion}
 use Rattle.picky_conversion.specs.Issue.{issued_bytes}
-use Rattle.picky_conversion.specs.Made.{Made, ToSign, Whole, Writes, is_signed}
+use Rattle.picky_conversion.specs.Made.{Made, ToSign, Whole, WritesMade, is_signed}
 use Rattle.picky_conversion.specs.Outside.{Outside}
 use Rattle.picky_convert.specs.Command.{IsAnswer, IsCommand, answer, fingerprints}
 use Rattle.picky_convert.specs.Run.{input_limit, outcome, outcome_signs, IsValid, WritesAnswer}
@@ -46,8 +46,8 @@ outcome_ok o command input made done =
     )
 
 -- the text that is written for bytes is the command's answer to them
-pub outcome_answers : (signs : Relation) (o : Outside) (command : Command) (input text : List ℕ) → IsGiven o → IsCommand command
-    → Writes signs (outcome o command input) text → IsAnswer signs o command input text
+pub outcome_answers : (signs : SignRelation) (o : Outside) (command : Command) (input text : List ℕ) → IsGiven o → IsCommand command
+    → WritesMade signs (outcome o command input) text → IsAnswer signs o command input text
 outcome_answers signs o command input text given fits (made, done, of) =
     let parts = outcome_ok o command input made done in
     answer_is signs o command input text given fits parts.1 (made, parts.2, of)
@@ -86,8 +86,8 @@ certifies_where_signed o command input is =
 
 -- ---- what a run wrote
 
-pub writes_answer : (signs : Relation) (o : Outside) (command : Command) (input text before after : List ℕ) → IsGiven o
-    → IsCommand command → Writes signs (outcome o command input) text → after ≡ before ++ text
+pub writes_answer : (signs : SignRelation) (o : Outside) (command : Command) (input text before after : List ℕ) → IsGiven o
+    → IsCommand command → WritesMade signs (outcome o command input) text → after ≡ before ++ text
     → WritesAnswer signs o command input before after
 writes_answer signs o command input text before after given fits done wrote =
     record { text = text; is_answer = outcome_answers signs o command input text given fits done; written = wrote }

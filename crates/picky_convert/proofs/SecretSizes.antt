@@ -21,7 +21,7 @@ use Rattle.picky_ppk_parts.specs.Secret.{secret_bytes}
 use Rattle.picky_target.specs.Drafts.{openssh_key}
 use Rattle.picky_target.specs.Texts.{envelope_text}
 use Rattle.picky_wire_base.proofs.PieceLemmas.{length-string_of}
-use Rattle.picky_convert.specs.SampleTexts.{unsealed}
+use Rattle.picky_convert.specs.SampleTexts.{unsealed_output}
 use Rattle.picky_convert.proofs.BlobSizes.{IsSmall, blob_size, identifier_size, name_size}
 use Rattle.picky_convert.proofs.PartLemmas.{zeros_size}
 use Rattle.picky_convert.proofs.TextSizes.{concat_size, mpint_size}
@@ -205,9 +205,9 @@ block_size key small comment plain =
     ))
 
 pub envelope_size : (m : Meanings) (key : SshBasePrivateKey) (comment : List ℕ) → IsSmallSecret key → length comment ≤ 9
-    → length (envelope_text m (openssh_key unsealed key comment)) < 2 ^ 32
+    → length (envelope_text m (openssh_key unsealed_output key comment)) < 2 ^ 32
 envelope_size m key comment small short =
-    let made = openssh_key unsealed key comment in
+    let made = openssh_key unsealed_output key comment in
     let content = envelope_of made (plain_block made) in
     omega (
       arith,

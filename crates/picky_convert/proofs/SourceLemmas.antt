@@ -4,7 +4,7 @@ use Rattle.std.proofs.Common.{Result, Ok, Err}
 use Rattle.std.proofs.Common.{if◌then◌else◌, inl, inr, refl, sym, subst, arith}
 use Rattle.std.proofs.lemmas.Str.{IsUtf8-nil}
 use Rattle.std.specs.Str.{IsUtf8, is_utf8}
-use Rattle.picky_conversion.specs.Certified.{Relation}
+use Rattle.picky_conversion.specs.Certified.{SignRelation}
 use Rattle.picky_convert.specs.declared.command.Command.{Command}
 use Rattle.picky_convert.specs.declared.command.Command.TheVariants as commands
 use Rattle.picky_convert.specs.declared.error.Status.{Status}
@@ -94,7 +94,7 @@ pub extent_read : (command : Command) (status : Status) → reads_source command
 extent_read command status reads = rw reads refl
 
 -- what a command answers that was given all bytes of its source leaves that at its end, unless memory ran out
-at_end : {X : Type 0} (signs : Relation) (view : X → List ℕ) (o : Outside) (command : Command) (input : List ℕ)
+at_end : {X : Type 0} (signs : SignRelation) (view : X → List ℕ) (o : Outside) (command : Command) (input : List ℕ)
     (suite_rose signer_rose : Type 0) (r : Result X Status) → reads_source command ≡ true → length input ≤ input_limit
     → Comes signs view o command input ⊥ suite_rose signer_rose r → (extent_at command r ≡ ToEnd) ⊎ (extent_at command r ≡ Anywhere)
 at_end signs view o command input suite_rose signer_rose (Ok text) reads short comes = inl (extent_read command statuses.Done reads)
@@ -113,7 +113,7 @@ at_end signs view o command input suite_rose signer_rose (Err statuses.InputTooL
 at_end signs view o command input suite_rose signer_rose (Err statuses.InputNotUtf8) reads short comes =
     inl (extent_read command statuses.InputNotUtf8 reads)
 
-pub read_whole : {I X : Type 0} (tells : I → Type 0) (left : I → List ℕ) (faults : I → ℕ) (signs : Relation) (view : X → List ℕ)
+pub read_whole : {I X : Type 0} (tells : I → Type 0) (left : I → List ℕ) (faults : I → ℕ) (signs : SignRelation) (view : X → List ℕ)
     (o : Outside) (command : Command) (input : List ℕ) (suite_rose signer_rose : Type 0) (r : Result X Status) (old new : I)
     → reads_source command ≡ true → length input ≤ input_limit → Comes signs view o command input ⊥ suite_rose signer_rose r
     → (tells old → tells new) → (tells old → TakesInput (left old) (left new)) → (tells old → left new ≡ [])

@@ -17,11 +17,11 @@ use Rattle.picky_key_text.specs.Reads.{Reads}
 use Rattle.picky_target.specs.declared.error.ConvertError.{ConvertError}
 use Rattle.picky_target.specs.declared.error.ConvertError.TheVariants as errors
 use Rattle.picky_target.specs.declared.target.KeyTarget.TheVariants as targets
-use Rattle.picky_conversion.specs.Certified.{Relation}
+use Rattle.picky_conversion.specs.Certified.{SignRelation}
 use Rattle.picky_convert.specs.declared.command.Command.{Command}
 use Rattle.picky_convert.specs.declared.command.Command.TheVariants as commands
 use Rattle.picky_conversion.specs.Outside.{Outside, reader}
-use Rattle.picky_conversion.specs.Certify.{IsReadFault}
+use Rattle.picky_conversion.specs.Certify.{IsInputFault}
 use Rattle.picky_convert.specs.Fingerprint.{fingerprint_text}
 use Rattle.picky_conversion.specs.Issue.{CanIssue, CanIssueBytes, IsIssued, IsIssuedBytes, IsIssuingFault, issued}
 use Rattle.picky_conversion.specs.Issue.{issued_bytes, issuing_asks}
@@ -141,7 +141,7 @@ abbrev pub IsFaultFor : Outside → Command → List ℕ → ConvertError → Ty
 IsFaultFor o (commands.Convert target) text e rose = IsFaultTo o (Written target) text e rose
 IsFaultFor o (commands.Certify options) text e rose = IsIssuingFault o text e rose
 IsFaultFor o (commands.PrintSigned options) text e rose = IsIssuingFault o text e rose
-IsFaultFor o commands.Fingerprint text e rose = IsReadFault o text e rose
+IsFaultFor o commands.Fingerprint text e rose = IsInputFault o text e rose
 IsFaultFor o (commands.Sample keys) text e rose = ⊥
 
 -- the text is the fingerprints of the one key that the key text means
@@ -152,7 +152,7 @@ pub record IsFingerprint (o : Outside) (input text : List ℕ) : Type 0 where
   pub is : text ≡ fingerprint_text (public_part meaning.key)
 
 -- the text is what the command writes for a source's text
-abbrev pub IsAnswer : Relation → Outside → Command → List ℕ → List ℕ → Type 0
+abbrev pub IsAnswer : SignRelation → Outside → Command → List ℕ → List ℕ → Type 0
 IsAnswer signs o (commands.Convert target) input text = IsConverted signs o (Written target) input text
 IsAnswer signs o (commands.Certify options) input text = IsIssued signs o options input text
 IsAnswer signs o (commands.PrintSigned options) input text = IsIssuedBytes o options input text

@@ -10,11 +10,11 @@ unfoldable pub byte_of : ℕ → ℕ
 byte_of s = s / 2 ^ 56
 
 -- the state once so many bytes are drawn
-unfoldable pub after : ℕ → ℕ → ℕ
-after zero s = s
-after (suc more) s = after more (next s)
+unfoldable pub state_after : ℕ → ℕ → ℕ
+state_after zero s = s
+state_after (suc more) s = state_after more (next s)
 
 -- so many bytes, one after another
-unfoldable pub drawn : ℕ → ℕ → List ℕ
-drawn zero s = []
-drawn (suc more) s = byte_of (next s) ∷ drawn more (next s)
+unfoldable pub generated : ℕ → ℕ → List ℕ
+generated zero s = []
+generated (suc more) s = byte_of (next s) ∷ generated more (next s)

@@ -1,12 +1,12 @@
 -- A run: what it writes for the bytes of its source, and how it ends.
-use Rattle.std.specs.Prelude.{◌≡◌, ◌⊎◌, ◌<◌, ◌++◌, ◌≤◌, ◌&&◌, ◌↔◌, List, [], ℕ, Bool, true, length, take, nat_lt, nat_le, Result, Err}
+use Rattle.std.specs.Prelude.{◌≡◌, ◌⊎◌, ◌++◌, ◌≤◌, ◌&&◌, ◌↔◌, List, [], ℕ, Bool, true, length, nat_lt, nat_le, Result, Err}
 use Rattle.std.specs.Prelude.{Ok, Option, Some, None, if◌then◌else◌}
 use Rattle.std.specs.Str.{IsUtf8, is_utf8}
 use Rattle.picky_wire_base.specs.Outcome.{map_err}
 use Rattle.picky_wire.specs.Count.{Rose}
 use Rattle.picky_wire.specs.Puts.{Puts}
 pub use Rattle.picky_input.specs.Input.{input_limit}
-use Rattle.picky_input.specs.Extent.{Extent, Anywhere, PastLimit, ToEnd, ToFault, Untouched, LeavesDevice}
+use Rattle.picky_input.specs.Extent.{Extent, Anywhere, PastLimit, ToEnd, ToFault, Untouched, LeavesDevice, WritesPrefix}
 use Rattle.picky_wire.specs.declared.error.WireError.{WireError}
 use Rattle.picky_wire.specs.declared.error.WireError.TheVariants as wire
 use Rattle.picky_keys.specs.declared.algorithm.SignatureAlgorithm.{SignatureAlgorithm}
@@ -14,14 +14,14 @@ use Rattle.picky_keys.specs.declared.public_key.PublicKey.{PublicKey}
 use Rattle.picky_suite.specs.Meanings.{Meanings}
 use Rattle.picky_target.specs.declared.error.ConvertError.{ConvertError}
 use Rattle.picky_target.specs.declared.error.ConvertError.TheVariants as errors
-use Rattle.picky_conversion.specs.Certified.{Relation}
+use Rattle.picky_conversion.specs.Certified.{SignRelation}
 use Rattle.picky_convert.specs.declared.error.Status.{Status}
 use Rattle.picky_convert.specs.declared.error.Status.TheVariants as statuses
 use Rattle.picky_convert.specs.declared.command.Command.{Command}
 use Rattle.picky_conversion.specs.Outside.{Outside}
 use Rattle.picky_convert.specs.Command.{answer, answering_asks, CanAnswer, IsAnswer, reads_source}
 use Rattle.picky_convert.specs.Report.{report}
-use Rattle.picky_conversion.specs.Made.{CanBeTooLong, Made, Writes, is_signed}
+use Rattle.picky_conversion.specs.Made.{CanBeTooLong, Made, WritesMade, is_signed}
 
 -- the bytes that the command reads of what a source has left: all of them, or none
 abbrev pub input_for : Command → (left : List ℕ) → List ℕ
@@ -74,7 +74,7 @@ pub record IsValid (o : Outside) (command : Command) (input : List ℕ) : Type 0
   pub can_answer : CanAnswer o command input
 
 -- what the command writes for these bytes was written after those
-pub record WritesAnswer (signs : Relation) (o : Outside) (command : Command) (input before after : List ℕ) : Type 0 where
+pub record WritesAnswer (signs : SignRelation) (o : Outside) (command : Command) (input before after : List ℕ) : Type 0 where
   pub text : List ℕ
   pub is_answer : IsAnswer signs o command input text
   pub written : after ≡ before ++ text
@@ -85,17 +85,17 @@ Says tells written faults line old new =
     (r : Result (Unit {0}) WireError) × Puts tells written faults wire.WriteFault line r old new
 
 -- there is a good signature with which the line is too long
-abbrev pub IsTooLongFor : Relation → Result Made Status → Type 0
+abbrev pub IsTooLongFor : SignRelation → Result Made Status → Type 0
 IsTooLongFor signs for_input = (made : Made) × (for_input ≡ Ok made) × CanBeTooLong signs made
 
 -- the bytes are refused so, or by the length of a signature
-abbrev pub Refuses : Relation → Result Made Status → ConvertError → Type 0
-Refuses signs for_input e = (for_input ≡ Err (statuses.Refused e)) ⊎ ((e ≡ errors.TooLong) × IsTooLongFor signs for_input)
+abbrev pub RefusesInput : SignRelation → Result Made Status → ConvertError → Type 0
+RefusesInput signs for_input e = (for_input ≡ Err (statuses.Refused e)) ⊎ ((e ≡ errors.TooLong) × IsTooLongFor signs for_input)
 
 -- ---- how a run ends
 
 -- the cause of a status for which no text is written
-abbrev pub Stops : Relation → Outside → Command → (input : List ℕ) → (read_rose suite_rose signer_rose : Type 0)
+abbrev pub Stops : SignRelation → Outside → Command → (input : List ℕ) → (read_rose suite_rose signer_rose : Type 0)
     → Status → Type 0
 Stops signs o command input read_rose suite_rose signer_rose statuses.Done = ⊥
 Stops signs o command input read_rose suite_rose signer_rose statuses.Usage = ⊥
@@ -104,7 +104,7 @@ Stops signs o command input read_rose suite_rose signer_rose statuses.NoMemory =
 Stops signs o command input read_rose suite_rose signer_rose statuses.ReadFault = (reads_source command ≡ true) × read_rose
 Stops signs o command input read_rose suite_rose signer_rose statuses.OutsideFault =
     IsOutsideFault o command input suite_rose signer_rose
-Stops signs o command input read_rose suite_rose signer_rose (statuses.Refused e) = Refuses signs (outcome o command input) e
+Stops signs o command input read_rose suite_rose signer_rose (statuses.Refused e) = RefusesInput signs (outcome o command input) e
 Stops signs o command input read_rose suite_rose signer_rose statuses.InputTooLong =
     outcome o command input ≡ Err statuses.InputTooLong
 Stops signs o command input read_rose suite_rose signer_rose statuses.InputNotUtf8 =
@@ -127,19 +127,13 @@ moment written source_faults sink_faults suite_faults signer_faults = record {
   signer_faults = signer_faults;
 }
 
--- a prefix of the text was written after those bytes, and not the whole
-pub record WritesPrefix (text before after : List ℕ) : Type 0 where
-  pub len : ℕ
-  pub less : len < length text
-  pub written : after ≡ before ++ take len text
-
 -- what a status says of a run over these bytes: that the whole text was written, to a sink that tells, that a prefix was before a
 -- fault, or why there is no text
-abbrev pub Ends : Relation → Outside → Command → (input : List ℕ) → (tells : Type 0) → (old new : Moment) → Status → Type 0
+abbrev pub Ends : SignRelation → Outside → Command → (input : List ℕ) → (tells : Type 0) → (old new : Moment) → Status → Type 0
 Ends signs o command input tells old new statuses.Done =
-    (text : List ℕ) × Writes signs (outcome o command input) text × (tells → new.written ≡ old.written ++ text)
+    (text : List ℕ) × WritesMade signs (outcome o command input) text × (tells → new.written ≡ old.written ++ text)
 Ends signs o command input tells old new statuses.WriteFault =
-    (text : List ℕ) × Writes signs (outcome o command input) text × (tells → WritesPrefix text old.written new.written)
+    (text : List ℕ) × WritesMade signs (outcome o command input) text × (tells → WritesPrefix text old.written new.written)
     × Rose old.sink_faults new.sink_faults
 Ends signs o command input tells old new status =
     Stops signs o command input (Rose old.source_faults new.source_faults) (Rose old.suite_faults new.suite_faults)
@@ -148,7 +142,7 @@ Ends signs o command input tells old new status =
 -- ---- what it leaves
 
 -- the suite and the signer; a fault of no more than one of them was counted
-pub record Devices {S G : Type 0} (meanings : S → Meanings) (suite_faults : S → ℕ) (signs : G → Relation)
+pub record Devices {S G : Type 0} (meanings : S → Meanings) (suite_faults : S → ℕ) (signs : G → SignRelation)
     (signer_faults : G → ℕ) (failed unasked unsigned : Type 0) (old new : S) (before after : G) : Type 0 where
   pub suite : LeavesDevice (meanings new ≡ meanings old) suite_faults failed unasked old new
   pub signer : LeavesDevice ((k : PublicKey) (a : SignatureAlgorithm) (m s : List ℕ) → signs after k a m s ↔ signs before k a m s)

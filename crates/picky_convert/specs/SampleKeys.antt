@@ -11,7 +11,7 @@ use Rattle.picky_sshkey_blob.specs.declared.key.SshBasePrivateKey.{SshBasePrivat
 use Rattle.picky_sshkey_blob.specs.declared.key.SshBasePrivateKey.TheVariants as keys
 use Rattle.picky_key_text.specs.declared.meaning.Meaning.{Meaning}
 use Rattle.picky_key_text.specs.Key.{private_meaning}
-use Rattle.picky_convert.specs.Generator.{after, drawn}
+use Rattle.picky_convert.specs.Generator.{state_after, generated}
 
 -- the kind of the key with a number
 abbrev pub kind_at : ℕ → KeyKind
@@ -26,16 +26,16 @@ kind_at i =
 
 -- ---- fields, from the state that a key is drawn from: so many bytes, behind so many others
 
-abbrev pub field : ℕ → (behind len : ℕ) → List ℕ
-field s behind len = drawn len (after behind s)
+abbrev pub sample_field : ℕ → (behind len : ℕ) → List ℕ
+sample_field s behind len = generated len (state_after behind s)
 
 -- an mpint, without its leading zeros
-abbrev pub number : ℕ → (behind len : ℕ) → List ℕ
-number s behind len = without_zeros (field s behind len)
+abbrev pub sample_number : ℕ → (behind len : ℕ) → List ℕ
+sample_number s behind len = without_zeros (sample_field s behind len)
 
 -- a point that isn't compressed: 04 and its two numbers
 abbrev pub point : ℕ → (len : ℕ) → List ℕ
-point s len = 4 ∷ field s 0 len
+point s len = 4 ∷ sample_field s 0 len
 
 -- ---- keys
 
@@ -61,19 +61,19 @@ application = codes "ssh:"
 -- but for Ed25519
 unfoldable pub drawn_key : KeyKind → ℕ → SshBasePrivateKey
 drawn_key kinds.Rsa s =
-    let n = number s 0 256 in
-    let d = number s 256 256 in
-    let iqmp = number s 512 128 in
-    let p = number s 640 128 in
-    let q = number s 768 128 in
+    let n = sample_number s 0 256 in
+    let d = sample_number s 256 256 in
+    let iqmp = sample_number s 512 128 in
+    let p = sample_number s 640 128 in
+    let q = sample_number s 768 128 in
     keys.Rsa n exponent d iqmp p q
-drawn_key (kinds.Ec curve) s = keys.Ec curve (point s (numbers_len curve)) (number s (numbers_len curve) (secret_len curve))
+drawn_key (kinds.Ec curve) s = keys.Ec curve (point s (numbers_len curve)) (sample_number s (numbers_len curve) (secret_len curve))
 drawn_key (kinds.Ed algorithm) s =
-    let secret = field s 0 32 in
-    let public = field s 32 32 in
+    let secret = sample_field s 0 32 in
+    let public = sample_field s 32 32 in
     keys.Ed secret public
-drawn_key kinds.SkEcdsaSha2NistP256 s = keys.SkEcdsaSha2NistP256 (point s 64) application 1 (field s 64 64)
-drawn_key kinds.SkEd25519 s = keys.SkEd25519 (field s 0 32) application 1 (field s 32 64)
+drawn_key kinds.SkEcdsaSha2NistP256 s = keys.SkEcdsaSha2NistP256 (point s 64) application 1 (sample_field s 64 64)
+drawn_key kinds.SkEd25519 s = keys.SkEd25519 (sample_field s 0 32) application 1 (sample_field s 32 64)
 
 -- key number i is drawn from the state i + 1
 abbrev pub key_at : ℕ → SshBasePrivateKey

@@ -12,8 +12,8 @@ use Rattle.picky_target.specs.Texts.{text_for}
 use Rattle.picky_convert.specs.SampleKeys.{kind_at, meaning_at}
 
 -- there is no passphrase, and so no fresh bytes are taken
-abbrev pub unsealed : Output
-unsealed = record { pass = None; fresh = [] }
+abbrev pub unsealed_output : Output
+unsealed_output = record { pass = None; fresh = [] }
 
 -- PuTTY's file in version 3 and in version 2
 abbrev pub ppk3 : KeyTarget
@@ -32,19 +32,19 @@ six_targets = targets.OpenSsh ∷ five_targets
 abbrev pub two_targets : List KeyTarget
 two_targets = targets.OpenSsh ∷ targets.OpenSshPublic ∷ []
 
-abbrev pub is_on_device : KeyKind → Bool
-is_on_device kinds.Rsa = false
-is_on_device (kinds.Ec curve) = false
-is_on_device (kinds.Ed algorithm) = false
-is_on_device kinds.SkEcdsaSha2NistP256 = true
-is_on_device kinds.SkEd25519 = true
+abbrev pub is_security_key_kind : KeyKind → Bool
+is_security_key_kind kinds.Rsa = false
+is_security_key_kind (kinds.Ec curve) = false
+is_security_key_kind (kinds.Ed algorithm) = false
+is_security_key_kind kinds.SkEcdsaSha2NistP256 = true
+is_security_key_kind kinds.SkEd25519 = true
 
 abbrev pub targets_of : KeyKind → List KeyTarget
-targets_of kind = if is_on_device kind then two_targets else six_targets
+targets_of kind = if is_security_key_kind kind then two_targets else six_targets
 
 -- the text of the key with a number
 unfoldable pub text_at : Meanings → ℕ → KeyTarget → List ℕ
-text_at m i target = text_for m unsealed target (meaning_at i)
+text_at m i target = text_for m unsealed_output target (meaning_at i)
 
 -- its texts, in their order
 unfoldable pub texts_at : Meanings → ℕ → List (List ℕ)

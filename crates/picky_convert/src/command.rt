@@ -5,10 +5,10 @@ ghost use Rattle.std.specs.Option.{option_copied};
 ghost use Rattle.picky_wire.specs.Count.{Rose};
 ghost use Rattle.picky_ppk_parts.specs.Config.{default_config};
 ghost use Rattle.picky_key_text.specs.Order.{asks};
-ghost use Rattle.picky_conversion.specs.Certify.{IsReadFault};
+ghost use Rattle.picky_conversion.specs.Certify.{IsInputFault};
 ghost use Rattle.picky_convert.specs.Command.{IsFaultFor, answer, answering_asks, command_of as command_named, command_of_word, fingerprints, reads_source as reads_source_of, sample_size as sample_size_of, with_size};
 ghost use Rattle.picky_conversion.specs.Convert.{LeavesAskedSuite};
-ghost use Rattle.picky_conversion.specs.Made.{Answers, AnswersPlain, LeavesSigner, is_signed};
+ghost use Rattle.picky_conversion.specs.Made.{AnswersMade, AnswersPlain, LeavesAskedSigner, is_signed};
 ghost use Rattle.picky_convert.specs.Run.{input_limit, outcome_asks, outcome_signs, Devices};
 ghost use Rattle.picky_conversion.specs.Outside.{outside};
 ghost use Rattle.picky_convert.specs.inner.Causes.{refusal_status, Comes};
@@ -235,12 +235,12 @@ fn answer_to<S: Suite, G: Signer>(
     signer: &mut G,
     text: &str,
 ) -> Result<String, ConvertError>
-    ensures gives { Answers (G.signs signer.old) string_bytes (answer (outside (S.meanings suite.old) given.entry) command text.now)
+    ensures gives { AnswersMade (G.signs signer.old) string_bytes (answer (outside (S.meanings suite.old) given.entry) command text.now)
         (λ e. IsFaultFor (outside (S.meanings suite.old) given.entry) command text.now e (Rose (S.faults suite.old) (S.faults suite.new)))
         (Rose (G.faults signer.old) (G.faults signer.new)) result }
     ensures suite { LeavesAskedSuite S.meanings S.faults
         (answering_asks (outside (S.meanings suite.old) given.entry) command text.now) result suite.old suite.new }
-    ensures signer { LeavesSigner G.signs G.faults
+    ensures signer { LeavesAskedSigner G.signs G.faults
         (is_signed (answer (outside (S.meanings suite.old) given.entry) command text.now)) result signer.old signer.new }
 {
     match command {
@@ -278,7 +278,7 @@ fn fingerprint<S: Suite>(
     given: ConversionGiven<'_>,
 ) -> Result<String, ConvertError>
     ensures gives { AnswersPlain string_bytes (fingerprints (outside (S.meanings suite.old) given.entry) text.now)
-        (λ e. IsReadFault (outside (S.meanings suite.old) given.entry) text.now e (Rose (S.faults suite.old) (S.faults suite.new))) result }
+        (λ e. IsInputFault (outside (S.meanings suite.old) given.entry) text.now e (Rose (S.faults suite.old) (S.faults suite.new))) result }
     ensures suite { LeavesAskedSuite S.meanings S.faults (asks (option_copied given.entry.pass_in) text.now) result suite.old suite.new }
 {
     match read_text(alloc, suite, text, given.pass_in) {

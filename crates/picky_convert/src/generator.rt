@@ -1,7 +1,7 @@
 //! The generator that sample keys are drawn from.
 
 ghost use Rattle.std.specs.Prelude.{◌≡◌, ◌++◌, ◌+◌, IfOk, OnOk};
-ghost use Rattle.picky_convert.specs.Generator.{after, byte_of, drawn, next};
+ghost use Rattle.picky_convert.specs.Generator.{state_after, byte_of, generated, next};
 
 use std::alloc::{AllocError, Global};
 
@@ -36,8 +36,8 @@ impl Generator {
 
     /// The next bytes, behind what there is. Refuses: want of memory.
     pub fn append(&mut self, bytes: &mut Vec<u8>, len: usize) -> Result<(), AllocError>
-        ensures bytes { OnOk result (bytes.new.items ≡ bytes.old.items ++ drawn len self.old.state) }
-        ensures state { OnOk result (self.new.state ≡ after len self.old.state) }
+        ensures bytes { OnOk result (bytes.new.items ≡ bytes.old.items ++ generated len self.old.state) }
+        ensures state { OnOk result (self.new.state ≡ state_after len self.old.state) }
     {
         'bytes: for at in 0..len {
             let byte = self.byte();
@@ -48,8 +48,8 @@ impl Generator {
 
     /// The next bytes. Refuses: want of memory.
     pub fn bytes(&mut self, alloc: Global, len: usize) -> Result<Vec<u8>, AllocError>
-        ensures bytes { IfOk result (λ bytes. bytes.items ≡ drawn len self.old.state) }
-        ensures state { OnOk result (self.new.state ≡ after len self.old.state) }
+        ensures bytes { IfOk result (λ bytes. bytes.items ≡ generated len self.old.state) }
+        ensures state { OnOk result (self.new.state ≡ state_after len self.old.state) }
     {
         let mut bytes = Vec::new(alloc);
         self.append(&mut bytes, len)?;
@@ -58,8 +58,8 @@ impl Generator {
 
     /// The next 32 bytes.
     pub fn array(&mut self) -> [u8; 32]
-        ensures bytes { result ≡ drawn 32 self.old.state }
-        ensures state { self.new.state ≡ after 32 self.old.state }
+        ensures bytes { result ≡ generated 32 self.old.state }
+        ensures state { self.new.state ≡ state_after 32 self.old.state }
     {
         let mut bytes = [0; 32];
         'bytes: for at in 0..32 {

@@ -2,7 +2,7 @@
 
 ghost use Rattle.std.specs.Prelude.{◌≡◌, ◌<◌, ◌≤◌, ◌-◌, ◌^◌, ◌∷◌, IfOk, OnOk, length};
 ghost use Rattle.picky_wire_base.specs.Zeros.{without_zeros};
-ghost use Rattle.picky_convert.specs.Generator.{after, drawn};
+ghost use Rattle.picky_convert.specs.Generator.{state_after, generated};
 ghost use Rattle.picky_convert.specs.SampleKeys.{application as application_of, comment_at, drawn_key, exponent as exponent_of, kind_at, meaning_at, numbers_len as numbers_len_of, secret_len as secret_len_of};
 
 use crate::generator::Generator;
@@ -176,8 +176,8 @@ fn application(alloc: Global) -> Result<Text, AllocError>
 /// The next bytes as a number.
 fn number(alloc: Global, source: &mut Generator, len: usize) -> Result<Mpint, AllocError>
     requires { len ≤ 256 }
-    ensures number { IfOk result (λ number. number ≡ without_zeros (drawn len source.old.state)) }
-    ensures state { OnOk result (source.new.state ≡ after len source.old.state) }
+    ensures number { IfOk result (λ number. number ≡ without_zeros (generated len source.old.state)) }
+    ensures state { OnOk result (source.new.state ≡ state_after len source.old.state) }
 {
     let bytes = source.bytes(alloc, len)?;
     Ok(without_zeros(bytes))
@@ -186,8 +186,8 @@ fn number(alloc: Global, source: &mut Generator, len: usize) -> Result<Mpint, Al
 /// The next bytes.
 fn string(alloc: Global, source: &mut Generator, len: usize) -> Result<Bytes, AllocError>
     requires { len ≤ 256 }
-    ensures bytes { IfOk result (λ bytes. bytes ≡ drawn len source.old.state) }
-    ensures state { OnOk result (source.new.state ≡ after len source.old.state) }
+    ensures bytes { IfOk result (λ bytes. bytes ≡ generated len source.old.state) }
+    ensures state { OnOk result (source.new.state ≡ state_after len source.old.state) }
 {
     let bytes = source.bytes(alloc, len)?;
     Ok(Bytes::from_vec(bytes))
@@ -196,8 +196,8 @@ fn string(alloc: Global, source: &mut Generator, len: usize) -> Result<Bytes, Al
 /// The next bytes as a point's two numbers.
 fn point(alloc: Global, source: &mut Generator, len: usize) -> Result<Bytes, AllocError>
     requires { len ≤ 256 }
-    ensures point { IfOk result (λ point. point ≡ 4 ∷ drawn len source.old.state) }
-    ensures state { OnOk result (source.new.state ≡ after len source.old.state) }
+    ensures point { IfOk result (λ point. point ≡ 4 ∷ generated len source.old.state) }
+    ensures state { OnOk result (source.new.state ≡ state_after len source.old.state) }
 {
     let mut bytes = Vec::from_slice(alloc, &[4])?;
     source.append(&mut bytes, len)?;

@@ -6,12 +6,12 @@ ghost use Rattle.picky_wire_base.specs.Equality.{IsEquality};
 ghost use Rattle.picky_issuing.specs.declared.options.CertOptions.{CertOptions as Options};
 ghost use Rattle.picky_target.specs.declared.error.ConvertError.{ConvertError};
 ghost use Rattle.picky_conversion.specs.Chain.{IsGiven};
-ghost use Rattle.picky_conversion.specs.Made.{Made, Whole, Writes};
+ghost use Rattle.picky_conversion.specs.Made.{Made, Whole, WritesMade};
 ghost use Rattle.picky_conversion.specs.Outside.{Outside};
 ghost use Rattle.picky_conversion.specs.Want.{IsFault, IsSignerFault, WantsMemory};
 ghost use Rattle.picky_convert.specs.declared.command.Command.{Command as Named};
 ghost use Rattle.picky_convert.specs.Command.{reads_source, IsAnswer, Names};
-ghost use Rattle.picky_convert.specs.Run.{input_for, input_limit, outcome, outcome_asks, outcome_signs, IsValid, Refuses};
+ghost use Rattle.picky_convert.specs.Run.{input_for, input_limit, outcome, outcome_asks, outcome_signs, IsValid, RefusesInput};
 
 use crate::error::Status;
 use picky_suite::Signer;
@@ -35,7 +35,7 @@ pub fn outcome_is_the_answer_to_its_input()
 /// The text that is written of a command's outcome is its answer: what the formats say of the bytes and the text.
 pub fn written_text_is_the_answer<G: Signer>()
     ensures { (device : G) (o : Outside) (words : List (List ℕ)) (c : Named) (input text : List ℕ) → IsGiven o → Names words c
-        → Writes (G.signs device) (outcome o c input) text → IsAnswer (G.signs device) o c input text }
+        → WritesMade (G.signs device) (outcome o c input) text → IsAnswer (G.signs device) o c input text }
 {}
 
 /// Bytes are too many, or no text, only where those that the source has left are.
@@ -48,7 +48,7 @@ pub fn bytes_are_refused_for_what_they_are()
 
 /// A refusal says at no depth that memory ran out, or that the suite or the signer failed.
 pub fn refusals_tell_of_no_device<G: Signer>()
-    ensures { (device : G) (o : Outside) (c : Named) (input : List ℕ) (e : ConvertError) → Refuses (G.signs device) (outcome o c input) e
+    ensures { (device : G) (o : Outside) (c : Named) (input : List ℕ) (e : ConvertError) → RefusesInput (G.signs device) (outcome o c input) e
         → (WantsMemory e → ⊥) × (IsFault e → ⊥) × (IsSignerFault e → ⊥) }
 {}
 

@@ -1,4 +1,6 @@
 //! The run of the program, over the conversion of key texts.
+//!
+//! Read first: `specs/Run.antt`; then `run` in `src/program.rt`.
 #![tactic(auto)]
 
 mod command;

@@ -4,9 +4,9 @@ ghost use Rattle.std.specs.Prelude.{◌^◌, ◌<◌, ℕ};
 ghost use Rattle.picky_suite.specs.Meanings.{Meanings};
 ghost use Rattle.picky_convert.specs.SampleChain.{AreConverted};
 ghost use Rattle.picky_convert.specs.SampleKeys.{kind_at};
-ghost use Rattle.picky_convert.specs.SampleTexts.{is_on_device, texts_at};
+ghost use Rattle.picky_convert.specs.SampleTexts.{is_security_key_kind, texts_at};
 
 /// The texts of a sample key are its envelope, and behind it what conversions make, each of a text before it.
 pub fn sample_texts_are_conversions()
-    ensures { (m : Meanings) (i : ℕ) → i < 2 ^ 16 → AreConverted m i (is_on_device (kind_at i)) (texts_at m i) }
+    ensures { (m : Meanings) (i : ℕ) → i < 2 ^ 16 → AreConverted m i (is_security_key_kind (kind_at i)) (texts_at m i) }
 {}

@@ -6,7 +6,7 @@ ghost use Rattle.picky_target.specs.declared.target.KeyTarget.{KeyTarget as To};
 ghost use Rattle.picky_conversion.specs.Convert.{conversion};
 ghost use Rattle.picky_convert.specs.SampleChain.{without_passphrase};
 ghost use Rattle.picky_convert.specs.SampleKeys.{kind_at};
-ghost use Rattle.picky_convert.specs.SampleTexts.{five_targets, is_on_device as is_on_device_of, text_at, texts_at};
+ghost use Rattle.picky_convert.specs.SampleTexts.{five_targets, is_security_key_kind as is_security_key_kind_of, text_at, texts_at};
 ghost use Rattle.picky_convert.specs.inner.Fed.{Feeds};
 
 use crate::command::file_of;
@@ -33,7 +33,7 @@ pub fn feed_texts<S: Suite>(
     ensures suite { suite.new ≡ suite.old }
 {
     let envelope = first(alloc, suite, hasher, number)?;
-    if is_on_device(kind_of(number)) {
+    if is_security_key_kind(kind_of(number)) {
         let _line = next(
             alloc,
             suite,
@@ -57,7 +57,7 @@ fn feed_five<S: Suite>(
     envelope: &Text,
 ) -> Result<(), NoMemory>
     requires envelope { envelope.now ≡ text_at (S.meanings suite.old) number To.OpenSsh }
-    requires plain { is_on_device_of (kind_at number) ≡ false }
+    requires plain { is_security_key_kind_of (kind_at number) ≡ false }
     ensures fed { OnOk result (Feeds hasher.old hasher.new (concat (map (text_at (S.meanings suite.old) number) five_targets))) }
     ensures suite { suite.new ≡ suite.old }
 {
@@ -197,8 +197,8 @@ fn want_of(e: ConvertError) -> NoMemory
 }
 
 /// A device keeps the secret of keys of this kind.
-fn is_on_device(kind: KeyKind) -> bool
-    ensures { result ≡ is_on_device_of kind }
+fn is_security_key_kind(kind: KeyKind) -> bool
+    ensures { result ≡ is_security_key_kind_of kind }
 {
     match kind {
         KeyKind::Rsa | KeyKind::Ec(_) | KeyKind::Ed(_) => false,

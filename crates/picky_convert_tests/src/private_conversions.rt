@@ -338,7 +338,7 @@ fn has_no_file(alloc: Global, key: &PrivateRow) -> Result<bool, Fail> {
 #[test]
 fn has_no_file_for_a_key_of_a_device(rt: HostRuntime) -> Result<(), Fail> {
     for key in &PRIVATE_ROWS {
-        if key.is_on_device {
+        if key.is_security_key_kind {
             assert!(rt; has_no_file(rt.alloc(), key)?, "{}", key.name);
         }
     }

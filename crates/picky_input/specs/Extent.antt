@@ -1,5 +1,5 @@
 -- How far a run has read its source when it ends, and what it leaves of that, of its sink and of a device that it may ask.
-use Rattle.std.specs.Prelude.{◌≡◌, ◌≢◌, ◌<◌, ◌+◌, ◌⊎◌, ℕ, List, [], Bool, false, length, drop}
+use Rattle.std.specs.Prelude.{◌≡◌, ◌≢◌, ◌<◌, ◌+◌, ◌++◌, ◌⊎◌, ℕ, List, [], Bool, false, length, drop, take}
 use Rattle.picky_input.specs.Input.{input_limit, TakesInput}
 
 -- not at all; up to a fault; to the byte past the limit; to the end; or up to where memory ran out
@@ -32,6 +32,10 @@ pub record WritesLast {O : Type 0} (tells : O → Type 0) (faults : O → ℕ) (
   pub told : tells old → tells new
   pub calm : (failed → ⊥) → faults new ≡ faults old
   pub unwritten : silent → new ≡ old
+
+-- a prefix of the text was written after those bytes, and not the whole
+abbrev pub WritesPrefix : (text before after : List ℕ) → Type 0
+WritesPrefix text before after = (n : ℕ) × (after ≡ before ++ take n text) × (n < length text)
 
 -- of a device: its calls mean what they meant; so it is with its faults; and one that isn't asked is as it was
 pub record LeavesDevice {D : Type 0} (stays : Type 0) (faults : D → ℕ) (failed spared : Type 0) (old new : D) : Type 0 where

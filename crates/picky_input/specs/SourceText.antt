@@ -9,8 +9,8 @@ use Rattle.picky_input.specs.declared.source_text.SourceError.{SourceError}
 use Rattle.picky_input.specs.declared.source_text.SourceError.TheVariants as errors
 
 -- the text of these bytes, or why they are none
-unfoldable pub text_of : List ℕ → Result (List ℕ) SourceError
-text_of bytes =
+unfoldable pub source_text_of : List ℕ → Result (List ℕ) SourceError
+source_text_of bytes =
     if nat_lt input_limit (length bytes) then Err errors.InputTooLong
     else if is_utf8 bytes then Ok bytes
     else Err errors.InputNotUtf8
@@ -21,12 +21,12 @@ pub record IsSourceText (bytes : List ℕ) : Type 0 where
   pub utf8 : IsUtf8 bytes
 
 -- the answer is what the bytes come to, unless the source failed or memory ran out
-abbrev pub Reads : Result (List ℕ) SourceError → (before : List ℕ) → Type 0
-Reads (Ok text) before = text_of before ≡ Ok text
-Reads (Err errors.InputTooLong) before = text_of before ≡ Err errors.InputTooLong
-Reads (Err errors.InputNotUtf8) before = text_of before ≡ Err errors.InputNotUtf8
-Reads (Err errors.ReadFault) before = Unit {0}
-Reads (Err errors.NoMemory) before = Unit {0}
+abbrev pub ReadsSourceText : Result (List ℕ) SourceError → (before : List ℕ) → Type 0
+ReadsSourceText (Ok text) before = source_text_of before ≡ Ok text
+ReadsSourceText (Err errors.InputTooLong) before = source_text_of before ≡ Err errors.InputTooLong
+ReadsSourceText (Err errors.InputNotUtf8) before = source_text_of before ≡ Err errors.InputNotUtf8
+ReadsSourceText (Err errors.ReadFault) before = Unit {0}
+ReadsSourceText (Err errors.NoMemory) before = Unit {0}
 
 -- nothing is left, but where there was too much, what follows the one byte past the limit; a source fails before that byte
 abbrev pub Leaves : Result (List ℕ) SourceError → (before after : List ℕ) → Type 0
@@ -39,11 +39,11 @@ Leaves (Err errors.NoMemory) before after = Unit {0}
 -- what a call promises that reads a source to its end as a text
 pub record TakesText {S : Type 0} (tells : S → Type 0) (left : S → List ℕ) (known : S → Option ℕ) (faults : S → ℕ)
     (result : Result (List ℕ) SourceError) (old new : S) : Type 0 where
-  pub reads : tells old → Reads result (left old)
+  pub reads : tells old → ReadsSourceText result (left old)
   pub leaves : tells old → Leaves result (left old) (left new)
   pub taken : tells old → TakesInput (left old) (left new)
   -- whether or not the source tells its bytes, the text is that of some
-  pub some : IfOk result (λ text. text_of text ≡ Ok text)
+  pub some : IfOk result (λ text. source_text_of text ≡ Ok text)
   pub short : IfOk result (λ text. length text ≤ input_limit)
   pub told : tells old → tells new
   pub knows : IsSome (known old) → IsSome (known new)

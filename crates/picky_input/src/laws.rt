@@ -3,7 +3,7 @@
 ghost use Rattle.std.specs.Prelude.{◌≡◌, ◌↔◌, ◌<◌, ◌≤◌, List, ℕ, Ok, Err, length};
 ghost use Rattle.std.specs.Str.{IsUtf8};
 ghost use Rattle.picky_input.specs.Input.{input_limit};
-ghost use Rattle.picky_input.specs.SourceText.{IsSourceText, text_of};
+ghost use Rattle.picky_input.specs.SourceText.{IsSourceText, source_text_of};
 ghost use Rattle.picky_wire_base.specs.Equality.{IsEquality};
 
 use crate::input::InputError;
@@ -11,13 +11,13 @@ use crate::source_text::SourceError;
 
 /// Bytes have a text exactly where they are few enough and UTF-8, and that text is the bytes.
 pub fn text_is_its_bytes()
-    ensures { (bytes text : List ℕ) → (text_of bytes ≡ Ok text) ↔ (IsSourceText bytes × (text ≡ bytes)) }
+    ensures { (bytes text : List ℕ) → (source_text_of bytes ≡ Ok text) ↔ (IsSourceText bytes × (text ≡ bytes)) }
 {}
 
 /// They are refused exactly where they are too many, or where they are few enough and not UTF-8.
 pub fn texts_are_refused_exactly()
-    ensures too_long { (bytes : List ℕ) → (text_of bytes ≡ Err SourceError.InputTooLong) ↔ (input_limit < length bytes) }
-    ensures not_utf8 { (bytes : List ℕ) → (text_of bytes ≡ Err SourceError.InputNotUtf8)
+    ensures too_long { (bytes : List ℕ) → (source_text_of bytes ≡ Err SourceError.InputTooLong) ↔ (input_limit < length bytes) }
+    ensures not_utf8 { (bytes : List ℕ) → (source_text_of bytes ≡ Err SourceError.InputNotUtf8)
         ↔ ((length bytes ≤ input_limit) × (IsUtf8 bytes → ⊥)) }
 {}
 

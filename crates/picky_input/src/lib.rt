@@ -1,4 +1,6 @@
 //! A source that is read to its end, of at most 16,777,216 bytes, and its text.
+//!
+//! Read first: `specs/Input.antt` and `specs/Extent.antt`; then `src/input.rt`.
 #![tactic(auto)]
 
 mod input;

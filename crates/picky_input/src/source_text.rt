@@ -26,7 +26,7 @@ pub enum SourceError {
 /// The text of all bytes that the source has left. Of those past the limit at most one is taken.
 ///
 /// Refuses, in order: `ReadFault`, `InputTooLong`, `InputNotUtf8`.
-#[tactic(auto, unfolding(crate::specs::SourceText::text_of))]
+#[tactic(auto, unfolding(crate::specs::SourceText::source_text_of))]
 pub fn take_text<S: Source>(alloc: Global, source: &mut S) -> Result<Text, SourceError>
     ensures takes { TakesText S.tells S.left S.known S.faults result source.old source.new }
 {

@@ -4,7 +4,7 @@ use Rattle.std.proofs.Common.{Result, Ok, Err, refl, sym, ◌∙◌, ap, inl, in
 use Rattle.std.specs.Str.{IsUtf8}
 use Rattle.picky_wire_base.specs.Outcome.{and_then, map_err}
 use Rattle.picky_input.specs.Input.{input_limit}
-use Rattle.picky_input.specs.SourceText.{IsSourceText, text_of}
+use Rattle.picky_input.specs.SourceText.{IsSourceText, source_text_of}
 use Rattle.picky_input.specs.declared.source_text.SourceError.{SourceError}
 use Rattle.picky_input.specs.declared.source_text.SourceError.TheVariants as source
 use Rattle.picky_input.proofs.TextLaws.{is_source_text, no_text_exactly, source_text_is, text_err, too_long_exactly}
@@ -33,9 +33,9 @@ data InputCause (r : Reader) (command : Command) (input : List ℕ) (status : In
 outcome_cause : (r : Reader) (command : Command) (input : List ℕ) (status : InventoryStatus)
     → outcome r command input ≡ Err status → InputCause r command input status
 unfolding outcome
-outcome_cause r command input status = go (text_of input) refl
+outcome_cause r command input status = go (source_text_of input) refl
   where
-    go : (text : Result (List ℕ) SourceError) → text_of input ≡ text
+    go : (text : Result (List ℕ) SourceError) → source_text_of input ≡ text
         → and_then (map_err source_status text) (answer r command) ≡ Err status → InputCause r command input status
     go (Ok text) says is =
         let known = is_source_text input text says in

@@ -13,7 +13,7 @@ use Rattle.picky_keys.proofs.LineLaws.{blob_is_bytes}
 use Rattle.picky_sshkey.proofs.PublicLaws.{same_blob}
 use Rattle.picky_inventory.specs.InOrder.{SameItems}
 use Rattle.picky_inventory.specs.Items.{Kind, IsPrivate, IsPublic, kind_word, Item, IsItem, item_line}
-use Rattle.picky_inventory.specs.OrderedText.{IsWholeLine, Tells, ordered_text}
+use Rattle.picky_inventory.specs.OrderedText.{IsWholeLine, LinesTellApart, ordered_text}
 use Rattle.picky_inventory.proofs.OrderLaws.{all_has}
 use Rattle.picky_inventory.proofs.TextLaws.{tells_each, text_is_of_its_set}
 
@@ -103,7 +103,7 @@ one_item a b is_a is_b is =
     λ i. record { kind = kind i; key = key i; comment = comment i }
 
 -- so items are told apart by their lines
-pub items_are_told : (items : List Item) → AllByRecursion IsItem items → Tells item_line items
+pub items_are_told : (items : List Item) → AllByRecursion IsItem items → LinesTellApart item_line items
 items_are_told items all =
     tells_each item_line IsItem item_is_line one_item items (λ x has. all_has IsItem items x all has)
 

@@ -5,7 +5,7 @@ use Rattle.std.proofs.lemmas.Bool.{false_from_ne_true}
 use Rattle.std.proofs.lemmas.List.{append_assoc, append-nil, length-append, map-append}
 use Rattle.std.specs.Str.Lines.{strip_carriage_return}
 use Rattle.picky_text.specs.Lines.{HasNo}
-use Rattle.picky_issuing.specs.Parts.{mark_word, is_mark, after_line, cut, issuer_of, key_text_of_cut, issuer_part, key_part}
+use Rattle.picky_issuing.specs.Parts.{mark_word, is_mark, after_line, cut, issuer_text_of, key_text_of_cut, issuer_text_part, key_part}
 use Rattle.picky_issuing.specs.Parts.{IsCut, HasNoMark}
 use Rattle.picky_issuing.proofs.PartsLemmas.{by_lines, lines_at_lf, one_line_left, is_or_not, stripped_is_mark}
 use Rattle.picky_issuing.proofs.PartsLemmas.{marked_line, marked_end, cut_at_mark, cut_at_end, cut_goes_on, cut_ends}
@@ -66,7 +66,7 @@ parts_by_cut = by_lines (λ text. AreParts text (cut text))
 -- ---- by the two parts of picky_issuing
 
 by_found : (text part key : List ℕ) (found : Option (List ℕ × List ℕ)) → AreParts text found
-    → Some part ≡ issuer_of found → key ≡ key_text_of_cut text found
+    → Some part ≡ issuer_text_of found → key ≡ key_text_of_cut text found
     → (text_parts text ≡ part ∷ text_parts key) × (length key < length text)
 by_found text part key None are is rest = cc is
 by_found text part key (Some found) are is rest =
@@ -76,17 +76,17 @@ by_found text part key (Some found) are is rest =
     )
 
 -- a text that is cut has its first part and those of what follows, which is shorter
-pub parts_at : (text part key : List ℕ) → Some part ≡ issuer_part text → key ≡ key_part text
+pub parts_at : (text part key : List ℕ) → Some part ≡ issuer_text_part text → key ≡ key_part text
     → (text_parts text ≡ part ∷ text_parts key) × (length key < length text)
 parts_at text part key = by_found text part key (cut text) (parts_by_cut text)
 
-by_none : (text : List ℕ) (found : Option (List ℕ × List ℕ)) → AreParts text found → None ≡ issuer_of found
+by_none : (text : List ℕ) (found : Option (List ℕ × List ℕ)) → AreParts text found → None ≡ issuer_text_of found
     → text_parts text ≡ text ∷ []
 by_none text None are is = are
 by_none text (Some found) are is = cc is
 
 -- one that isn't is its only part
-pub part_alone : (text : List ℕ) → None ≡ issuer_part text → text_parts text ≡ text ∷ []
+pub part_alone : (text : List ℕ) → None ≡ issuer_text_part text → text_parts text ≡ text ∷ []
 part_alone text = by_none text (cut text) (parts_by_cut text)
 
 -- ---- the parts found so far, and those of what is left

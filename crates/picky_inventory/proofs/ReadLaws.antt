@@ -7,7 +7,7 @@ use Rattle.std.specs.Option.{IfSome}
 use Rattle.picky_wire_base.specs.Outcome.{and_then, map_err, map_ok}
 use Rattle.picky_keys.specs.Key.{IsKey}
 use Rattle.picky_sshkey_blob.proofs.KeyLaws.{public_part_is_key}
-use Rattle.picky_issuing.specs.Parts.{cut, issuer_of, key_text_of_cut}
+use Rattle.picky_issuing.specs.Parts.{cut, issuer_text_of, key_text_of_cut}
 use Rattle.picky_issuing.proofs.PartsText.{parts_are_text}
 use Rattle.picky_key_text.specs.Kept.{IsKeptMeaning, IsKeptKey}
 use Rattle.picky_key_text.specs.Key.{public_part}
@@ -25,7 +25,7 @@ use Rattle.picky_inventory.proofs.PartsLaws.{AreParts, parts_by_cut}
 -- ---- the parts of a text are texts
 
 texts_by_cut : (text : List ℕ) (found : Option (List ℕ × List ℕ)) → AreParts text found
-    → IfSome (issuer_of found) IsUtf8 × IsUtf8 (key_text_of_cut text found)
+    → IfSome (issuer_text_of found) IsUtf8 × IsUtf8 (key_text_of_cut text found)
     → ((more : List ℕ) → length more < length text → IsUtf8 more → AllByRecursion IsUtf8 (text_parts more))
     → AllByRecursion IsUtf8 (text_parts text)
 texts_by_cut text None are both each = subst (AllByRecursion IsUtf8) (sym are) (both.1, tt)

@@ -5,7 +5,7 @@ use Rattle.std.proofs.lemmas.Bool.{cases_Bool}
 use Rattle.picky_wire_base.specs.Outcome.{and_then, map_err, map_ok}
 use Rattle.picky_sshkey_blob.specs.declared.error.SshPrivateKeyError.TheVariants as private
 use Rattle.picky_ppk_parts.specs.declared.error.PuttyError.TheVariants as putty
-use Rattle.picky_input.specs.{Extent.{ToEnd, Anywhere}, SourceText.{Reads, text_of}}
+use Rattle.picky_input.specs.{Extent.{ToEnd, Anywhere}, SourceText.{ReadsSourceText, source_text_of}}
 use Rattle.picky_input.specs.declared.source_text.SourceError.{SourceError}
 use Rattle.picky_input.specs.declared.source_text.SourceError.TheVariants as source
 use Rattle.picky_input.proofs.TextLaws.{is_source_text}
@@ -22,7 +22,7 @@ use Rattle.picky_inventory.specs.{Listing.{FaultAt, NoneAsks, inventory}, Ordere
 use Rattle.picky_inventory.specs.{Parted.{text_parts}, Merging.{left_part, right_part, unless_bad}}
 use Rattle.picky_inventory.specs.Run.{IsFaultOf, SparesSuite, answer, extent_of, outcome, part_refusal, source_status}
 use Rattle.picky_inventory.specs.Run.{unmerged_status}
-use Rattle.picky_inventory.specs.inner.Comes.{Comes, Gives, extent_for, unread_status}
+use Rattle.picky_inventory.specs.inner.Comes.{Comes, AnswersText, extent_for, unread_status}
 use Rattle.picky_inventory.specs.declared.command.Command.TheVariants as commands
 use Rattle.picky_inventory.specs.declared.status.InventoryStatus.TheVariants as statuses
 use Rattle.picky_inventory.proofs.ListingLaws.{none_asks}
@@ -133,18 +133,18 @@ answer_cause r commands.Merging text status is = bad_cause r text status (bad_li
 
 -- ---- the bytes of a source
 
-pub outcome_of : (r : Reader) (command : Command) (input text : List ℕ) → text_of input ≡ Ok text
+pub outcome_of : (r : Reader) (command : Command) (input text : List ℕ) → source_text_of input ≡ Ok text
     → outcome r command input ≡ answer r command text
 unfolding outcome
 outcome_of r command input text is = ap (λ t. and_then (map_err source_status t) (answer r command)) is
 
-pub outcome_without : (r : Reader) (command : Command) (input : List ℕ) (e : SourceError) → text_of input ≡ Err e
+pub outcome_without : (r : Reader) (command : Command) (input : List ℕ) (e : SourceError) → source_text_of input ≡ Err e
     → outcome r command input ≡ Err (source_status e)
 unfolding outcome
 outcome_without r command input e is = ap (λ t. and_then (map_err source_status t) (answer r command)) is
 
 pub text_comes : (r : Reader) (command : Command) (input text : List ℕ) (read_rose rose : Type 0)
-    (result : Result (List ℕ) InventoryStatus) → text_of input ≡ Ok text → Gives r command text rose result
+    (result : Result (List ℕ) InventoryStatus) → source_text_of input ≡ Ok text → AnswersText r command text rose result
     → Comes r command input read_rose rose result
 text_comes r command input text read_rose rose (Ok written) is gives = outcome_of r command input text is ∙ gives
 text_comes r command input text read_rose rose (Err status) is (inl want) = inl want
@@ -158,7 +158,7 @@ text_comes r command input text read_rose rose (Err status) is (inr (inr failed)
     inr (inr (inr (outcome_of r command input text is ∙ failed)))
 
 pub source_comes : (r : Reader) (command : Command) (input : List ℕ) (read_rose rose : Type 0) (e : SourceError)
-    (status : InventoryStatus) → status ≡ source_status e → Reads (Err e) input → (e ≡ source.ReadFault → read_rose)
+    (status : InventoryStatus) → status ≡ source_status e → ReadsSourceText (Err e) input → (e ≡ source.ReadFault → read_rose)
     → Comes r command input read_rose rose (Err status)
 source_comes r command input read_rose rose source.ReadFault status is reads count = inr (inl (is, count refl))
 source_comes r command input read_rose rose source.NoMemory status is reads count = inl is
@@ -171,7 +171,7 @@ source_comes r command input read_rose rose source.InputNotUtf8 status is reads 
 
 -- for a text to its end, but where memory ran out
 pub text_extent : (r : Reader) (command : Command) (text : List ℕ) (rose : Type 0) (result : Result (List ℕ) InventoryStatus)
-    → Gives r command text rose result → (extent_for result ≡ ToEnd) ⊎ (extent_for result ≡ Anywhere)
+    → AnswersText r command text rose result → (extent_for result ≡ ToEnd) ⊎ (extent_for result ≡ Anywhere)
 text_extent r command text rose (Ok written) gives = inl refl
 text_extent r command text rose (Err status) (inl want) = inr (ap extent_of want)
 text_extent r command text rose (Err status) (inr (inl fault)) = inl (ap extent_of fault.0)
@@ -183,7 +183,7 @@ text_extent r command text rose (Err status) (inr (inr failed)) = inl (elim (ans
 -- ---- whether the suite is asked
 
 pub spares_text : (command : Command) (pass : Option (List ℕ)) (tells : Type 0) (input text : List ℕ)
-    → (tells → text_of input ≡ Ok text) → SparesSuite (Some command) pass tells input
+    → (tells → source_text_of input ≡ Ok text) → SparesSuite (Some command) pass tells input
     → (command ≡ commands.Merging) ⊎ NoneAsks pass (text_parts text)
 spares_text command pass tells input text reads (inl none) = absurd (none command refl)
 spares_text command pass tells input text reads (inr (inl merges)) = inl (cc merges)

@@ -13,7 +13,7 @@ use Rattle.picky_text.proofs.ListLaws.{all_append, all_front, all_back, all_weak
 use Rattle.picky_issuing.specs.Parts.{lines_with_ends}
 use Rattle.picky_issuing.proofs.PartsLemmas.{lines_at_lf, lines_joined}
 use Rattle.picky_inventory.specs.InOrder.{ordered, Has, SameItems, line_cmp}
-use Rattle.picky_inventory.specs.OrderedText.{IsWholeLine, HasWholeLines, ordered_text, Tells, merged, follows, first_bad}
+use Rattle.picky_inventory.specs.OrderedText.{IsWholeLine, HasWholeLines, ordered_text, LinesTellApart, merged, follows, first_bad}
 use Rattle.picky_inventory.specs.OrderedText.{IsFirstBad}
 use Rattle.picky_inventory.proofs.OrderLaws.{same_back, has_all, has_append, all_ordered, has_ordered, ordered_sorted}
 use Rattle.picky_inventory.proofs.OrderLaws.{ordered_is, ordered_same, same_ordered, ordered_joined, line_total, line_exact}
@@ -111,7 +111,7 @@ set_within line_of xs ys one same x has =
     subst (Has ys) (sym (one x found.0 has found.1 found.2)) found.1
 
 -- and one text is of one set
-pub set_of_text : {A : Type 0} → (line_of : A → List ℕ) (xs ys : List A) → Tells line_of (xs ++ ys)
+pub set_of_text : {A : Type 0} → (line_of : A → List ℕ) (xs ys : List A) → LinesTellApart line_of (xs ++ ys)
     → ordered_text line_of xs ≡ ordered_text line_of ys → SameItems xs ys
 set_of_text {A} line_of xs ys tells is =
     let P : A → Type 0 = λ x. IsWholeLine (line_of x) in
@@ -130,14 +130,14 @@ set_of_text {A} line_of xs ys tells is =
           (same_back (map line_of xs) (map line_of ys) same) x,
     )
 
-pub text_is_of_its_set : {A : Type 0} → (line_of : A → List ℕ) (xs ys : List A) → Tells line_of (xs ++ ys)
+pub text_is_of_its_set : {A : Type 0} → (line_of : A → List ℕ) (xs ys : List A) → LinesTellApart line_of (xs ++ ys)
     → (ordered_text line_of xs ≡ ordered_text line_of ys) ↔ SameItems xs ys
 text_is_of_its_set line_of xs ys tells = (set_of_text line_of xs ys tells, text_of_set line_of xs ys)
 
 -- items of a kind whose lines tell them apart
 pub tells_each : {A : Type 0} → (line_of : A → List ℕ) (P : A → Type 0) → ((x : A) → P x → IsWholeLine (line_of x))
     → ((x y : A) → P x → P y → line_of x ≡ line_of y → x ≡ y) → (xs : List A) → ((x : A) → Has xs x → P x)
-    → Tells line_of xs
+    → LinesTellApart line_of xs
 tells_each line_of P line one xs all = record {
   whole = has_all (λ x. IsWholeLine (line_of x)) xs (λ x has. line x (all x has));
   one = λ x y in_x in_y. one x y (all x in_x) (all y in_y);

@@ -5,9 +5,9 @@ use Rattle.std.proofs.{lemmas.Bool.{cases_Bool}, lemmas.List.{append_assoc, appe
 use Rattle.std.specs.{List.{AllByRecursion, concat}, Option.{IfSome}, Str.{IsUtf8}}
 use Rattle.picky_wire_base.specs.Outcome.{and_then, map_err, map_ok}
 use Rattle.picky_text.proofs.ListLaws.{all_weaker}
-use Rattle.picky_issuing.specs.Parts.{cut, cut_lines, after_line, is_mark, issuer_of, key_text_of_cut, lines_with_ends, mark_lf}
+use Rattle.picky_issuing.specs.Parts.{cut, cut_lines, after_line, is_mark, issuer_text_of, key_text_of_cut, lines_with_ends, mark_lf}
 use Rattle.picky_issuing.proofs.PartsLemmas.{lines_at_lf, lines_joined}
-use Rattle.picky_input.specs.{SourceText.{text_of}, declared.source_text.SourceError.{SourceError}}
+use Rattle.picky_input.specs.{SourceText.{source_text_of}, declared.source_text.SourceError.{SourceError}}
 use Rattle.picky_input.proofs.TextLaws.{is_source_text}
 use Rattle.picky_key_text.specs.{Order.{reading}, Reader.{Reader}, declared.error.ReadError.{ReadError}}
 use Rattle.picky_key_text.specs.declared.meaning.Meaning.{Meaning}
@@ -57,7 +57,7 @@ inventory_is_cut left right is =
     ∙ ap (λ l. Some (l, right)) (lines_joined left)
 
 pub left_is_cut : (left right : List ℕ) → IsInventory left → left_part (left ++ mark_lf ++ right) ≡ left
-left_is_cut left right is = ap (λ c. or_empty (issuer_of c)) (inventory_is_cut left right is)
+left_is_cut left right is = ap (λ c. or_empty (issuer_text_of c)) (inventory_is_cut left right is)
 
 pub right_is_cut : (left right : List ℕ) → IsInventory left → right_part (left ++ mark_lf ++ right) ≡ right
 right_is_cut left right is = ap (key_text_of_cut (left ++ mark_lf ++ right)) (inventory_is_cut left right is)
@@ -135,13 +135,13 @@ inventory_items r list text = go (items_from r 0 list) refl
 
 merges_to : (input text : List ℕ) (r : Reader) → outcome r commands.Merging input ≡ Ok text → merging input ≡ Ok text
 unfolding outcome
-merges_to input text r = go (text_of input) refl
+merges_to input text r = go (source_text_of input) refl
   where
     of_status : (says : Result (List ℕ) Unmerged) → map_err unmerged_status says ≡ Ok text → says ≡ Ok text
     of_status (Ok written) is = let same : written ≡ text = cc is in ap Ok same
     of_status (Err e) is = cc is
 
-    go : (found : Result (List ℕ) SourceError) → text_of input ≡ found
+    go : (found : Result (List ℕ) SourceError) → source_text_of input ≡ found
         → and_then (map_err source_status found) (answer r commands.Merging) ≡ Ok text → merging input ≡ Ok text
     go (Ok source) says is = subst (λ t. merging t ≡ Ok text) (is_source_text input source says).1 (of_status (merging source) is)
     go (Err e) says is = cc is
@@ -168,13 +168,13 @@ itself_is_written m input text written inventory left right is =
 lists_to : (m : Reader) (input text : List ℕ) → outcome m commands.Listing input ≡ Ok text
     → IsUtf8 input × (inventory m input ≡ Ok text)
 unfolding outcome
-lists_to m input text = go (text_of input) refl
+lists_to m input text = go (source_text_of input) refl
   where
     of_status : (says : Result (List ℕ) (ℕ × ReadError)) → map_err part_refusal says ≡ Ok text → says ≡ Ok text
     of_status (Ok written) is = let same : written ≡ text = cc is in ap Ok same
     of_status (Err e) is = cc is
 
-    go : (found : Result (List ℕ) SourceError) → text_of input ≡ found
+    go : (found : Result (List ℕ) SourceError) → source_text_of input ≡ found
         → and_then (map_err source_status found) (answer m commands.Listing) ≡ Ok text
         → IsUtf8 input × (inventory m input ≡ Ok text)
     go (Ok source) says is =

@@ -1,6 +1,6 @@
 -- What a source of two inventories gives: the lines of both, or the number of the first that is bad.
 use Rattle.std.specs.Prelude.{ℕ, List, [], Option, Some, None, Result, Ok, Err}
-use Rattle.picky_issuing.specs.Parts.{issuer_part, key_part}
+use Rattle.picky_issuing.specs.Parts.{issuer_text_part, key_part}
 use Rattle.picky_inventory.specs.BadLine.{bad_line}
 use Rattle.picky_inventory.specs.OrderedText.{merged}
 use Rattle.picky_inventory.specs.declared.merging.Unmerged.{Unmerged}
@@ -12,7 +12,7 @@ or_empty (Some text) = text
 
 -- what stands before the first line that is exactly `%%`; nothing where there is none
 abbrev pub left_part : (text : List ℕ) → List ℕ
-left_part text = or_empty (issuer_part text)
+left_part text = or_empty (issuer_text_part text)
 
 -- what follows that line; all of it where there is none
 abbrev pub right_part : (text : List ℕ) → List ℕ

@@ -22,7 +22,7 @@ abbrev pub ordered_text : {A : Type 0} → (line_of : A → List ℕ) (items : L
 ordered_text line_of items = concat (ordered line_cmp (map line_of items))
 
 -- each item has a line, and no two of them have one
-pub record Tells {A : Type 0} (line_of : A → List ℕ) (items : List A) : Type 0 where
+pub record LinesTellApart {A : Type 0} (line_of : A → List ℕ) (items : List A) : Type 0 where
   pub whole : AllByRecursion (λ x. IsWholeLine (line_of x)) items
   pub one : (x y : A) → Has items x → Has items y → line_of x ≡ line_of y → x ≡ y
 

@@ -1,5 +1,5 @@
 -- A run: what it writes for the bytes of its source, and how it ends.
-use Rattle.std.specs.Prelude.{◌≡◌, ◌↔◌, ◌⊎◌, ◌<◌, ◌++◌, ℕ, false, List, length, take, codes, Option, Some, Result, Ok, Err}
+use Rattle.std.specs.Prelude.{◌≡◌, ◌↔◌, ◌⊎◌, ◌++◌, ℕ, false, List, codes, Option, Some, Result, Ok, Err}
 use Rattle.std.specs.Option.{IfSome}
 use Rattle.std.specs.List.{AllByRecursion}
 use Rattle.std.specs.Str.{IsUtf8}
@@ -10,8 +10,8 @@ use Rattle.picky_wire.specs.Puts.{Puts}
 use Rattle.picky_wire.specs.declared.error.WireError.{WireError}
 use Rattle.picky_wire.specs.declared.error.WireError.TheVariants as wire
 use Rattle.picky_suite.specs.Meanings.{Meanings}
-use Rattle.picky_input.specs.Extent.{Extent, Untouched, ToFault, PastLimit, ToEnd, Anywhere}
-use Rattle.picky_input.specs.SourceText.{IsSourceText, text_of}
+use Rattle.picky_input.specs.Extent.{Extent, Untouched, ToFault, PastLimit, ToEnd, Anywhere, WritesPrefix}
+use Rattle.picky_input.specs.SourceText.{IsSourceText, source_text_of}
 use Rattle.picky_input.specs.declared.source_text.SourceError.{SourceError}
 use Rattle.picky_input.specs.declared.source_text.SourceError.TheVariants as source
 use Rattle.picky_key_text.specs.Order.{asks}
@@ -64,7 +64,7 @@ source_status source.NoMemory = statuses.NoMemory
 
 -- what the command writes for these bytes, or the status that says why it writes nothing
 unfoldable pub outcome : Reader → Command → (input : List ℕ) → Result (List ℕ) InventoryStatus
-outcome r command input = and_then (map_err source_status (text_of input)) (answer r command)
+outcome r command input = and_then (map_err source_status (source_text_of input)) (answer r command)
 
 -- the suite failed at a part that it was asked for, and all parts before that are read; it isn't asked to merge
 abbrev pub IsFaultOf : Reader → Command → (text : List ℕ) (rose : Type 0) → Type 0
@@ -115,7 +115,7 @@ Ends r command input read_rose suite_rose write_rose tells before after statuses
     (text : List ℕ) × (outcome r command input ≡ Ok text) × (tells → after ≡ before ++ text)
 Ends r command input read_rose suite_rose write_rose tells before after statuses.WriteFault =
     write_rose × (text : List ℕ) × (outcome r command input ≡ Ok text)
-    × (tells → (n : ℕ) × (after ≡ before ++ take n text) × (n < length text))
+    × (tells → WritesPrefix text before after)
 Ends r command input read_rose suite_rose write_rose tells before after statuses.Usage = ⊥
 Ends r command input read_rose suite_rose write_rose tells before after statuses.NoMemory = Unit {0}
 Ends r command input read_rose suite_rose write_rose tells before after statuses.ReadFault = read_rose
@@ -155,7 +155,7 @@ SparesSuite named pass tells input =
 
 -- for Usage the line that says which words there are was put: all of it and no fault was counted, or a prefix of it and one was;
 -- for any other status nothing was
-abbrev pub Says : {S : Type 0} → (S → Type 0) → (S → List ℕ) → (S → ℕ) → InventoryStatus → (old new : S) → Type 0
-Says tells written faults statuses.Usage old new =
+abbrev pub SaysUsage : {S : Type 0} → (S → Type 0) → (S → List ℕ) → (S → ℕ) → InventoryStatus → (old new : S) → Type 0
+SaysUsage tells written faults statuses.Usage old new =
     (r : Result (Unit {0}) WireError) × Puts tells written faults wire.WriteFault usage_line r old new
-Says tells written faults status old new = new ≡ old
+SaysUsage tells written faults status old new = new ≡ old

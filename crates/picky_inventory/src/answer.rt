@@ -10,7 +10,7 @@ ghost use Rattle.picky_inventory.specs.Listing.{NoneAsks};
 ghost use Rattle.picky_inventory.specs.Merging.{merging};
 ghost use Rattle.picky_inventory.specs.Parted.{text_parts};
 ghost use Rattle.picky_inventory.specs.Run.{reader, unmerged_status, SparesSuite};
-ghost use Rattle.picky_inventory.specs.inner.Comes.{extent_for, Comes, Gives};
+ghost use Rattle.picky_inventory.specs.inner.Comes.{extent_for, Comes, AnswersText};
 
 use crate::command::Command;
 use crate::listing::list_text;
@@ -60,7 +60,7 @@ fn answer_to<S: Suite>(
     suite: &mut S,
     text: &str,
 ) -> Result<Vec<u8>, InventoryStatus>
-    ensures gives { Gives (reader (S.meanings suite.old) pass.entry) command text.now
+    ensures gives { AnswersText (reader (S.meanings suite.old) pass.entry) command text.now
         (Rose (S.faults suite.old) (S.faults suite.new)) (map_ok (λ text. text.items) result) }
     ensures suite { LeavesDevice (S.meanings suite.new ≡ S.meanings suite.old) S.faults (result ≡ Err InventoryStatus.OutsideFault)
         ((command ≡ Command.Merging) ⊎ NoneAsks (option_copied pass.entry) (text_parts text.now)) suite.old suite.new }
@@ -78,7 +78,7 @@ fn listed<S: Suite>(
     suite: &mut S,
     text: &str,
 ) -> Result<Vec<u8>, InventoryStatus>
-    ensures gives { Gives (reader (S.meanings suite.old) pass.entry) Command.Listing text.now
+    ensures gives { AnswersText (reader (S.meanings suite.old) pass.entry) Command.Listing text.now
         (Rose (S.faults suite.old) (S.faults suite.new)) (map_ok (λ text. text.items) result) }
     ensures suite { LeavesDevice (S.meanings suite.new ≡ S.meanings suite.old) S.faults (result ≡ Err InventoryStatus.OutsideFault)
         (NoneAsks (option_copied pass.entry) (text_parts text.now)) suite.old suite.new }

@@ -17,7 +17,7 @@ ghost use Rattle.picky_inventory.specs.ItemLine.{is_item_line};
 ghost use Rattle.picky_inventory.specs.Items.{IsItem, Item, item_line, items_from};
 ghost use Rattle.picky_inventory.specs.Listing.{inventory};
 ghost use Rattle.picky_inventory.specs.Merging.{left_part, merged_or_bad, merging, right_part};
-ghost use Rattle.picky_inventory.specs.OrderedText.{IsWholeLine, HasWholeLines, IsFirstBad, Tells, first_bad, merged, ordered_text};
+ghost use Rattle.picky_inventory.specs.OrderedText.{IsWholeLine, HasWholeLines, IsFirstBad, LinesTellApart, first_bad, merged, ordered_text};
 ghost use Rattle.picky_inventory.specs.Parted.{text_parts};
 ghost use Rattle.picky_inventory.specs.Run.{outcome};
 
@@ -29,7 +29,7 @@ use picky_key_text::ReadError;
 pub fn text_is_of_its_set<T>()
     ensures one { (line_of : T → List ℕ) (xs ys : List T) → SameItems xs ys
         → ordered_text line_of xs ≡ ordered_text line_of ys }
-    ensures exactly { (line_of : T → List ℕ) (xs ys : List T) → Tells line_of (xs ++ ys)
+    ensures exactly { (line_of : T → List ℕ) (xs ys : List T) → LinesTellApart line_of (xs ++ ys)
         → (ordered_text line_of xs ≡ ordered_text line_of ys) ↔ SameItems xs ys }
 {}
 

@@ -1,4 +1,6 @@
 //! A key inventory: the set of the keys that a heap of texts has, as sorted lines.
+//!
+//! Read first: `specs/Listing.antt` and `specs/Run.antt`; then `src/run.rt`.
 #![tactic(auto)]
 
 mod answer;

@@ -12,7 +12,7 @@ ghost use Rattle.picky_inventory.specs.BadLine.{IsInventory};
 ghost use Rattle.picky_inventory.specs.Command.{command_of as command_named, Names};
 ghost use Rattle.picky_inventory.specs.Items.{Item, IsItem};
 ghost use Rattle.picky_inventory.specs.Merging.{left_part, right_part};
-ghost use Rattle.picky_inventory.specs.Run.{extent_of, outcome, reader, Ends, IsOfLists, IsOutsideFault, Says, SparesSuite};
+ghost use Rattle.picky_inventory.specs.Run.{extent_of, outcome, reader, Ends, IsOfLists, IsOutsideFault, SaysUsage, SparesSuite};
 ghost use Rattle.picky_inventory.specs.Run.{WritesAnswer, WritesInventory, WritesSet};
 
 use crate::answer::take_answer;
@@ -89,7 +89,7 @@ pub fn run_inventory<S: Suite, I: Source, O: Sink, E: Sink>(
     ensures suite { LeavesDevice (S.meanings suite.new ≡ S.meanings suite.old) S.faults (result ≡ InventoryStatus.OutsideFault)
         (SparesSuite (command_named words.now) (option_copied pass_in.entry) (I.tells source.old) (I.left source.old))
         suite.old suite.new }
-    ensures said { Says E.tells E.written E.faults result err.old err.new }
+    ensures said { SaysUsage E.tells E.written E.faults result err.old err.new }
 {
     match command_of(words) {
         Some(command) => perform(alloc, command, pass_in, suite, source, out),
@@ -143,7 +143,7 @@ fn put<O: Sink>(out: &mut O, text: &[u8]) -> Result<(), InventoryStatus>
 /// Writes the line that says which words there are, or a prefix of it up to a fault.
 #[tactic(auto, unfolding(crate::specs::Run::usage_line))]
 fn say_usage<E: Sink>(err: &mut E)
-    ensures { Says E.tells E.written E.faults InventoryStatus.Usage err.old err.new }
+    ensures { SaysUsage E.tells E.written E.faults InventoryStatus.Usage err.old err.new }
 {
     let _ = write_all(err, USAGE_LINE.as_bytes());
 }

@@ -11,7 +11,7 @@ use Rattle.picky_text.specs.Lines.{HasNo, lines}
 use Rattle.picky_text.proofs.LineLaws.{first_line}
 use Rattle.picky_text.proofs.ListLaws.{all_weaker}
 use Rattle.picky_issuing.specs.Parts.{mark_word, mark_lf, mark_cr_lf, after_line, cut, HasNoMark, IsCut}
-use Rattle.picky_issuing.specs.Parts.{issuer_of, key_text_of_cut, issuer_part, key_part}
+use Rattle.picky_issuing.specs.Parts.{issuer_text_of, key_text_of_cut, issuer_text_part, key_part}
 use Rattle.picky_issuing.proofs.PartsLemmas.{by_lines, is_or_not, stripped_is_mark, cut_at_mark, cut_at_lf}
 use Rattle.picky_issuing.proofs.PartsLemmas.{cut_at_cr_lf, cut_at_end, cut_goes_on, cut_ends}
 
@@ -205,12 +205,12 @@ uncut_without_mark = by_lines (λ text. (cut text ≡ None) ↔ HasNoMark text) 
 -- ---- the parts
 
 pub parts_where_marked : (text issuer key : List ℕ) → IsCut text issuer key
-    → (issuer_part text ≡ Some issuer) × (key_part text ≡ key)
+    → (issuer_text_part text ≡ Some issuer) × (key_part text ≡ key)
 parts_where_marked text issuer key is =
     let same : cut text ≡ Some (issuer, key) = is_cut text issuer key is in
-    (ap issuer_of same, ap (key_text_of_cut text) same)
+    (ap issuer_text_of same, ap (key_text_of_cut text) same)
 
-pub parts_where_unmarked : (text : List ℕ) → HasNoMark text → (issuer_part text ≡ None) × (key_part text ≡ text)
+pub parts_where_unmarked : (text : List ℕ) → HasNoMark text → (issuer_text_part text ≡ None) × (key_part text ≡ text)
 parts_where_unmarked text all =
     let same : cut text ≡ None = (uncut_without_mark text).1 all in
-    (ap issuer_of same, ap (key_text_of_cut text) same)
+    (ap issuer_text_of same, ap (key_text_of_cut text) same)

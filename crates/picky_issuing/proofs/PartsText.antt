@@ -5,7 +5,7 @@ use Rattle.std.proofs.lemmas.List.{append_assoc, drop_at, get_or_append_left, le
 use Rattle.std.proofs.lemmas.Str.{IsCharBoundary-after_ascii, IsUtf8-drop, IsUtf8-nil, IsUtf8-take}
 use Rattle.std.specs.Option.{IfSome}
 use Rattle.std.specs.Str.{IsUtf8}
-use Rattle.picky_issuing.specs.Parts.{IsCut, cut, issuer_of, issuer_part, key_text_of_cut}
+use Rattle.picky_issuing.specs.Parts.{IsCut, cut, issuer_text_of, issuer_text_part, key_text_of_cut}
 use Rattle.picky_issuing.specs.Parts.{key_part, mark_cr_lf, mark_lf, mark_word}
 use Rattle.picky_issuing.proofs.PartsLaws.{cut_both_ways, last_of}
 
@@ -45,11 +45,11 @@ key_is_text text issuer key utf8 is = elim is.is_mark [
   ]
 ]
 
-pub parts_are_text : (text : List ℕ) → IsUtf8 text → IfSome (issuer_part text) IsUtf8 × IsUtf8 (key_part text)
+pub parts_are_text : (text : List ℕ) → IsUtf8 text → IfSome (issuer_text_part text) IsUtf8 × IsUtf8 (key_part text)
 parts_are_text text utf8 = go (cut text) refl
   where
     go : (parts : Option (List ℕ × List ℕ)) → cut text ≡ parts
-        → IfSome (issuer_of parts) IsUtf8 × IsUtf8 (key_text_of_cut text parts)
+        → IfSome (issuer_text_of parts) IsUtf8 × IsUtf8 (key_text_of_cut text parts)
     go None is = (tt, utf8)
     go (Some (issuer, key)) is =
         let found = (cut_both_ways text issuer key).0 is in

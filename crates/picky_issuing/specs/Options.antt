@@ -2,7 +2,7 @@
 use Rattle.std.specs.Prelude.{◌++◌, List, [], ◌∷◌, ℕ, Option, Some, None}
 use Rattle.std.specs.Option.{option_map}
 use Rattle.picky_wire_base.specs.Table.{find_entry}
-use Rattle.picky_wire.specs.declared.timestamp.Timestamp.{Timestamp}
+use Rattle.picky_wire.specs.Moment.{moment}
 use Rattle.picky_cert_parts.specs.CertNameTables.{cert_key_types}
 use Rattle.picky_issuing.specs.declared.option_word.OptionWord.{OptionWord}
 use Rattle.picky_issuing.specs.declared.option_word.OptionWord.TheVariants as words
@@ -31,10 +31,6 @@ no_options = record {
 abbrev pub once : {A : Type 0} → Option A → Option A → Option A
 once None given = given
 once (Some before) given = None
-
--- the moment of so many seconds
-abbrev pub moment : ℕ → Timestamp
-moment n = record { 0 = n }
 
 -- what is asked for with one more option and its value
 unfoldable pub with_option : OptionWord → List ℕ → CertOptions → Option CertOptions

@@ -42,9 +42,9 @@ abbrev pub cut : List ℕ → Option (List ℕ × List ℕ)
 cut text = cut_lines (lines_with_ends text)
 
 -- the issuer's text of a cut
-abbrev pub issuer_of : Option (List ℕ × List ℕ) → Option (List ℕ)
-issuer_of None = None
-issuer_of (Some parts) = Some parts.0
+abbrev pub issuer_text_of : Option (List ℕ × List ℕ) → Option (List ℕ)
+issuer_text_of None = None
+issuer_text_of (Some parts) = Some parts.0
 
 -- the key text of a cut, and the whole text where there is none
 abbrev pub key_text_of_cut : List ℕ → Option (List ℕ × List ℕ) → List ℕ
@@ -52,8 +52,8 @@ key_text_of_cut text None = text
 key_text_of_cut text (Some parts) = parts.1
 
 -- the issuer's text of a source: none where no line is the mark's
-abbrev pub issuer_part : List ℕ → Option (List ℕ)
-issuer_part text = issuer_of (cut text)
+abbrev pub issuer_text_part : List ℕ → Option (List ℕ)
+issuer_text_part text = issuer_text_of (cut text)
 
 -- its key text: all of it where no line is the mark's
 abbrev pub key_part : List ℕ → List ℕ

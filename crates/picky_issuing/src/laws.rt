@@ -6,7 +6,7 @@ ghost use Rattle.std.specs.Option.{IfSome};
 ghost use Rattle.std.specs.Str.{IsUtf8};
 ghost use Rattle.picky_wire_base.specs.Equality.{IsEquality};
 ghost use Rattle.picky_issuing.specs.Value.{number_named};
-ghost use Rattle.picky_issuing.specs.Parts.{HasNoMark, IsCut, cut, issuer_part, key_part};
+ghost use Rattle.picky_issuing.specs.Parts.{HasNoMark, IsCut, cut, issuer_text_part, key_part};
 
 use crate::options::CertOptions;
 
@@ -29,13 +29,13 @@ pub fn source_without_a_mark_is_not_cut()
 /// So its parts are these, whatever the cut.
 pub fn source_has_its_parts()
     ensures marked { (text issuer key : List ℕ) → IsCut text issuer key
-        → (issuer_part text ≡ Some issuer) × (key_part text ≡ key) }
-    ensures unmarked { (text : List ℕ) → HasNoMark text → (issuer_part text ≡ None) × (key_part text ≡ text) }
+        → (issuer_text_part text ≡ Some issuer) × (key_part text ≡ key) }
+    ensures unmarked { (text : List ℕ) → HasNoMark text → (issuer_text_part text ≡ None) × (key_part text ≡ text) }
 {}
 
 /// The parts of a source that is text are text.
 pub fn parts_are_text()
-    ensures { (text : List ℕ) → IsUtf8 text → IfSome (issuer_part text) IsUtf8 × IsUtf8 (key_part text) }
+    ensures { (text : List ℕ) → IsUtf8 text → IfSome (issuer_text_part text) IsUtf8 × IsUtf8 (key_part text) }
 {}
 
 /// Two values are equal exactly where their contents are.

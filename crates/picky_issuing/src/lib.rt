@@ -1,4 +1,6 @@
 //! What the commands that issue certificates are given: their options in words, and the two parts of their source.
+//!
+//! Read first: `specs/Options.antt` and `specs/Parts.antt`; then `src/options.rt`.
 #![tactic(auto)]
 
 pub mod laws;

@@ -2,7 +2,7 @@
 
 ghost use Rattle.std.specs.Prelude.{◌≡◌};
 ghost use Rattle.std.specs.Option.{option_copied};
-ghost use Rattle.picky_issuing.specs.Parts.{issuer_part, key_part};
+ghost use Rattle.picky_issuing.specs.Parts.{issuer_text_part, key_part};
 
 /// The issuer's text, where there is one, and the key text.
 #[derive(Clone, Copy)]
@@ -16,7 +16,7 @@ pub struct Parts<'a> {
 /// A line ends at LF or with the text, and one CR before that LF is no part of it; a CR before the text's end is.
 /// Where no line is the mark, the whole text is the key text, and there is no issuer's text.
 pub fn parts_of(text: &str) -> Parts<'_>
-    ensures issuer { option_copied result.issuer ≡ issuer_part text.now }
+    ensures issuer { option_copied result.issuer ≡ issuer_text_part text.now }
     ensures key { result.key.now ≡ key_part text.now }
 {
     let mut rest = text;

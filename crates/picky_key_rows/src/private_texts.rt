@@ -7,7 +7,7 @@ pub struct PrivateRow {
     /// The line of its public key.
     pub line: &'static str,
     pub comment: &'static str,
-    pub is_on_device: bool,
+    pub is_security_key_kind: bool,
 }
 
 // A test vector of the Rust crate picky: an RSA key of 2048 bits.
@@ -141,49 +141,49 @@ pub static PRIVATE_ROWS: [PrivateRow; 7] = [
         text: RSA,
         line: "ssh-rsa AAAAB3NzaC1yc2EAAAADAQABAAAAgQDUorNg/bZD2IVO/guI8gVs3YlMx/gMR0731Iu2CkiOyN1zN2ARmV+WD+9bFIXUyxM3Hx4nITnuZ93+aZEFCTy1NUfRHzqn/5dffMaUObx2HIgTXM3IifEtIFC6OT0rE3LXN8medlLpEvVbv3Azu69VymHa77Zt36N4wi98vbgvjQ== a comment",
         comment: "a comment",
-        is_on_device: false,
+        is_security_key_kind: false,
     },
     PrivateRow {
         name: "NIST P-256",
         text: P256,
         line: "ecdsa-sha2-nistp256 AAAAE2VjZHNhLXNoYTItbmlzdHAyNTYAAAAIbmlzdHAyNTYAAABBBEnNK8hhGGvZjrP1wGQ9f9R5lpHKWcdWam3ehifGfqZu+aesi+nkcfRccckMkFl/OAhENMIgzOi3EeFITf5XxLQ= a comment",
         comment: "a comment",
-        is_on_device: false,
+        is_security_key_kind: false,
     },
     PrivateRow {
         name: "NIST P-384",
         text: P384,
         line: "ecdsa-sha2-nistp384 AAAAE2VjZHNhLXNoYTItbmlzdHAzODQAAAAIbmlzdHAzODQAAABhBHe4i5nVwlSARHJym1Dk5+Ib6eRmBEU99qFc9+ZGYUiw6V1mO7Wu62snKloLZhq5zhZlqyyXpB6fkW/RZItXjY6R26q97FLxHurd3PI6hMqgMl4oYekNFgruHnYrDbv2Qg== a comment",
         comment: "a comment",
-        is_on_device: false,
+        is_security_key_kind: false,
     },
     PrivateRow {
         name: "NIST P-521",
         text: P521,
         line: "ecdsa-sha2-nistp521 AAAAE2VjZHNhLXNoYTItbmlzdHA1MjEAAAAIbmlzdHA1MjEAAACFBAEmR8kfLd8TiMiQk+kJML2f5sjEJOZxZr6phuOVynOAtf3c9H9QgKEP7AYJSsWsIDpJ8vBcCLVxTwEFrdM28lG/hAFIx7jH4s7stKzkXsLIy9ixUBquTZG1jM+Yb1Gb3tWzs8HAsnlrafwxugfQTJVtwN/5ZD5TAh+X73Uo32X6qzAy/A== a comment",
         comment: "a comment",
-        is_on_device: false,
+        is_security_key_kind: false,
     },
     PrivateRow {
         name: "Ed25519",
         text: ED25519,
         line: "ssh-ed25519 AAAAC3NzaC1lZDI1NTE5AAAAILcAklWWI9+GWtIxMvTJTpJX7N/oCsY2wTesKA37AlTY",
         comment: "",
-        is_on_device: false,
+        is_security_key_kind: false,
     },
     PrivateRow {
         name: "NIST P-256 on a device",
         text: SK_P256,
         line: "sk-ecdsa-sha2-nistp256@openssh.com AAAAInNrLWVjZHNhLXNoYTItbmlzdHAyNTZAb3BlbnNzaC5jb20AAAAIbmlzdHAyNTYAAABBBEnNK8hhGGvZjrP1wGQ9f9R5lpHKWcdWam3ehifGfqZu+aesi+nkcfRccckMkFl/OAhENMIgzOi3EeFITf5XxLQAAAAEc3NoOg== token",
         comment: "token",
-        is_on_device: true,
+        is_security_key_kind: true,
     },
     PrivateRow {
         name: "Ed25519 on a device",
         text: SK_ED25519,
         line: "sk-ssh-ed25519@openssh.com AAAAGnNrLXNzaC1lZDI1NTE5QG9wZW5zc2guY29tAAAAILcAklWWI9+GWtIxMvTJTpJX7N/oCsY2wTesKA37AlTYAAAACnNzaDpsYXB0b3A= token",
         comment: "token",
-        is_on_device: true,
+        is_security_key_kind: true,
     },
 ];
 

@@ -134,7 +134,7 @@ fn is_of_its_line(alloc: Global, row: &PrivateRow, key: &SshPrivateKey) -> Resul
         key.public_key().inner_key == *public
             && *part == *public
             && key.comment.as_str() == row.comment
-            && key.inner_key().is_none() == row.is_on_device,
+            && key.inner_key().is_none() == row.is_security_key_kind,
     )
 }
 

@@ -1,5 +1,7 @@
 //! What a key text means, in each of its forms: OpenSSH's private key, PuTTY's private and public key, a certificate,
 //! and a public key line.
+//!
+//! Read first: `specs/Form.antt` and `specs/Reads.antt`; then `src/reading.rt`.
 #![tactic(auto)]
 
 mod error;

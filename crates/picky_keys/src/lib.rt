@@ -1,5 +1,7 @@
 //! SSH public keys: their kinds and names, their blobs, lines and fingerprints, and the lines that a source gives one after
 //! another (RFC 4253, section 6.6; sshd(8)).
+//!
+//! Read first: `specs/Blob.antt` and `specs/Line.antt`; then `src/laws.rt` and `src/key.rt`.
 #![tactic(auto)]
 
 mod algorithm;

@@ -13,7 +13,7 @@ use Rattle.picky_text.specs.Lines.{text_of, end_bytes}
 use Rattle.picky_text.specs.Rows.{rows_of, rows_within}
 use Rattle.picky_text.proofs.RowLaws.{rows_of_are_rows}
 use Rattle.picky_text.specs.declared.lines.LineEnd.{LineEnd}
-use Rattle.picky_kv.specs.Output.{Output, extended, with_lines, with_block, pair_line, block_lines}
+use Rattle.picky_kv.specs.Output.{LinesOutput, extended, with_lines, with_block, pair_line, block_lines}
 use Rattle.picky_kv.specs.declared.error.KvError.TheVariants.{TooLong}
 
 -- a line before others
@@ -49,7 +49,7 @@ length-text_of-joined end (line ∷ more) =
     ))
 
 -- a piece of 2^32 bytes or more is too long behind any text
-pub extended_too_long : (out : Output) (piece : List ℕ) → 2 ^ 32 ≤ length piece
+pub extended_too_long : (out : LinesOutput) (piece : List ℕ) → 2 ^ 32 ≤ length piece
     → extended out piece ≡ Err TooLong
 extended_too_long out piece long =
     let whole = length-append out.text piece in
@@ -59,7 +59,7 @@ extended_too_long out piece long =
     rw test refl
 
 -- a line of such a value
-pub pair_too_long : (out : Output) (key value : List ℕ) → 2 ^ 32 ≤ length value
+pub pair_too_long : (out : LinesOutput) (key value : List ℕ) → 2 ^ 32 ≤ length value
     → with_lines out (pair_line key value ∷ []) ≡ Err TooLong
 pair_too_long out key value long =
     let line : List ℕ = pair_line key value in
@@ -69,7 +69,7 @@ pair_too_long out key value long =
     (rw (text_of_one out.end line) (omega arith))
 
 -- a block of such a value
-pub block_too_long : (out : Output) (key value : List ℕ) → 2 ^ 32 ≤ length value
+pub block_too_long : (out : LinesOutput) (key value : List ℕ) → 2 ^ 32 ≤ length value
     → with_block out key value ≡ Err TooLong
 block_too_long out key value long =
     let rows : List (List ℕ) = rows_of value in

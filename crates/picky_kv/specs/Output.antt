@@ -11,7 +11,7 @@ use Rattle.picky_kv.specs.declared.error.KvError.{KvError}
 use Rattle.picky_kv.specs.declared.error.KvError.TheVariants.{TooLong, TooManyLines}
 
 -- what ends each line, and the text so far
-pub record Output : Type 0 where
+pub record LinesOutput : Type 0 where
   pub end : LineEnd
   pub text : List ℕ
 
@@ -28,18 +28,18 @@ abbrev pub block_lines : List ℕ → List ℕ → List (List ℕ)
 block_lines key value = pair_line key (decimal (length (rows_of value))) ∷ rows_of value
 
 -- the text with these bytes behind it, where it stays below 2^32 bytes
-abbrev pub extended : Output → List ℕ → Result Output KvError
+abbrev pub extended : LinesOutput → List ℕ → Result LinesOutput KvError
 extended out piece =
     let text = out.text ++ piece in
     if nat_lt (length text) (2 ^ 32) then Ok (record { end = out.end; text = text })
     else Err TooLong
 
 -- the text with these lines behind it
-abbrev pub with_lines : Output → List (List ℕ) → Result Output KvError
+abbrev pub with_lines : LinesOutput → List (List ℕ) → Result LinesOutput KvError
 with_lines out lines = extended out (text_of out.end lines)
 
 -- the text with a block behind it, whose count has 16 bits
-abbrev pub with_block : Output → List ℕ → List ℕ → Result Output KvError
+abbrev pub with_block : LinesOutput → List ℕ → List ℕ → Result LinesOutput KvError
 with_block out key value =
     and_then (with_lines out (block_lines key value)) (λ new.
     if nat_lt 65535 (length (rows_of value)) then Err TooManyLines else Ok new)

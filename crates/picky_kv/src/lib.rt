@@ -1,5 +1,7 @@
 //! The lines and blocks of PuTTY's private key files, typed, read and written (PuTTY's manual, Appendix C, "PPK file
 //! format").
+//!
+//! Read first: `specs/Lines.antt` and `specs/Block.antt`; then `src/lines.rt` and `src/reader.rt`.
 #![tactic(auto)]
 
 mod algorithm;

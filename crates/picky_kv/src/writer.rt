@@ -26,9 +26,9 @@ pub struct PuttyKvWriter {
 
 impl Model for PuttyKvWriter {
     ghost use Rattle.std.specs.Prelude.{◌^◌, ◌<◌, string_bytes, string_len};
-    ghost use Rattle.picky_kv.specs.Output.{Output};
+    ghost use Rattle.picky_kv.specs.Output.{LinesOutput};
 
-    ghost Value = { Output };
+    ghost Value = { LinesOutput };
 
     ghost view = { λ w. record { end = w.end; text = string_bytes w.text } };
 

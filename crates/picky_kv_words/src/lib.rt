@@ -1,5 +1,7 @@
 //! The words and values of PuTTY's private key files, typed: the keys of the lines, the version, the encryption, Argon2's
 //! flavour, comments, base64 and hex (PuTTY's manual, Appendix C, "PPK file format").
+//!
+//! Read first: `specs/Field.antt`, which says what a word or a value is; then `src/word.rt` and `src/keys.rt`.
 #![tactic(auto)]
 
 mod argon2_keys;

@@ -5,15 +5,15 @@ use Rattle.std.specs.List.{AllByRecursion}
 use Rattle.std.proofs.lemmas.List.{append-nil, append_assoc}
 use Rattle.std.proofs.lemmas.List.Elements.{Contains-append_left, Contains-append_right, Contains-push}
 use Rattle.picky_keys.specs.declared.key.SshBasePublicKey.{SshBasePublicKey}
-use Rattle.picky_suite.specs.Signs.{Relation}
+use Rattle.picky_suite.specs.Signs.{SignRelation}
 use Rattle.picky_cert_builder.specs.Draft.{requested}
 use Rattle.picky_request.specs.Builder.{asked_of}
-use Rattle.picky_ledger.specs.Apply.{Applies, Asked, added, judged_request_line}
+use Rattle.picky_ledger.specs.Apply.{Applies, SignatureAsked, added, judged_request_line}
 use Rattle.picky_ledger.specs.declared.entry.Entry.{Entry}
 use Rattle.picky_ledger.specs.declared.reply.Reply.{Reply}
 use Rattle.picky_ledger.specs.declared.reply.Reply.TheVariants as replies
 use Rattle.picky_ledger.specs.Entry.{entry_of}
-use Rattle.picky_ledger.specs.Runs.{IsAfter, IsAnsweredAgain, IsIssuedFor, Runs, Step, nonce_len, terms}
+use Rattle.picky_ledger.specs.Runs.{IsAfter, IsAnsweredAgain, IsIssuedFor, Runs, Step, nonce_len, terms_by}
 use Rattle.picky_ledger.specs.State.{IsLedger, IsNew, State}
 use Rattle.picky_ledger.proofs.IssuedLemmas.{signed_fields}
 use Rattle.picky_ledger.proofs.JudgedLaws.{judged_asks, judged_no_issue, kept_is_again}
@@ -23,7 +23,7 @@ use Rattle.picky_ledger.proofs.StateLemmas.{added_is_ledger, new_is, parted}
 -- ---- one request
 
 -- a certificate was issued, and entered last
-record Issues (signs : Relation) (issuer : SshBasePublicKey) (old : State) (line : List ℕ) (new : State) (reply : Reply) : Type 0 where
+record Issues (signs : SignRelation) (issuer : SshBasePublicKey) (old : State) (line : List ℕ) (new : State) (reply : Reply) : Type 0 where
   entry : Entry
   issued : IsIssuedFor signs issuer (line ∷ []) entry
   request : entry.request ≡ line
@@ -40,12 +40,12 @@ record Stays (old new : State) (reply : Reply) : Type 0 where
 room_for : (l : State) → IsLedger l → l.next ≢ 2 ^ 64 - 1 → l.next + 1 < 2 ^ 64
 room_for l is apart = let fits = is.fits in omega (arith, fits, apart)
 
-issues : (signs : Relation) (issuer : SshBasePublicKey) (old new : State) (fresh line : List ℕ) (reply : Reply) (a : Asked)
-    → judged_request_line (terms issuer fresh) old line ≡ Ok a
+issues : (signs : SignRelation) (issuer : SshBasePublicKey) (old new : State) (fresh line : List ℕ) (reply : Reply) (a : SignatureAsked)
+    → judged_request_line (terms_by issuer fresh) old line ≡ Ok a
     → Applies signs old line (Ok a) ⊥ (Ok reply) new
     → Issues signs issuer old line new reply
 issues signs issuer old new fresh line reply a says (c, signed, is_entry, answered, after) =
-    let t = terms issuer fresh in
+    let t = terms_by issuer fresh in
     let asks = judged_asks t old line a says in
     let e : Entry = entry_of a.id line c in
     let fields = signed_fields signs issuer old.next asks.request t.nonce a.unsigned c asks.made signed in
@@ -70,41 +70,41 @@ issues signs issuer old new fresh line reply a says (c, signed, is_entry, answer
           (added_is_ledger old e is (room_for old is asks.room) is_entry fields.1 new_id);
     }
 
-by_says : (signs : Relation) (issuer : SshBasePublicKey) (old new : State) (fresh line : List ℕ) (reply : Reply) (says : Result Asked Reply)
-    → judged_request_line (terms issuer fresh) old line ≡ says
+by_says : (signs : SignRelation) (issuer : SshBasePublicKey) (old new : State) (fresh line : List ℕ) (reply : Reply) (says : Result SignatureAsked Reply)
+    → judged_request_line (terms_by issuer fresh) old line ≡ says
     → Applies signs old line says ⊥ (Ok reply) new
     → Issues signs issuer old line new reply ⊎ Stays old new reply
 by_says signs issuer old new fresh line reply (Ok a) is applies = inl (issues signs issuer old new fresh line reply a is applies)
 by_says signs issuer old new fresh line reply (Err says) is applies =
-    let t = terms issuer fresh in
+    let t = terms_by issuer fresh in
     inr (record {
       same = applies.1;
       none = λ serial issued. judged_no_issue t old line says is serial (sym applies.0 ∙ issued);
     })
 
-step_is : (signs : Relation) (issuer : SshBasePublicKey) (old new : State) (fresh line : List ℕ) (reply : Reply)
+step_is : (signs : SignRelation) (issuer : SshBasePublicKey) (old new : State) (fresh line : List ℕ) (reply : Reply)
     → Step signs issuer old fresh line new reply → Issues signs issuer old line new reply ⊎ Stays old new reply
 unfolding Step
 step_is signs issuer old new fresh line reply step =
     by_says signs issuer old new fresh line reply
-    (judged_request_line (terms issuer fresh) old line) refl step
+    (judged_request_line (terms_by issuer fresh) old line) refl step
 
 -- a kept line has its serial
-kept_step : (signs : Relation) (issuer : SshBasePublicKey) (old new : State) (fresh line : List ℕ) (reply : Reply) (e : Entry)
+kept_step : (signs : SignRelation) (issuer : SshBasePublicKey) (old new : State) (fresh line : List ℕ) (reply : Reply) (e : Entry)
     → IsLedger old → Contains old.entries e → Step signs issuer old fresh line new reply → line ≡ e.request
     → reply ≡ replies.Again e.serial
 unfolding Step
 kept_step signs issuer old new fresh line reply e is among step same =
-    let t = terms issuer fresh in
+    let t = terms_by issuer fresh in
     let parts = parted old.entries e among in
     let again = kept_is_again t old parts.0 parts.1 e is parts.2 in
     let says : judged_request_line t old line ≡ Err (replies.Again e.serial) =
     ap (judged_request_line t old) same ∙ again in
-    (subst (λ (s : Result Asked Reply). Applies signs old line s ⊥ (Ok reply) new) says step).0
+    (subst (λ (s : Result SignatureAsked Reply). Applies signs old line s ⊥ (Ok reply) new) says step).0
 
 -- ---- more lines
 
-issued_among : (signs : Relation) (issuer : SshBasePublicKey) (lines more : List (List ℕ)) (e : Entry)
+issued_among : (signs : SignRelation) (issuer : SshBasePublicKey) (lines more : List (List ℕ)) (e : Entry)
     → ((line : List ℕ) → Contains lines line → Contains more line) → IsIssuedFor signs issuer lines e → IsIssuedFor signs issuer more e
 issued_among signs issuer lines more e among is = record {
   among = among e.request is.among;
@@ -116,7 +116,7 @@ issued_among signs issuer lines more e among is = record {
   signed = is.signed;
 }
 
-all_among : (signs : Relation) (issuer : SshBasePublicKey) (lines more : List (List ℕ)) (es : List Entry)
+all_among : (signs : SignRelation) (issuer : SshBasePublicKey) (lines more : List (List ℕ)) (es : List Entry)
     → ((line : List ℕ) → Contains lines line → Contains more line) → AllByRecursion (IsIssuedFor signs issuer lines) es
     → AllByRecursion (IsIssuedFor signs issuer more) es
 all_among signs issuer lines more [] among all = tt
@@ -125,7 +125,7 @@ all_among signs issuer lines more (e ∷ es) among all =
 
 -- ---- requests in order
 
-none_leave : (signs : Relation) (issuer : SshBasePublicKey) (old new : State) (rs : List Reply) → IsLedger old → new ≡ old
+none_leave : (signs : SignRelation) (issuer : SshBasePublicKey) (old new : State) (rs : List Reply) → IsLedger old → new ≡ old
     → IsAfter signs issuer old [] new rs
 none_leave signs issuer old new rs is same =
     let after : IsLedger new = subst IsLedger (sym same) is in
@@ -140,7 +140,7 @@ none_leave signs issuer old new rs is same =
     }
 
 -- the first line adds no entry
-stays_leave : (signs : Relation) (issuer : SshBasePublicKey) (old mid new : State) (fresh line : List ℕ) (lines : List (List ℕ))
+stays_leave : (signs : SignRelation) (issuer : SshBasePublicKey) (old mid new : State) (fresh line : List ℕ) (lines : List (List ℕ))
     (reply : Reply) (later : List Reply) → IsLedger old → Step signs issuer old fresh line mid reply → Stays old mid reply
     → IsAfter signs issuer mid lines new later → IsAfter signs issuer old (line ∷ lines) new (reply ∷ later)
 stays_leave signs issuer old mid new fresh line lines reply later is step stays rest =
@@ -168,7 +168,7 @@ again_for request line n serial lines later same_line same_serial again =
     (subst (λ (m : ℕ). IsAnsweredAgain request m lines later) same_serial again)
 
 -- it adds one
-issues_leave : (signs : Relation) (issuer : SshBasePublicKey) (old mid new : State) (fresh line : List ℕ) (lines : List (List ℕ))
+issues_leave : (signs : SignRelation) (issuer : SshBasePublicKey) (old mid new : State) (fresh line : List ℕ) (lines : List (List ℕ))
     (reply : Reply) (later : List Reply) → IsLedger old → Step signs issuer old fresh line mid reply
     → Issues signs issuer old line mid reply → IsAfter signs issuer mid lines new later
     → IsAfter signs issuer old (line ∷ lines) new (reply ∷ later)
@@ -199,7 +199,7 @@ issues_leave signs issuer old mid new fresh line lines reply later is step issue
     }
 
 -- What requests leave of a ledger.
-pub runs_leave : (signs : Relation) (issuer : SshBasePublicKey) (old new : State) (fresh : List ℕ) (lines : List (List ℕ))
+pub runs_leave : (signs : SignRelation) (issuer : SshBasePublicKey) (old new : State) (fresh : List ℕ) (lines : List (List ℕ))
     (rs : List Reply) → IsLedger old → Runs signs issuer old fresh lines new rs → IsAfter signs issuer old lines new rs
 runs_leave signs issuer old new fresh [] rs is runs = none_leave signs issuer old new rs is runs.0
 runs_leave signs issuer old new fresh (line ∷ lines) rs is (mid, reply, later, step, run, all) =

@@ -23,7 +23,7 @@ use Rattle.picky_request.specs.declared.request.CertRequestLine.{CertRequestLine
 use Rattle.picky_request.proofs.LineLaws.{chosen, cut_is, cut_says, goes_on, line_is_one, some_same, then_is}
 use Rattle.picky_ledger.specs.declared.entry.Entry.{Entry}
 use Rattle.picky_ledger.specs.Entry.{certificate_in, entry_front, entry_in, entry_of, front_of, if_canonical, if_named, if_text}
-use Rattle.picky_ledger.specs.Entry.{is_named, request_under, text_in, IsEntry}
+use Rattle.picky_ledger.specs.Entry.{is_named, request_under, base64_text_in, IsEntry}
 use Rattle.picky_ledger.proofs.CertificateLineLemmas.{front_reads_back, line_length}
 
 same_bytes : (xs ys : List ℕ) → xs ≡ ys → bytes_eq xs ys ≡ true
@@ -34,14 +34,14 @@ bytes_same xs ys is = (bytes_eq-Decides xs ys).0 is
 
 -- ---- the text of a word
 
-encoded_is_read : (text : List ℕ) → IsUtf8 text → text_in (base64_of text) ≡ Some text
-unfolding text_in
+encoded_is_read : (text : List ℕ) → IsUtf8 text → base64_text_in (base64_of text) ≡ Some text
+unfolding base64_text_in
 encoded_is_read text utf8 =
     then_is (decoded (base64_of text)) text if_text (base64_is_read_back text (utf8_is_bytes text utf8))
     ∙ ap (λ (b : Bool). if b then Some text else None) (is_utf8-from_IsUtf8 text utf8)
 
-read_is_encoded : (word text : List ℕ) → IsBytes word → text_in word ≡ Some text → (word ≡ base64_of text) × IsUtf8 text
-unfolding text_in
+read_is_encoded : (word text : List ℕ) → IsBytes word → base64_text_in word ≡ Some text → (word ≡ base64_of text) × IsUtf8 text
+unfolding base64_text_in
 read_is_encoded word text each reads =
     let bytes = goes_on (decoded word) if_text text reads in
     let utf8 = chosen (is_utf8 bytes.0) (Some bytes.0) text bytes.2 in
@@ -55,7 +55,7 @@ read_is_encoded word text each reads =
 request_is_read : (e : Entry) → IsEntry e → request_under e.id (base64_of e.request) ≡ Some e.request
 unfolding request_under
 request_is_read e is =
-    then_is (text_in (base64_of e.request)) e.request (if_named e.id) (encoded_is_read e.request is.text)
+    then_is (base64_text_in (base64_of e.request)) e.request (if_named e.id) (encoded_is_read e.request is.text)
     ∙ ap (λ o. if is_named e.id o then Some e.request else None) is.request
     ∙ ap (λ (b : Bool). if b then Some e.request else None) (same_bytes is.asks.id e.id is.id)
 
@@ -76,7 +76,7 @@ read_asks : (id word line : List ℕ) → IsBytes word → request_under id word
     → (word ≡ base64_of line) × AsksUnder id line
 unfolding request_under
 read_asks id word line each reads =
-    let text = goes_on (text_in word) (if_named id) line reads in
+    let text = goes_on (base64_text_in word) (if_named id) line reads in
     let named = chosen (is_named id (request_in text.0)) (Some text.0) line text.2 in
     let same : text.0 ≡ line = some_same text.0 line named.1 in
     let encoded = read_is_encoded word line each (text.1 ∙ named.1) in (

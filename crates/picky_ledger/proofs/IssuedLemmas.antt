@@ -6,7 +6,7 @@ use Rattle.picky_wire_base.specs.Numbers.{IsBytes}
 use Rattle.picky_text.specs.Lines.{HasNo}
 use Rattle.picky_text.proofs.WordLaws.{rest_has_no_cr, rest_has_no_lf, rest_is_trimmed}
 use Rattle.picky_text.specs.Words.{after_body}
-use Rattle.picky_suite.specs.Signs.{Relation}
+use Rattle.picky_suite.specs.Signs.{SignRelation}
 use Rattle.picky_keys.specs.declared.key.SshBasePublicKey.{SshBasePublicKey}
 use Rattle.picky_keys.specs.declared.key.SshPublicKey.{SshPublicKey}
 use Rattle.picky_keys.specs.Key.{IsString}
@@ -41,7 +41,7 @@ made_serial issuer serial r nonce u is =
     let made = requested_is_made (asked_of issuer serial r) nonce u is in ap (λ (c : SshCertificate). c.serial) (sym made.is)
 
 -- The certificate has the request's id and the serial.
-pub signed_fields : (signs : Relation) (issuer : SshBasePublicKey) (serial : ℕ) (r : CertRequestLine) (nonce : List ℕ) (u : Unsigned)
+pub signed_fields : (signs : SignRelation) (issuer : SshBasePublicKey) (serial : ℕ) (r : CertRequestLine) (nonce : List ℕ) (u : Unsigned)
     (c : SshCertificate) → requested (asked_of issuer serial r) nonce ≡ Ok u → IsSigned signs u c
     → (c.key_id ≡ r.id) × (c.serial ≡ serial)
 signed_fields signs issuer serial r nonce u c is signed = (
@@ -91,7 +91,7 @@ signed_string : (c : SshCertificate) (u : Unsigned) (bytes : List ℕ) → c ≡
 signed_string c u bytes is kept = subst (λ (d : SshCertificate). IsSignature d.signature) is kept
 
 -- Signed, it has a line that is read back.
-signed_has_line : (signs : Relation) (issuer : SshBasePublicKey) (serial : ℕ) (r : CertRequestLine) (nonce line : List ℕ)
+signed_has_line : (signs : SignRelation) (issuer : SshBasePublicKey) (serial : ℕ) (r : CertRequestLine) (nonce line : List ℕ)
     (u : Unsigned) (c : SshCertificate) → IsUtf8 line → request_in line ≡ Some r → IsRequest (asked_of issuer serial r)
     → IsString nonce → IsSignature c.signature → requested (asked_of issuer serial r) nonce ≡ Ok u → IsSigned signs u c
     → length (line_of c) < 2 ^ 32 → IsReadBackCertificate c
@@ -110,7 +110,7 @@ signed_has_line signs issuer serial r nonce line u c utf8 asks kept is_nonce is_
     (subst (λ (d : SshCertificate). length (line_of d) < 2 ^ 32) signed.1 short))
 
 -- Signed, it is an entry's.
-signed_is_entry : (signs : Relation) (issuer : SshBasePublicKey) (serial : ℕ) (r : CertRequestLine) (nonce line : List ℕ)
+signed_is_entry : (signs : SignRelation) (issuer : SshBasePublicKey) (serial : ℕ) (r : CertRequestLine) (nonce line : List ℕ)
     (u : Unsigned) (c : SshCertificate) → IsUtf8 line → request_in line ≡ Some r → IsRequest (asked_of issuer serial r)
     → IsString nonce → IsSignature c.signature → requested (asked_of issuer serial r) nonce ≡ Ok u → IsSigned signs u c
     → serial < 2 ^ 64 → IsEntry (entry_of r.id line c)
@@ -127,13 +127,13 @@ signed_is_entry signs issuer serial r nonce line u c utf8 asks kept is_nonce is_
 -- ---- what a builder answers
 
 -- what is made was asked for
-built_says : (signs : Relation) (says : Result Unsigned SshCertificateGenerationError) (rose : Type 0) (c : SshCertificate)
+built_says : (signs : SignRelation) (says : Result Unsigned SshCertificateGenerationError) (rose : Type 0) (c : SshCertificate)
     → IsBuilt signs says rose (Ok c) → (u : Unsigned) × (says ≡ Ok u) × IsSigned signs u c
 built_says signs (Ok u) rose c built = (u, refl, built)
 built_says signs (Err e) rose c built = absurd built
 
 -- It has the request's id and the serial.
-pub built_fields : (signs : Relation) (issuer : SshBasePublicKey) (serial : ℕ) (r : CertRequestLine) (nonce : List ℕ) (rose : Type 0)
+pub built_fields : (signs : SignRelation) (issuer : SshBasePublicKey) (serial : ℕ) (r : CertRequestLine) (nonce : List ℕ) (rose : Type 0)
     (result : Result SshCertificate SshCertificateGenerationError)
     → IsBuilt signs (requested (asked_of issuer serial r) nonce) rose result
     → IfOk result (λ c. (c.key_id ≡ r.id) × (c.serial ≡ serial))
@@ -143,7 +143,7 @@ built_fields signs issuer serial r nonce rose (Ok c) built =
 built_fields signs issuer serial r nonce rose (Err e) built = tt
 
 -- It is an entry's.
-pub built_is_entry : (signs : Relation) (issuer : SshBasePublicKey) (serial : ℕ) (r : CertRequestLine) (nonce : List ℕ) (rose : Type 0)
+pub built_is_entry : (signs : SignRelation) (issuer : SshBasePublicKey) (serial : ℕ) (r : CertRequestLine) (nonce : List ℕ) (rose : Type 0)
     (result : Result SshCertificate SshCertificateGenerationError) → serial < 2 ^ 64 → IsRequest (asked_of issuer serial r)
     → IsBytes nonce → length nonce ≡ 32 → IfOk result (λ c. IsSignature c.signature)
     → IsBuilt signs (requested (asked_of issuer serial r) nonce) rose result → (line : List ℕ) → IsUtf8 line

@@ -10,7 +10,7 @@ use Rattle.picky_text.proofs.ListLaws.{all_append}
 use Rattle.picky_issuing.specs.{Parts.{lines_with_ends}, Steps.{some_then}, Value.{number_named}}
 use Rattle.picky_issuing.proofs.{PartsLemmas.{by_lines}, NumberLaws.{decimal_names, named_is_decimal}}
 use Rattle.picky_ledger.specs.{declared.entry.Entry.{Entry}, Entry.{IsEntry, entry_front, entry_in, entry_line}}
-use Rattle.picky_ledger.specs.LedgerText.{after_word, entries_from, entry_said, if_follows, if_some, ledger_in, ledger_text}
+use Rattle.picky_ledger.specs.LedgerText.{after_next_word, entries_from, entry_said, if_follows, if_some, ledger_in, ledger_text}
 use Rattle.picky_ledger.specs.LedgerText.{may_follow, next_said, next_word}
 use Rattle.picky_ledger.specs.State.{Differ, Increase, IsLedger, State}
 use Rattle.picky_request.proofs.LineLaws.{chosen, goes_on, some_same}
@@ -59,7 +59,7 @@ pub record SaysNext (front : List ℕ) (next : ℕ) : Type 0 where
 
 pub said_next_is : (front : List ℕ) (next : ℕ) → next_said front ≡ Some next → SaysNext front next
 said_next_is front next says =
-    let after = goes_on (after_word front) _ next says in
+    let after = goes_on (after_next_word front) _ next says in
     let word = chosen (bytes_eq (take 5 front) next_word) (Some (drop 5 front)) after.0 after.1 in
     let number = goes_on (number_named after.0) if_some next after.2 in
     let some = chosen (nat_lt 0 number.0) (Some number.0) next number.2 in

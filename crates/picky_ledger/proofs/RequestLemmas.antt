@@ -11,14 +11,14 @@ use Rattle.picky_keys.proofs.ByteLaws.{utf8_is_bytes}
 use Rattle.picky_keys.specs.declared.key.SshBasePublicKey.{SshBasePublicKey}
 use Rattle.picky_keys.specs.declared.public_key.PublicKey.{PublicKey}
 use Rattle.picky_keys.specs.declared.algorithm.SignatureAlgorithm.{SignatureAlgorithm}
-use Rattle.picky_suite.specs.Signs.{Relation}
+use Rattle.picky_suite.specs.Signs.{SignRelation}
 use Rattle.picky_request.specs.Request.{is_space, request_in}
 use Rattle.picky_request.specs.declared.request.CertRequestLine.{CertRequestLine}
 use Rattle.picky_request.proofs.LineLaws.{line_is_one}
-use Rattle.picky_ledger.specs.Apply.{Applies, Asked, Terms, judged_request_line}
+use Rattle.picky_ledger.specs.Apply.{Applies, SignatureAsked, IssuerTerms, judged_request_line}
 use Rattle.picky_ledger.specs.Replies.{id_in, replies_text, reply_line}
 use Rattle.picky_ledger.specs.Run.{filled_lines}
-use Rattle.picky_ledger.specs.Runs.{NoneAsks, Runs, Step, nonce_len}
+use Rattle.picky_ledger.specs.Runs.{NoneSigns, Runs, Step, nonce_len}
 use Rattle.picky_ledger.specs.State.{State}
 use Rattle.picky_ledger.specs.declared.apply.LedgerError.{LedgerError}
 use Rattle.picky_ledger.specs.declared.apply.LedgerError.TheVariants as errors
@@ -34,7 +34,7 @@ id_is_first line r utf8 says =
     ap (before_first is_space) is.whole ∙ (cut_at_first is_space r.id 32 _ (all_weaker (λ b. b ≢ 32) (λ b. is_space b ≡ false) (λ b other. ne_eqb b 32 other) r.id is.id_parted) refl).before
 
 -- a line that is no request has no id in its reply, so what stands before its first space may be taken
-pub reply_by_first : (signs : Relation) (t : Terms) (old new : State) (line : List ℕ) (rose : Type 0) (reply : Reply) → IsUtf8 line
+pub reply_by_first : (signs : SignRelation) (t : IssuerTerms) (old new : State) (line : List ℕ) (rose : Type 0) (reply : Reply) → IsUtf8 line
     → Applies signs old line (judged_request_line t old line) rose (Ok reply) new
     → reply_line (before_first is_space line) reply ≡ reply_line (id_in line) reply
 unfolding judged_request_line reply_line
@@ -49,20 +49,20 @@ reply_by_first signs t old new line rose reply utf8 = go (request_in line) refl
         rw bad.0 refl
 
 -- where the device didn't fail, its count doesn't matter
-calm_applies : (signs : Relation) (old new : State) (line : List ℕ) (says : Result Asked Reply) (rose : Type 0) (reply : Reply)
+calm_applies : (signs : SignRelation) (old new : State) (line : List ℕ) (says : Result SignatureAsked Reply) (rose : Type 0) (reply : Reply)
     → Applies signs old line says rose (Ok reply) new → Applies signs old line says ⊥ (Ok reply) new
 calm_applies signs old new line (Ok a) rose reply applies = applies
 calm_applies signs old new line (Err r) rose reply applies = applies
 
 -- a reply, and the line of it that was added
-pub line_answers : (signs : Relation) (issuer : SshBasePublicKey) (nonce fresh : List ℕ) (old new : State) (line : List ℕ)
+pub line_answers : (signs : SignRelation) (issuer : SshBasePublicKey) (nonce fresh : List ℕ) (old new : State) (line : List ℕ)
     (rose : Type 0) (reply : Reply) (before after : List ℕ) → IsUtf8 line → nonce ≡ fresh
     → Applies signs old line (judged_request_line (record { issuer = issuer; nonce = nonce }) old line) rose (Ok reply) new
     → after ≡ before ++ reply_line (before_first is_space line) reply
     → (r : Reply) × Applies signs old line (judged_request_line (record { issuer = issuer; nonce = fresh }) old line) ⊥ (Ok r) new
     × (after ≡ before ++ reply_line (id_in line) r)
 line_answers signs issuer nonce fresh old new line rose reply before after utf8 same applies added =
-    let t : Terms = record { issuer = issuer; nonce = fresh } in
+    let t : IssuerTerms = record { issuer = issuer; nonce = fresh } in
     let of_fresh : Applies signs old line (judged_request_line t old line) rose (Ok reply) new =
     subst (λ n. Applies signs old line (judged_request_line (record { issuer = issuer; nonce = n }) old line) rose (Ok reply) new) same applies in (
       reply,
@@ -71,19 +71,19 @@ line_answers signs issuer nonce fresh old new line rose reply before after utf8 
     )
 
 -- or the device failed for it
-failed_asks : (A : Type 0) (signs : Relation) (t : Terms) (old new : State) (line : List ℕ) (rose : Type 0) (before after : List ℕ)
-    (says : Result Asked Reply) → judged_request_line t old line ≡ says → (e : LedgerError) → Applies signs old line says rose (Err e) new
+failed_asks : (A : Type 0) (signs : SignRelation) (t : IssuerTerms) (old new : State) (line : List ℕ) (rose : Type 0) (before after : List ℕ)
+    (says : Result SignatureAsked Reply) → judged_request_line t old line ≡ says → (e : LedgerError) → Applies signs old line says rose (Err e) new
     → AnswersLine {A = A} signs t old line rose before after (Err e) new
 failed_asks A signs t old new line rose before after (Ok a) is errors.SignerFault applies = (a, is, applies.0)
 failed_asks A signs t old new line rose before after (Err r) is errors.SignerFault applies = absurd applies
 failed_asks A signs t old new line rose before after says is errors.NoMemory applies = tt
 
-pub line_fails : (A : Type 0) (signs : Relation) (issuer : SshBasePublicKey) (nonce fresh : List ℕ) (old new : State) (line : List ℕ)
+pub line_fails : (A : Type 0) (signs : SignRelation) (issuer : SshBasePublicKey) (nonce fresh : List ℕ) (old new : State) (line : List ℕ)
     (rose : Type 0) (e : LedgerError) (before after : List ℕ) → nonce ≡ fresh
     → Applies signs old line (judged_request_line (record { issuer = issuer; nonce = nonce }) old line) rose (Err e) new
     → AnswersLine {A = A} signs (record { issuer = issuer; nonce = fresh }) old line rose before after (Err e) new
 line_fails A signs issuer nonce fresh old new line rose e before after same applies =
-    let t : Terms = record { issuer = issuer; nonce = fresh } in
+    let t : IssuerTerms = record { issuer = issuer; nonce = fresh } in
     failed_asks A signs t old new line rose before after (judged_request_line t old line) refl e
     (subst (λ n. Applies signs old line (judged_request_line (record { issuer = issuer; nonce = n }) old line) rose (Err e) new) same applies)
 
@@ -95,7 +95,7 @@ filled_more line more some = rw some refl
 
 -- ---- one request more
 
-pub runs_more : (signs : Relation) (issuer : SshBasePublicKey) (old mid new : State) (fresh : List ℕ) (front : List (List ℕ))
+pub runs_more : (signs : SignRelation) (issuer : SshBasePublicKey) (old mid new : State) (fresh : List ℕ) (front : List (List ℕ))
     (line : List ℕ) (rs : List Reply) (reply : Reply) → Runs signs issuer old fresh front mid rs
     → Step signs issuer mid (drop (nonce_len * length front) fresh) line new reply
     → Runs signs issuer old fresh (front ++ line ∷ []) new (rs ++ reply ∷ [])
@@ -122,7 +122,7 @@ text_more (next ∷ front) line (r ∷ rs) reply same =
     ap (λ t. reply_line (id_in next) r ++ t) (text_more front line rs reply (omega (arith, same)))
     ∙ sym (append_assoc (reply_line (id_in next) r) (replies_text front rs) (reply_line (id_in line) reply))
 
-pub runs_count : (signs : Relation) (issuer : SshBasePublicKey) (old new : State) (fresh : List ℕ) (lines : List (List ℕ))
+pub runs_count : (signs : SignRelation) (issuer : SshBasePublicKey) (old new : State) (fresh : List ℕ) (lines : List (List ℕ))
     (rs : List Reply) → Runs signs issuer old fresh lines new rs → length rs ≡ length lines
 runs_count signs issuer old new fresh [] rs runs = ap length runs.1
 runs_count signs issuer old new fresh (line ∷ more) rs runs =
@@ -131,7 +131,7 @@ runs_count signs issuer old new fresh (line ∷ more) rs runs =
 -- ---- so far
 
 -- these lines are left of all; those in front have their replies, of which these bytes are the lines
-pub record Answered (signs : Relation) (issuer : SshBasePublicKey) (old : State) (fresh : List ℕ) (lines : List (List ℕ))
+pub record Answered (signs : SignRelation) (issuer : SshBasePublicKey) (old : State) (fresh : List ℕ) (lines : List (List ℕ))
     (now : State) (rest : List ℕ) (left : List (List ℕ)) (said : List ℕ) : Type 0 where
   pub front : List (List ℕ)
   pub replies : List Reply
@@ -140,7 +140,7 @@ pub record Answered (signs : Relation) (issuer : SshBasePublicKey) (old : State)
   pub behind : rest ≡ drop (nonce_len * length front) fresh
   pub text : said ≡ replies_text front replies
 
-module _ (signs : Relation) (issuer : SshBasePublicKey) (old : State) (fresh : List ℕ) (lines : List (List ℕ)) where
+module _ (signs : SignRelation) (issuer : SshBasePublicKey) (old : State) (fresh : List ℕ) (lines : List (List ℕ)) where
   -- one line more has its reply
   pub answered_more : (mid new : State) (rest nonce behind line : List ℕ) (left : List (List ℕ)) (text after : List ℕ) (reply : Reply)
       → Answered signs issuer old fresh lines mid rest (line ∷ left) text → nonce ≡ take nonce_len rest
@@ -167,22 +167,22 @@ module _ (signs : Relation) (issuer : SshBasePublicKey) (old : State) (fresh : L
       }
 
 -- where no request is to be signed, the first isn't, and the device and the ledger stay for those behind it
-pub none_more : {S : Type 0} (signs : Relation) (issuer : SshBasePublicKey) (l new : State) (rest nonce behind line : List ℕ)
-    (left : List (List ℕ)) (reply : Reply) (device before after : S) → NoneAsks issuer l rest (line ∷ left) → nonce ≡ take nonce_len rest
+pub none_more : {S : Type 0} (signs : SignRelation) (issuer : SshBasePublicKey) (l new : State) (rest nonce behind line : List ℕ)
+    (left : List (List ℕ)) (reply : Reply) (device before after : S) → NoneSigns issuer l rest (line ∷ left) → nonce ≡ take nonce_len rest
     → behind ≡ drop nonce_len rest
     → Applies signs l line (judged_request_line (record { issuer = issuer; nonce = nonce }) l line) ⊥ (Ok reply) new
     → IfErr (judged_request_line (record { issuer = issuer; nonce = nonce }) l line) (λ r. after ≡ before) → before ≡ device
-    → (after ≡ device) × NoneAsks issuer new behind left
+    → (after ≡ device) × NoneSigns issuer new behind left
 none_more signs issuer l new rest nonce behind line left reply device before after (r, says, more) is same applies unasked stays =
     let first : judged_request_line (record { issuer = issuer; nonce = nonce }) l line ≡ Err r =
     ap (λ n. judged_request_line (record { issuer = issuer; nonce = n }) l line) is ∙ says in
     let kept = subst (λ o. Applies signs l line o ⊥ (Ok reply) new) first applies in (
       subst (λ o. IfErr o (λ x. after ≡ before)) first unasked ∙ stays,
-      subst (λ b. NoneAsks issuer new b left) (sym same) (subst (λ n. NoneAsks issuer n (drop nonce_len rest) left) (sym kept.1) more),
+      subst (λ b. NoneSigns issuer new b left) (sym same) (subst (λ n. NoneSigns issuer n (drop nonce_len rest) left) (sym kept.1) more),
     )
 
 -- what is good for one device is for another
-pub applies_for : (signs other : Relation) (old new : State) (line : List ℕ) (says : Result Asked Reply) (rose : Type 0) (reply : Reply)
+pub applies_for : (signs other : SignRelation) (old new : State) (line : List ℕ) (says : Result SignatureAsked Reply) (rose : Type 0) (reply : Reply)
     → ((k : PublicKey) (a : SignatureAlgorithm) (m s : List ℕ) → signs k a m s → other k a m s)
     → Applies signs old line says rose (Ok reply) new → Applies other old line says rose (Ok reply) new
 applies_for signs other old new line (Ok a) rose reply good (c, signed, entry, is, after) =

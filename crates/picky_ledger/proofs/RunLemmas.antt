@@ -7,18 +7,18 @@ use Rattle.std.proofs.lemmas.List.{drop_all, length-append}
 use Rattle.std.specs.{Option.{ok_or}, Str.{IsUtf8}}
 use Rattle.picky_wire_base.specs.Outcome.{and_then, map_err, map_ok}
 use Rattle.picky_input.specs.Extent.{Anywhere, Extent, LeavesAt, PastLimit, ReadsInput, ToEnd, ToFault, Untouched}
-use Rattle.picky_input.specs.{Input.{input_limit}, SourceText.{Reads, TakesText, text_of}}
+use Rattle.picky_input.specs.{Input.{input_limit}, SourceText.{ReadsSourceText, TakesText, source_text_of}}
 use Rattle.picky_input.specs.declared.source_text.SourceError.{SourceError}
 use Rattle.picky_input.specs.declared.source_text.SourceError.TheVariants as source
 use Rattle.picky_input.proofs.TextLaws.{is_source_text, no_text_exactly, some_input, text_err, too_long_exactly}
 use Rattle.picky_wire.specs.Count.{Rose}
 use Rattle.picky_wire_base.specs.declared.error.SizeError.TheVariants as sizes
 use Rattle.picky_keys.specs.LineRefusal.{is_short, line_meaning}
-use Rattle.picky_suite.specs.Signs.{Relation}
+use Rattle.picky_suite.specs.Signs.{SignRelation}
 use Rattle.picky_issuing.specs.{Parts.{cut, mark_lf}, Steps.{some_then}}
 use Rattle.picky_issuing.proofs.PartsLaws.{cut_both_ways}
-use Rattle.picky_ledger.specs.LedgerText.{ledger_in, ledger_text, read, written}
-use Rattle.picky_ledger.specs.Run.{Asked, Ends, Parts, Stops, asked, of_parts, of_text, parts_in, moment, source_status}
+use Rattle.picky_ledger.specs.LedgerText.{ledger_in, ledger_text, read, ledger_written}
+use Rattle.picky_ledger.specs.Run.{LedgerAsked, Ends, Parts, Stops, asked, of_parts, of_text, parts_in, moment, source_status}
 use Rattle.picky_ledger.specs.Run.{text_status}
 use Rattle.picky_ledger.specs.{State.{IsLedger, State}, declared.ledger.LedgerTextError.{LedgerTextError}}
 use Rattle.picky_ledger.specs.declared.status.LedgerStatus.{LedgerStatus}
@@ -93,15 +93,15 @@ unfit_text input fresh text short =
 
 -- ---- what a source asks for
 
-pub asked_by_text : (fresh input text : List ℕ) → text_of input ≡ Ok text → asked fresh input ≡ of_text fresh text
+pub asked_by_text : (fresh input text : List ℕ) → source_text_of input ≡ Ok text → asked fresh input ≡ of_text fresh text
 unfolding asked
 asked_by_text fresh input text is = ap (λ t. and_then (map_err source_status t) (of_text fresh)) is
 
-asked_without : (fresh input : List ℕ) (e : SourceError) → text_of input ≡ Err e → asked fresh input ≡ Err (source_status e)
+asked_without : (fresh input : List ℕ) (e : SourceError) → source_text_of input ≡ Err e → asked fresh input ≡ Err (source_status e)
 unfolding asked
 asked_without fresh input e is = ap (λ t. and_then (map_err source_status t) (of_text fresh)) is
 
-text_refused : (bytes : List ℕ) (e : SourceError) → text_of bytes ≡ Err e → IsReason bytes (source_status e)
+text_refused : (bytes : List ℕ) (e : SourceError) → source_text_of bytes ≡ Err e → IsReason bytes (source_status e)
 text_refused bytes e is = elim (text_err bytes e is) [
   | inl long ↦ subst (λ x. IsReason bytes (source_status x)) (sym long) ((too_long_exactly bytes).0 (is ∙ ap Err long))
   | inr other ↦ subst (λ x. IsReason bytes (source_status x)) (sym other) ((no_text_exactly bytes).0 (is ∙ ap Err other))
@@ -110,7 +110,7 @@ text_refused bytes e is = elim (text_err bytes e is) [
 asks_none : (fresh input : List ℕ) → IfErr (asked fresh input) (IsReason input)
 unfolding asked
 asks_none fresh input =
-    named_then (IsReason input) source_status (text_of input) (of_text fresh) (text_refused input) (λ text says.
+    named_then (IsReason input) source_status (source_text_of input) (of_text fresh) (text_refused input) (λ text says.
     let is = is_source_text input text says in
     unfit_text input fresh text (subst (λ t. length t ≤ input_limit) (sym is.1) is.0.short))
 
@@ -133,7 +133,7 @@ refused_as_no_text fresh input = (
 
 -- ---- why there is no text to write
 
-module _ (signs : Relation) (fresh input : List ℕ) (read_rose rose : Type 0) where
+module _ (signs : SignRelation) (fresh input : List ℕ) (read_rose rose : Type 0) where
   none_stops : (status : LedgerStatus) → asked fresh input ≡ Err status → IsReason input status
       → Stops signs fresh input read_rose rose status
   none_stops statuses.BadInput failed is = failed
@@ -145,18 +145,18 @@ module _ (signs : Relation) (fresh input : List ℕ) (read_rose rose : Type 0) w
   none_stops status failed is = absurd is
 
   -- the text asks for nothing
-  pub text_stops : (text : List ℕ) (status : LedgerStatus) → text_of input ≡ Ok text
+  pub text_stops : (text : List ℕ) (status : LedgerStatus) → source_text_of input ≡ Ok text
       → (status ≡ statuses.NoMemory) ⊎ (of_text fresh text ≡ Err status) → Stops signs fresh input read_rose rose status
   text_stops text status is (inl want) = subst (Stops signs fresh input read_rose rose) (sym want) tt
   text_stops text status is (inr failed) =
       let says = asked_by_text fresh input text is ∙ failed in none_stops status says (reason_is fresh input status says)
 
   -- there is no text
-  pub source_stops : (e : SourceError) (status : LedgerStatus) → status ≡ source_status e → Reads (Err e) input
+  pub source_stops : (e : SourceError) (status : LedgerStatus) → status ≡ source_status e → ReadsSourceText (Err e) input
       → (e ≡ source.ReadFault → read_rose) → Stops signs fresh input read_rose rose status
   source_stops e status is reads count = subst (Stops signs fresh input read_rose rose) (sym is) (go e reads count)
     where
-      go : (x : SourceError) → Reads (Err x) input → (x ≡ source.ReadFault → read_rose)
+      go : (x : SourceError) → ReadsSourceText (Err x) input → (x ≡ source.ReadFault → read_rose)
           → Stops signs fresh input read_rose rose (source_status x)
       go source.ReadFault reads count = count refl
       go source.NoMemory reads count = tt
@@ -171,14 +171,14 @@ module _ (signs : Relation) (fresh input : List ℕ) (read_rose rose : Type 0) w
   text_comes (Err status) is = is
 
 -- of a source that doesn't tell its bytes there are some that are refused so
-pub some_stop : (signs : Relation) (fresh : List ℕ) (read_rose rose : Type 0) (e : SourceError) (status : LedgerStatus)
+pub some_stop : (signs : SignRelation) (fresh : List ℕ) (read_rose rose : Type 0) (e : SourceError) (status : LedgerStatus)
     → status ≡ source_status e → (e ≡ source.ReadFault → read_rose)
     → (input : List ℕ) × Stops signs fresh input read_rose rose status
 some_stop signs fresh read_rose rose e status is count =
     let input = some_input e in (input.0, source_stops signs fresh input.0 read_rose rose e status is input.1 count)
 
 -- a run that has no text to write ends so
-module _ (signs : Relation) (fresh input : List ℕ) (tells : Type 0) (before after : List ℕ)
+module _ (signs : SignRelation) (fresh input : List ℕ) (tells : Type 0) (before after : List ℕ)
     (source_before source_after sink_before sink_after signer_before signer_after : ℕ) where
   pub stops_ends : (status : LedgerStatus)
       → Stops signs fresh input (Rose source_before source_after) (Rose signer_before signer_after) status
@@ -190,7 +190,7 @@ module _ (signs : Relation) (fresh input : List ℕ) (tells : Type 0) (before af
 
 -- ---- what is answered for what is asked
 
-written_says : (l : State) (text : List ℕ) → written l ≡ Ok text → (length (ledger_text l) < 2 ^ 32) × (text ≡ ledger_text l)
+written_says : (l : State) (text : List ℕ) → ledger_written l ≡ Ok text → (length (ledger_text l) < 2 ^ 32) × (text ≡ ledger_text l)
 written_says l text = go (is_short (ledger_text l)) refl
   where
     go : (short : Bool) → is_short (ledger_text l) ≡ short → (if short then Ok (ledger_text l) else Err sizes.TooLong) ≡ Ok text
@@ -198,12 +198,12 @@ written_says l text = go (is_short (ledger_text l)) refl
     go true is same = (grind (arith, nat_tests, is), sym (cc same))
     go false is same = absurd (cc same)
 
-module _ (signs : Relation) (fresh input : List ℕ) (given : Asked) (rose : Type 0) (new : State) (replies : List ℕ)
+module _ (signs : SignRelation) (fresh input : List ℕ) (given : LedgerAsked) (rose : Type 0) (new : State) (replies : List ℕ)
     (answers : AnswersRequests signs given.issuer.inner_key given.ledger fresh given.requests rose (Ok replies) new)
     (asks : asked fresh input ≡ Ok given) where
   -- the new ledger's text, the mark's line and the lines of the replies
   pub joined_comes : {A : Type 0} (view : A → List ℕ) (text : List ℕ) (result : Result A LedgerStatus) → IsLedger given.ledger
-      → written new ≡ Ok text → IfOk result (λ out. view out ≡ text ++ (mark_lf ++ replies))
+      → ledger_written new ≡ Ok text → IfOk result (λ out. view out ≡ text ++ (mark_lf ++ replies))
       → IfErr result (λ status. status ≡ statuses.NoMemory) → Comes signs fresh input ⊥ rose (map_ok view result)
   joined_comes view text (Ok out) ledger is joined want =
       let says = written_says new text is in

@@ -46,8 +46,8 @@ abbrev pub if_text : (bytes : List ℕ) → Option (List ℕ)
 if_text bytes = if is_utf8 bytes then Some bytes else None
 
 -- the text that a word says in base64
-unfoldable pub text_in : (word : List ℕ) → Option (List ℕ)
-text_in word = some_then (decoded word) if_text
+unfoldable pub base64_text_in : (word : List ℕ) → Option (List ℕ)
+base64_text_in word = some_then (decoded word) if_text
 
 -- what is asked is asked under this id
 abbrev pub is_named : (id : List ℕ) → Option CertRequestLine → Bool
@@ -60,7 +60,7 @@ if_named id line = if is_named id (request_in line) then Some line else None
 
 -- the request line with this id that a word says in base64
 unfoldable pub request_under : (id word : List ℕ) → Option (List ℕ)
-request_under id word = some_then (text_in word) (if_named id)
+request_under id word = some_then (base64_text_in word) (if_named id)
 
 -- the certificate that the text says, where it says it in the one spelling
 abbrev pub if_canonical : (text : List ℕ) → SshCertificate → Option SshCertificate

@@ -30,8 +30,8 @@ unfoldable pub ledger_text : State → List ℕ
 ledger_text l = next_line l.next ++ flat_map entry_line l.entries
 
 -- the same, where a length of the wire can say its length
-abbrev pub written : State → Result (List ℕ) SizeError
-written l = if is_short (ledger_text l) then Ok (ledger_text l) else Err sizes.TooLong
+abbrev pub ledger_written : State → Result (List ℕ) SizeError
+ledger_written l = if is_short (ledger_text l) then Ok (ledger_text l) else Err sizes.TooLong
 
 -- ---- reading
 
@@ -45,12 +45,12 @@ before_lf (b ∷ c ∷ bs) = option_map (λ front. b ∷ front) (before_lf (c �
 abbrev pub if_some : ℕ → Option ℕ
 if_some n = if nat_lt 0 n then Some n else None
 
-abbrev pub after_word : (text : List ℕ) → Option (List ℕ)
-after_word text = if bytes_eq (take 5 text) next_word then Some (drop 5 text) else None
+abbrev pub after_next_word : (text : List ℕ) → Option (List ℕ)
+after_next_word text = if bytes_eq (take 5 text) next_word then Some (drop 5 text) else None
 
 -- what stands before the LF of the first line says
 abbrev pub next_said : (front : List ℕ) → Option ℕ
-next_said front = some_then (after_word front) (λ number. some_then (number_named number) if_some)
+next_said front = some_then (after_next_word front) (λ number. some_then (number_named number) if_some)
 
 unfoldable pub next_in : (line : List ℕ) → Option ℕ
 next_in line = some_then (before_lf line) next_said

@@ -1,16 +1,16 @@
 -- A run: what it writes for the bytes of its source, and how it ends.
-use Rattle.std.specs.Prelude.{◌≡◌, ◌<◌, ◌≤◌, ◌^◌, ◌*◌, ◌++◌, ◌==◌, ℕ, List, length, take, filter}
+use Rattle.std.specs.Prelude.{◌≡◌, ◌<◌, ◌≤◌, ◌^◌, ◌*◌, ◌++◌, ◌==◌, ℕ, List, length, filter}
 use Rattle.std.specs.Prelude.{nat_lt, not, Option, Some, Result, Ok, Err, if◌then◌else◌}
 use Rattle.std.specs.Option.{ok_or}
 use Rattle.picky_wire_base.specs.Outcome.{and_then, map_err}
 use Rattle.picky_text.specs.Lines.{lines}
 use Rattle.picky_wire.specs.Count.{Rose}
-use Rattle.picky_suite.specs.Signs.{Relation}
+use Rattle.picky_suite.specs.Signs.{SignRelation}
 use Rattle.picky_keys.specs.declared.key.SshPublicKey.{SshPublicKey}
 use Rattle.picky_keys.specs.LineRefusal.{line_meaning}
 pub use Rattle.picky_input.specs.Extent.{LeavesDevice, ReadsInput, WritesLast}
-use Rattle.picky_input.specs.Extent.{Anywhere, Extent, PastLimit, ToEnd, ToFault}
-use Rattle.picky_input.specs.SourceText.{text_of}
+use Rattle.picky_input.specs.Extent.{Anywhere, Extent, PastLimit, ToEnd, ToFault, WritesPrefix}
+use Rattle.picky_input.specs.SourceText.{source_text_of}
 use Rattle.picky_input.specs.declared.source_text.SourceError.{SourceError}
 use Rattle.picky_input.specs.declared.source_text.SourceError.TheVariants as source
 use Rattle.picky_issuing.specs.Parts.{cut, mark_lf}
@@ -22,7 +22,7 @@ use Rattle.picky_ledger.specs.declared.status.LedgerStatus.{LedgerStatus}
 use Rattle.picky_ledger.specs.declared.status.LedgerStatus.TheVariants as statuses
 use Rattle.picky_ledger.specs.LedgerText.{ledger_text, read}
 use Rattle.picky_ledger.specs.Replies.{replies_text}
-use Rattle.picky_ledger.specs.Runs.{FailsAt, IsAfter, NoneAsks, Runs, nonce_len}
+use Rattle.picky_ledger.specs.Runs.{FailsAt, IsAfter, NoneSigns, Runs, nonce_len}
 use Rattle.picky_ledger.specs.State.{State}
 
 -- ---- what the bytes of a source say
@@ -46,7 +46,7 @@ abbrev pub requests_in : (part : List ℕ) → List (List ℕ)
 requests_in part = filled_lines (lines part)
 
 -- what is asked for: a ledger, who issues, and the lines of requests
-pub record Asked : Type 0 where
+pub record LedgerAsked : Type 0 where
   pub ledger : State
   pub issuer : SshPublicKey
   pub requests : List (List ℕ)
@@ -64,22 +64,22 @@ text_status texts.TooLong = statuses.TooLong
 text_status texts.NoMemory = statuses.NoMemory
 
 -- there are enough fresh bytes for the requests
-abbrev pub if_fresh : (fresh : List ℕ) → Asked → Result Asked LedgerStatus
+abbrev pub if_fresh : (fresh : List ℕ) → LedgerAsked → Result LedgerAsked LedgerStatus
 if_fresh fresh a =
     if nat_lt (length fresh) (nonce_len * length a.requests) then Err statuses.FreshTooShort else Ok a
 
-abbrev pub of_parts : (fresh : List ℕ) → Parts → Result Asked LedgerStatus
+abbrev pub of_parts : (fresh : List ℕ) → Parts → Result LedgerAsked LedgerStatus
 of_parts fresh p =
     and_then (map_err text_status (read p.ledger)) (λ l.
     and_then (map_err statuses.BadIssuer (line_meaning p.issuer)) (λ issuer.
     if_fresh fresh (record { ledger = l; issuer = issuer; requests = requests_in p.requests })))
 
-abbrev pub of_text : (fresh text : List ℕ) → Result Asked LedgerStatus
+abbrev pub of_text : (fresh text : List ℕ) → Result LedgerAsked LedgerStatus
 of_text fresh text = and_then (ok_or (parts_in text) statuses.BadInput) (of_parts fresh)
 
 -- what the bytes ask for, or the status that says why they ask for nothing
-unfoldable pub asked : (fresh input : List ℕ) → Result Asked LedgerStatus
-asked fresh input = and_then (map_err source_status (text_of input)) (of_text fresh)
+unfoldable pub asked : (fresh input : List ℕ) → Result LedgerAsked LedgerStatus
+asked fresh input = and_then (map_err source_status (source_text_of input)) (of_text fresh)
 
 -- ---- what is written
 
@@ -89,10 +89,10 @@ output l lines replies = ledger_text l ++ (mark_lf ++ replies_text lines replies
 
 -- the requests were answered, each in its turn, and the text says the new ledger, whose text a length of the wire can count, and the
 -- replies
-pub record Gives (signs : Relation) (fresh input text : List ℕ) : Type 0 where
+pub record IsAnswerTo (signs : SignRelation) (fresh input text : List ℕ) : Type 0 where
   pub new : State
   pub replies : List Reply
-  pub given : Asked
+  pub given : LedgerAsked
   pub asks : asked fresh input ≡ Ok given
   pub runs : Runs signs given.issuer.inner_key given.ledger fresh given.requests new replies
   pub leaves : IsAfter signs given.issuer.inner_key given.ledger given.requests new replies
@@ -100,36 +100,30 @@ pub record Gives (signs : Relation) (fresh input text : List ℕ) : Type 0 where
   pub is : text ≡ output new given.requests replies
 
 -- the new ledger's text is longer
-pub record IsTooLong (signs : Relation) (fresh input : List ℕ) : Type 0 where
+pub record IsLedgerTooLong (signs : SignRelation) (fresh input : List ℕ) : Type 0 where
   pub new : State
   pub replies : List Reply
-  pub given : Asked
+  pub given : LedgerAsked
   pub asks : asked fresh input ≡ Ok given
   pub runs : Runs signs given.issuer.inner_key given.ledger fresh given.requests new replies
   pub long : 2 ^ 32 ≤ length (ledger_text new)
 
 -- the device failed, which was asked for a request of the source's
-pub record IsOutsideFault (signs : Relation) (fresh input : List ℕ) (rose : Type 0) : Type 0 where
-  pub given : Asked
+pub record IsOutsideFault (signs : SignRelation) (fresh input : List ℕ) (rose : Type 0) : Type 0 where
+  pub given : LedgerAsked
   pub asks : asked fresh input ≡ Ok given
   pub fails : FailsAt signs given.issuer.inner_key given.ledger fresh given.requests rose
 
 -- no request of the source is to be signed
 abbrev pub AsksNothing : (fresh input : List ℕ) → Type 0
 AsksNothing fresh input =
-    (given : Asked) → asked fresh input ≡ Ok given → NoneAsks given.issuer.inner_key given.ledger fresh given.requests
+    (given : LedgerAsked) → asked fresh input ≡ Ok given → NoneSigns given.issuer.inner_key given.ledger fresh given.requests
 
 -- the whole text was written after what there was
-pub record WritesAnswer (signs : Relation) (fresh input before after : List ℕ) : Type 0 where
+pub record WritesAnswer (signs : SignRelation) (fresh input before after : List ℕ) : Type 0 where
   pub text : List ℕ
-  pub gives : Gives signs fresh input text
+  pub gives : IsAnswerTo signs fresh input text
   pub written : after ≡ before ++ text
-
--- a prefix of the text was, and not the whole
-pub record WritesPrefix (text before after : List ℕ) : Type 0 where
-  pub len : ℕ
-  pub less : len < length text
-  pub written : after ≡ before ++ take len text
 
 -- ---- how a run ends
 
@@ -141,13 +135,13 @@ extent_of statuses.NoMemory = Anywhere
 extent_of status = ToEnd
 
 -- why there is no text to write: memory ran out, a device failed, the new ledger's text is too long, or the bytes ask for nothing
-abbrev pub Stops : Relation → (fresh input : List ℕ) → (read_rose signer_rose : Type 0) → LedgerStatus → Type 0
+abbrev pub Stops : SignRelation → (fresh input : List ℕ) → (read_rose signer_rose : Type 0) → LedgerStatus → Type 0
 Stops signs fresh input read_rose signer_rose statuses.Done = ⊥
 Stops signs fresh input read_rose signer_rose statuses.WriteFault = ⊥
 Stops signs fresh input read_rose signer_rose statuses.NoMemory = Unit {0}
 Stops signs fresh input read_rose signer_rose statuses.ReadFault = read_rose
 Stops signs fresh input read_rose signer_rose statuses.OutsideFault = IsOutsideFault signs fresh input signer_rose
-Stops signs fresh input read_rose signer_rose statuses.TooLong = IsTooLong signs fresh input
+Stops signs fresh input read_rose signer_rose statuses.TooLong = IsLedgerTooLong signs fresh input
 Stops signs fresh input read_rose signer_rose status = asked fresh input ≡ Err status
 
 -- what was written, and the counts of faults, at one moment
@@ -167,11 +161,11 @@ moment written source_faults sink_faults signer_faults = record {
 
 -- what a status says of a run over these bytes: that the whole text was written, to a sink that tells; that a prefix of it was before
 -- a fault; or why there is no text
-abbrev pub Ends : Relation → (fresh input : List ℕ) → (tells : Type 0) → (old new : Moment) → LedgerStatus → Type 0
+abbrev pub Ends : SignRelation → (fresh input : List ℕ) → (tells : Type 0) → (old new : Moment) → LedgerStatus → Type 0
 Ends signs fresh input tells old new statuses.Done =
-    (text : List ℕ) × Gives signs fresh input text × (tells → new.written ≡ old.written ++ text)
+    (text : List ℕ) × IsAnswerTo signs fresh input text × (tells → new.written ≡ old.written ++ text)
 Ends signs fresh input tells old new statuses.WriteFault =
-    (text : List ℕ) × Gives signs fresh input text × (tells → WritesPrefix text old.written new.written)
+    (text : List ℕ) × IsAnswerTo signs fresh input text × (tells → WritesPrefix text old.written new.written)
     × Rose old.sink_faults new.sink_faults
 Ends signs fresh input tells old new status =
     Stops signs fresh input (Rose old.source_faults new.source_faults) (Rose old.signer_faults new.signer_faults) status

@@ -3,7 +3,7 @@ use Rattle.std.specs.Prelude.{◌≡◌, ◌<◌, ◌*◌, ◌^◌, ◌++◌, �
 use Rattle.std.specs.Prelude.{Some, Ok, Err}
 use Rattle.std.specs.List.{AllByRecursion}
 use Rattle.picky_keys.specs.declared.key.SshBasePublicKey.{SshBasePublicKey}
-use Rattle.picky_suite.specs.Signs.{Relation}
+use Rattle.picky_suite.specs.Signs.{SignRelation}
 use Rattle.picky_cert_builder.specs.Draft.{IsSigned, Unsigned, requested}
 use Rattle.picky_request.specs.Builder.{asked_of}
 use Rattle.picky_request.specs.Request.{request_in}
@@ -11,7 +11,7 @@ use Rattle.picky_request.specs.declared.request.CertRequestLine.{CertRequestLine
 use Rattle.picky_ledger.specs.declared.entry.Entry.{Entry}
 use Rattle.picky_ledger.specs.declared.reply.Reply.{Reply}
 use Rattle.picky_ledger.specs.declared.reply.Reply.TheVariants as answers
-use Rattle.picky_ledger.specs.Apply.{Applies, Asked, Terms, judged_request_line}
+use Rattle.picky_ledger.specs.Apply.{Applies, SignatureAsked, IssuerTerms, judged_request_line}
 use Rattle.picky_ledger.specs.LedgerText.{ledger_in, ledger_text}
 use Rattle.picky_ledger.specs.State.{IsLedger, State}
 
@@ -19,16 +19,16 @@ use Rattle.picky_ledger.specs.State.{IsLedger, State}
 abbrev pub nonce_len : ℕ
 nonce_len = 32
 
-abbrev pub terms : SshBasePublicKey → (fresh : List ℕ) → Terms
-terms issuer fresh = record { issuer = issuer; nonce = take nonce_len fresh }
+abbrev pub terms_by : SshBasePublicKey → (fresh : List ℕ) → IssuerTerms
+terms_by issuer fresh = record { issuer = issuer; nonce = take nonce_len fresh }
 
 -- one request
-unfoldable pub Step : Relation → SshBasePublicKey → State → (fresh line : List ℕ) → State → Reply → Type 0
+unfoldable pub Step : SignRelation → SshBasePublicKey → State → (fresh line : List ℕ) → State → Reply → Type 0
 Step signs issuer old fresh line new reply =
-    Applies signs old line (judged_request_line (terms issuer fresh) old line) ⊥ (Ok reply) new
+    Applies signs old line (judged_request_line (terms_by issuer fresh) old line) ⊥ (Ok reply) new
 
 -- the requests of these lines in order, each with its reply
-abbrev pub Runs : Relation → SshBasePublicKey → State → (fresh : List ℕ) → (lines : List (List ℕ)) → State → List Reply
+abbrev pub Runs : SignRelation → SshBasePublicKey → State → (fresh : List ℕ) → (lines : List (List ℕ)) → State → List Reply
     → Type 0
 Runs signs issuer old fresh [] new replies = (new ≡ old) × (replies ≡ [])
 Runs signs issuer old fresh (line ∷ more) new replies =
@@ -36,7 +36,7 @@ Runs signs issuer old fresh (line ∷ more) new replies =
     × Runs signs issuer mid (drop nonce_len fresh) more new later × (replies ≡ reply ∷ later)
 
 -- the device failed, and counted it, for the request of a line behind those of which each has its reply
-pub record FailsAt (signs : Relation) (issuer : SshBasePublicKey) (old : State) (fresh : List ℕ) (lines : List (List ℕ))
+pub record FailsAt (signs : SignRelation) (issuer : SshBasePublicKey) (old : State) (fresh : List ℕ) (lines : List (List ℕ))
     (rose : Type 0) : Type 0 where
   pub front : List (List ℕ)
   pub line : List ℕ
@@ -47,18 +47,18 @@ pub record FailsAt (signs : Relation) (issuer : SshBasePublicKey) (old : State) 
   pub runs : Runs signs issuer old fresh front mid replies
   pub left : List ℕ
   pub nonce : left ≡ drop (nonce_len * length front) fresh
-  pub asked : Asked
-  pub asks : judged_request_line (terms issuer left) mid line ≡ Ok asked
+  pub asked : SignatureAsked
+  pub asks : judged_request_line (terms_by issuer left) mid line ≡ Ok asked
   pub fault : rose
 
 -- no request of these lines is to be signed: each has its reply, and the ledger stays
-abbrev pub NoneAsks : SshBasePublicKey → State → (fresh : List ℕ) → (lines : List (List ℕ)) → Type 0
-NoneAsks issuer l fresh [] = Unit {0}
-NoneAsks issuer l fresh (line ∷ more) =
-    (reply : Reply) × (judged_request_line (terms issuer fresh) l line ≡ Err reply) × NoneAsks issuer l (drop nonce_len fresh) more
+abbrev pub NoneSigns : SshBasePublicKey → State → (fresh : List ℕ) → (lines : List (List ℕ)) → Type 0
+NoneSigns issuer l fresh [] = Unit {0}
+NoneSigns issuer l fresh (line ∷ more) =
+    (reply : Reply) × (judged_request_line (terms_by issuer fresh) l line ≡ Err reply) × NoneSigns issuer l (drop nonce_len fresh) more
 
 -- the entry is the certificate of one of the lines, under the entry's serial, signed by the device
-pub record IsIssuedFor (signs : Relation) (issuer : SshBasePublicKey) (lines : List (List ℕ)) (e : Entry) : Type 0 where
+pub record IsIssuedFor (signs : SignRelation) (issuer : SshBasePublicKey) (lines : List (List ℕ)) (e : Entry) : Type 0 where
   pub among : Contains lines e.request
   pub asks : CertRequestLine
   pub request : request_in e.request ≡ Some asks
@@ -86,7 +86,7 @@ StayIssued (line ∷ lines) (reply ∷ more) =
 -- the ledger after the requests of these lines: the entries that it had stay in front, and each behind them was issued for one of
 -- the lines; a line that has its entry is answered with the serial of that; no two entries have one serial or one id; and its text
 -- is read back
-pub record IsAfter (signs : Relation) (issuer : SshBasePublicKey) (old : State) (lines : List (List ℕ)) (new : State)
+pub record IsAfter (signs : SignRelation) (issuer : SshBasePublicKey) (old : State) (lines : List (List ℕ)) (new : State)
     (answered : List Reply) : Type 0 where
   pub more : List Entry
   pub stay : new.entries ≡ old.entries ++ more

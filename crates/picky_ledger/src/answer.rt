@@ -6,10 +6,10 @@ ghost use Rattle.picky_keys.specs.declared.public_key.PublicKey.{PublicKey};
 ghost use Rattle.picky_keys.specs.declared.algorithm.SignatureAlgorithm.{SignatureAlgorithm as Algorithm};
 ghost use Rattle.picky_wire_base.specs.Outcome.{map_ok};
 ghost use Rattle.picky_wire.specs.Count.{Rose};
-ghost use Rattle.picky_input.specs.SourceText.{text_of};
+ghost use Rattle.picky_input.specs.SourceText.{source_text_of};
 ghost use Rattle.picky_issuing.specs.Parts.{mark_lf};
 ghost use Rattle.picky_ledger.specs.Run.{asked, AsksNothing, LeavesDevice, ReadsInput};
-ghost use Rattle.picky_ledger.specs.Runs.{nonce_len, NoneAsks};
+ghost use Rattle.picky_ledger.specs.Runs.{nonce_len, NoneSigns};
 ghost use Rattle.picky_ledger.specs.inner.Comes.{extent_at, Comes};
 ghost use Rattle.picky_ledger.specs.inner.Shown.{given_shown};
 
@@ -63,12 +63,12 @@ fn answer_to<G: Signer>(
     signer: &mut G,
     text: &str,
 ) -> Result<String, LedgerStatus>
-    ensures comes { (input : List ℕ) → text_of input ≡ Ok text.now → Comes (G.signs signer.old) fresh.now input
+    ensures comes { (input : List ℕ) → source_text_of input ≡ Ok text.now → Comes (G.signs signer.old) fresh.now input
         ⊥ (Rose (G.faults signer.old) (G.faults signer.new)) (map_ok (λ text. string_bytes text) result) }
     ensures signer { LeavesDevice
         ((k : PublicKey) (a : Algorithm) (m s : List ℕ) → G.signs signer.new k a m s ↔ G.signs signer.old k a m s)
         G.faults (result ≡ Err LedgerStatus.OutsideFault)
-        ((input : List ℕ) × (text_of input ≡ Ok text.now) × AsksNothing fresh.now input) signer.old signer.new }
+        ((input : List ℕ) × (source_text_of input ≡ Ok text.now) × AsksNothing fresh.now input) signer.old signer.new }
 {
     match given_in(alloc, fresh, text) {
         Ok(given) => answer_given(alloc, given, fresh, signer),
@@ -89,7 +89,7 @@ fn answer_given<G: Signer>(
     ensures signer { LeavesDevice
         ((k : PublicKey) (a : Algorithm) (m s : List ℕ) → G.signs signer.new k a m s ↔ G.signs signer.old k a m s)
         G.faults (result ≡ Err LedgerStatus.OutsideFault)
-        (NoneAsks given.entry.issuer.inner_key given.entry.ledger fresh.now (given_shown given.entry).requests) signer.old signer.new }
+        (NoneSigns given.entry.issuer.inner_key given.entry.ledger fresh.now (given_shown given.entry).requests) signer.old signer.new }
 {
     let LedgerInput {
         mut ledger,

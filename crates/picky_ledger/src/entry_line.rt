@@ -7,7 +7,7 @@ ghost use Rattle.picky_cert.specs.Line.{IsReadBackCertificate};
 ghost use Rattle.picky_cert.specs.Spelled.{line_of};
 ghost use Rattle.picky_request.specs.Request.{request_in};
 ghost use Rattle.picky_ledger.specs.Entry.{certificate_in, entry_in, entry_line, front_of, if_text, is_named};
-ghost use Rattle.picky_ledger.specs.Entry.{request_under, text_in, IsEntry};
+ghost use Rattle.picky_ledger.specs.Entry.{request_under, base64_text_in, IsEntry};
 
 use crate::entry::Entry;
 use base64::engine::general_purpose::STANDARD;
@@ -60,10 +60,10 @@ fn request_of(alloc: Global, id: &str, word: &str) -> Result<Option<Text>, NoMem
 }
 
 /// The text that a word says in base64. Refuses: `NoMemory`.
-#[tactic(auto, unfolding(crate::specs::Entry::text_in), using(picky_cert::proofs::LineLemmas::no_longer_than_base64))]
+#[tactic(auto, unfolding(crate::specs::Entry::base64_text_in), using(picky_cert::proofs::LineLemmas::no_longer_than_base64))]
 fn decoded_text(alloc: Global, word: &str) -> Result<Option<Text>, NoMemory>
     requires { length word.now < 2 ^ 32 }
-    ensures { IfOk result (λ text. text ≡ text_in word.now) }
+    ensures { IfOk result (λ text. text ≡ base64_text_in word.now) }
 {
     match decode(alloc, word.as_bytes()) {
         Ok(bytes) => Ok(into_text(bytes)),

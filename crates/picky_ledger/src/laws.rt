@@ -5,7 +5,7 @@ ghost use Rattle.std.specs.Str.{IsUtf8};
 ghost use Rattle.picky_keys.specs.declared.key.SshBasePublicKey.{SshBasePublicKey as IssuerKey};
 ghost use Rattle.picky_wire_base.specs.Equality.{IsEquality};
 ghost use Rattle.picky_input.specs.Input.{input_limit};
-ghost use Rattle.picky_ledger.specs.Apply.{judged_request_line, Terms};
+ghost use Rattle.picky_ledger.specs.Apply.{judged_request_line, IssuerTerms};
 ghost use Rattle.picky_ledger.specs.LedgerText.{ledger_in, ledger_text};
 ghost use Rattle.picky_ledger.specs.Run.{asked};
 ghost use Rattle.picky_ledger.specs.Runs.{IsAfter, Runs};
@@ -37,7 +37,7 @@ pub fn requests_leave_a_ledger<G: Signer>(_signer: &G)
 
 /// A line that a ledger has is answered with its serial again, whoever issues and whatever the nonce.
 pub fn kept_line_is_answered_again()
-    ensures { (t : Terms) (l : State) (front more : List AnEntry) (e : AnEntry) → IsLedger l → l.entries ≡ front ++ e ∷ more
+    ensures { (t : IssuerTerms) (l : State) (front more : List AnEntry) (e : AnEntry) → IsLedger l → l.entries ≡ front ++ e ∷ more
         → judged_request_line t l e.request ≡ Err (replies.Again e.serial) }
 {}
 

@@ -2,7 +2,7 @@
 
 ghost use Rattle.std.specs.Prelude.{◌≡◌, ◌≢◌, ◌≤◌, ◌<◌, ◌^◌, ◌++◌, List, length, string_bytes, Err, IfOk, OnOk};
 ghost use Rattle.picky_wire_base.specs.Gives.{Gives};
-ghost use Rattle.picky_ledger.specs.LedgerText.{ledger_text, next_line, read, written};
+ghost use Rattle.picky_ledger.specs.LedgerText.{ledger_text, next_line, read, ledger_written};
 ghost use Rattle.picky_ledger.specs.State.{IsLedger, State};
 
 use crate::entry::Entry;
@@ -59,7 +59,7 @@ impl Ledger {
 
     /// Its text. Refuses: `TooLong`, where that has 2^32 bytes or more.
     pub fn to_string(&self, alloc: Global) -> Result<Text, SizeError>
-        ensures { Gives SizeError.NoMemory (λ text. text) result (written self.now) }
+        ensures { Gives SizeError.NoMemory (λ text. text) result (ledger_written self.now) }
     {
         match self.text(alloc) {
             Ok(text) => {

@@ -1,4 +1,6 @@
 //! A ledger of a certificate authority: which requests it was given, and the certificate that it issued for each.
+//!
+//! Read first: `specs/Runs.antt` and `specs/LedgerText.antt`; then `src/run.rt`.
 #![tactic(auto)]
 
 mod answer;

@@ -7,7 +7,7 @@ ghost use Rattle.picky_wire_base.specs.Outcome.{map_ok};
 ghost use Rattle.picky_wire.specs.Count.{Rose};
 ghost use Rattle.picky_ledger.specs.Apply.{judged_request_line, LeavesSigner};
 ghost use Rattle.picky_ledger.specs.Run.{requests_in, LeavesDevice};
-ghost use Rattle.picky_ledger.specs.Runs.{nonce_len, NoneAsks};
+ghost use Rattle.picky_ledger.specs.Runs.{nonce_len, NoneSigns};
 ghost use Rattle.picky_ledger.specs.inner.Comes.{AnswersLine, AnswersRequests};
 
 use crate::apply::LedgerError;
@@ -38,7 +38,7 @@ pub fn answer_requests<G: Signer>(
     ensures signer { LeavesDevice
         ((k : PublicKey) (a : Algorithm) (m s : List ℕ) → G.signs signer.new k a m s ↔ G.signs signer.old k a m s)
         G.faults (result ≡ Err LedgerError.SignerFault)
-        (NoneAsks issuer.now.inner_key ledger.old fresh.now (requests_in requests.now)) signer.old signer.new }
+        (NoneSigns issuer.now.inner_key ledger.old fresh.now (requests_in requests.now)) signer.old signer.new }
 {
     let mut replies = String::new(alloc);
     let mut lines = LineReader::new(requests);

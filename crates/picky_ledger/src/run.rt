@@ -5,7 +5,7 @@ ghost use Rattle.picky_keys.specs.declared.public_key.PublicKey.{PublicKey};
 ghost use Rattle.picky_keys.specs.declared.algorithm.SignatureAlgorithm.{SignatureAlgorithm as Algorithm};
 ghost use Rattle.picky_wire.specs.Count.{Rose};
 ghost use Rattle.picky_wire.specs.Puts.{Puts};
-ghost use Rattle.picky_ledger.specs.Run.{asked, extent_of, moment, Asked, AsksNothing, Ends, LeavesDevice, ReadsInput};
+ghost use Rattle.picky_ledger.specs.Run.{asked, extent_of, moment, LedgerAsked, AsksNothing, Ends, LeavesDevice, ReadsInput};
 ghost use Rattle.picky_ledger.specs.Run.{WritesAnswer, WritesLast};
 
 use crate::answer::take_answer;
@@ -48,7 +48,7 @@ pub fn run_ledger<G: Signer, I: Source, O: Sink>(
     ensures complete { I.tells source.old → (Rose (I.faults source.old) (I.faults source.new) → ⊥)
         → (Rose (O.faults out.old) (O.faults out.new) → ⊥)
         → (Rose (G.faults signer.old) (G.faults signer.new) → ⊥)
-        → (given : Asked) → asked fresh.now (I.left source.old) ≡ Ok given
+        → (given : LedgerAsked) → asked fresh.now (I.left source.old) ≡ Ok given
         → (result ≡ LedgerStatus.Done) ⊎ ((result ≡ LedgerStatus.TooLong) ⊎ (result ≡ LedgerStatus.NoMemory)) }
 
     // What is left of the source, the sink and the signer.

@@ -1,4 +1,6 @@
 //! What the `main`s of the programs share: the words of the command line and the variables of the environment.
+//!
+//! Read first: `src/given.rt`.
 #![tactic(auto)]
 
 mod given;

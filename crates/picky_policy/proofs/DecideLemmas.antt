@@ -11,11 +11,11 @@ use Rattle.picky_keys.specs.declared.key.SshPublicKey.{SshPublicKey}
 use Rattle.picky_authorized.specs.declared.auth_option.AuthOption.{AuthOption}
 use Rattle.picky_authorized.specs.declared.entry.AuthEntry.{AuthEntry}
 use Rattle.picky_cert.specs.declared.certificate.SshCertificate.{SshCertificate}
-use Rattle.picky_policy.specs.Decided.{Accepts, Allows, Answers, Decides, Line}
-use Rattle.picky_policy.specs.Decided.{asks, decided, granted, is_kept_back, line_for, options_left}
+use Rattle.picky_policy.specs.Decided.{Accepts, Allows, IsDecisionBy, Decides, Line}
+use Rattle.picky_policy.specs.Decided.{verifier_asks, decided, granted, is_kept_back, line_for, options_left}
 use Rattle.picky_policy.specs.Demands.{Demands, no_demands}
 use Rattle.picky_policy.specs.Rules.{judged_rules}
-use Rattle.picky_policy.specs.Verifies.{Relation}
+use Rattle.picky_policy.specs.Verifies.{VerifyRelation}
 use Rattle.picky_policy.specs.declared.deciding.DecideError.{DecideError}
 use Rattle.picky_policy.specs.declared.deciding.DecideError.TheVariants as errors
 use Rattle.picky_policy.specs.declared.decision.Decision.{Decision}
@@ -30,9 +30,9 @@ use Rattle.picky_policy.proofs.RuleLaws.{rules_are, rules_say}
 
 -- ---- who is let in
 
-module _ (verifies : Relation) (entries : List AuthEntry) (user : List ℕ) (moment : Timestamp) where
+module _ (verifies : VerifyRelation) (entries : List AuthEntry) (user : List ℕ) (moment : Timestamp) where
   key_granted : (key : SshPublicKey) (grant : Grant) (found : Option Line) → line_for false key.inner_key entries ≡ found
-      → Answers (Unit {0}) (and_then (ok_or found denials.NoLine) (λ line. Ok (granted line no_demands))) (decisions.Granted grant)
+      → IsDecisionBy (Unit {0}) (and_then (ok_or found denials.NoLine) (λ line. Ok (granted line no_demands))) (decisions.Granted grant)
       → Allows verifies entries (offers.Key key) user moment grant
   key_granted key grant None says answers = absurd answers
   key_granted key grant (Some line) says answers = (line, line_found false key.inner_key entries line says, answers.0)
@@ -40,7 +40,7 @@ module _ (verifies : Relation) (entries : List AuthEntry) (user : List ℕ) (mom
   rules_granted : (c : SshCertificate) (message : List ℕ) (grant : Grant) (line : Line)
       → line_for true c.signature_key.inner_key entries ≡ Some line
       → (kept : Result Demands Denial) → judged_rules line.options c user moment ≡ kept
-      → Answers (verifies c.signature_key.inner_key c.signature message) (and_then kept (λ d. Ok (granted line d)))
+      → IsDecisionBy (verifies c.signature_key.inner_key c.signature message) (and_then kept (λ d. Ok (granted line d)))
       (decisions.Granted grant)
       → Allows verifies entries (offers.Certificate c message) user moment grant
   rules_granted c message grant line says (Ok d) is answers = (
@@ -55,7 +55,7 @@ module _ (verifies : Relation) (entries : List AuthEntry) (user : List ℕ) (mom
 
   certificate_granted : (c : SshCertificate) (message : List ℕ) (grant : Grant) (found : Option Line)
       → line_for true c.signature_key.inner_key entries ≡ found
-      → Answers (verifies c.signature_key.inner_key c.signature message)
+      → IsDecisionBy (verifies c.signature_key.inner_key c.signature message)
       (and_then (ok_or found denials.NoAuthority) (λ line.
       and_then (judged_rules line.options c user moment) (λ d. Ok (granted line d)))) (decisions.Granted grant)
       → Allows verifies entries (offers.Certificate c message) user moment grant
@@ -65,7 +65,7 @@ module _ (verifies : Relation) (entries : List AuthEntry) (user : List ℕ) (mom
 
   -- what is granted is allowed
   pub grants : (offer : Offer) (grant : Grant)
-      → Answers (Accepts verifies offer) (decided entries offer user moment) (decisions.Granted grant)
+      → IsDecisionBy (Accepts verifies offer) (decided entries offer user moment) (decisions.Granted grant)
       → Allows verifies entries offer user moment grant
   unfolding decided
   grants (offers.Key key) grant answers = key_granted key grant (line_for false key.inner_key entries) refl answers
@@ -74,21 +74,21 @@ module _ (verifies : Relation) (entries : List AuthEntry) (user : List ℕ) (mom
 
   -- and what is denied isn't
   pub denies : (offer : Offer) (why : Denial) (grant : Grant)
-      → Answers (Accepts verifies offer) (decided entries offer user moment) (decisions.Denied why)
+      → IsDecisionBy (Accepts verifies offer) (decided entries offer user moment) (decisions.Denied why)
       → Allows verifies entries offer user moment grant → ⊥
   unfolding decided
   denies (offers.Key key) why grant answers allows =
       let says : decided entries (offers.Key key) user moment ≡ Ok (granted allows.0 no_demands) =
       ap (λ o. and_then (ok_or o denials.NoLine) (λ line. Ok (granted line no_demands)))
       (line_is false key.inner_key entries allows.0 allows.1) in
-      (subst (λ r. Answers (Unit {0}) r (decisions.Denied why)) says answers).1 tt
+      (subst (λ r. IsDecisionBy (Unit {0}) r (decisions.Denied why)) says answers).1 tt
   denies (offers.Certificate c message) why grant answers allows =
       let line : Line = allows.0 in
       let says : decided entries (offers.Certificate c message) user moment ≡ Ok (granted line allows.1) =
       ap (λ o. and_then (ok_or o denials.NoAuthority) (λ l. and_then (judged_rules l.options c user moment) (λ d. Ok (granted l d))))
       (line_is true c.signature_key.inner_key entries line allows.2)
       ∙ ap (λ r. and_then r (λ d. Ok (granted line d))) (rules_are line.options c user moment allows.1 allows.3) in
-      (subst (λ r. Answers (verifies c.signature_key.inner_key c.signature message) r (decisions.Denied why)) says answers).1
+      (subst (λ r. IsDecisionBy (verifies c.signature_key.inner_key c.signature message) r (decisions.Denied why)) says answers).1
       allows.4
 
   -- so what a call grants is allowed, and what it denies isn't
@@ -116,7 +116,7 @@ module _ (verifies : Relation) (entries : List AuthEntry) (user : List ℕ) (mom
   pub key_decides : (key : SshPublicKey) (rose : Type 0) (result : Result Decision DecideError)
       → Decides (Unit {0}) (decided entries (offers.Key key) user moment) false ⊥ result
       → Decides (Accepts verifies (offers.Key key)) (decided entries (offers.Key key) user moment)
-      (asks entries (offers.Key key) user moment) rose result
+      (verifier_asks entries (offers.Key key) user moment) rose result
   key_decides key rose (Ok decision) decides = decides
   key_decides key rose (Err errors.VerifierFault) decides = absurd decides.1
   key_decides key rose (Err errors.NoMemory) decides = decides
@@ -131,7 +131,7 @@ grant_decides accepts says asked rose grant result is good granted calm =
   where
     go : (r : Result Decision DecideError) → IfOk r (λ decision. decision ≡ decisions.Granted grant)
         → r ≢ Err errors.VerifierFault → Decides accepts (Ok grant) asked rose r
-    go (Ok decision) granted calm = subst (Answers accepts (Ok grant)) (sym granted) (refl, good)
+    go (Ok decision) granted calm = subst (IsDecisionBy accepts (Ok grant)) (sym granted) (refl, good)
     go (Err errors.VerifierFault) granted calm = absurd (calm refl)
     go (Err errors.NoMemory) granted calm = (grant, (refl, good))
 

@@ -12,7 +12,7 @@ use Rattle.picky_cert_parts.specs.declared.option_type.SshCriticalOptionType.{Ss
 use Rattle.picky_cert_parts.specs.declared.option_type.SshCriticalOptionType.TheVariants.{ForceCommand, SourceAddress, VerifyRequired}
 use Rattle.picky_cert_parts.specs.declared.critical_option.SshCriticalOption.{SshCriticalOption}
 use Rattle.picky_policy.specs.Demands.{AreDemands, Demands, HasFlag, HasText, demands_in, flag_demand, flag_in, is_type, one_of}
-use Rattle.picky_policy.specs.Demands.{payloads_of, text_demand, text_in}
+use Rattle.picky_policy.specs.Demands.{payloads_of, text_demand, text_demanded}
 use Rattle.picky_policy.specs.Demands.{text_of_payload, whole}
 use Rattle.picky_policy.specs.inner.Payload.{with_payload}
 
@@ -138,8 +138,8 @@ some_first (Some x) next y is = (x, refl, is)
 pub demands_say : (options : List SshCriticalOption) (d : Demands) → demands_in options ≡ Some d → AreDemands options d
 unfolding demands_in
 demands_say options d is =
-    let command = some_first (text_in ForceCommand options) _ d is in
-    let address = some_first (text_in SourceAddress options) _ d command.2 in
+    let command = some_first (text_demanded ForceCommand options) _ d is in
+    let address = some_first (text_demanded SourceAddress options) _ d command.2 in
     let verify = some_first (flag_in VerifyRequired options) _ d address.2 in
     let made : Demands =
     record { force_command = command.0; source_address = address.0; verify_required = verify.0 } in
@@ -154,7 +154,7 @@ demands_say options d is =
 pub demands_are : (options : List SshCriticalOption) (d : Demands) → AreDemands options d → demands_in options ≡ Some d
 unfolding demands_in
 demands_are options d are =
-    ap (λ o. some_then o (λ command. some_then (text_in SourceAddress options) (λ address.
+    ap (λ o. some_then o (λ command. some_then (text_demanded SourceAddress options) (λ address.
     some_then (flag_in VerifyRequired options) (λ verify.
     Some (record { force_command = command; source_address = address; verify_required = verify })))))
     (text_is (payloads_of ForceCommand options) d.force_command are.force_command)

@@ -2,12 +2,12 @@
 use Rattle.std.proofs.Common.{◌≡◌, ◌⊎◌, ℕ, List, Ok, Err, refl, inl, inr}
 use Rattle.picky_policy.specs.Command.{Asked}
 use Rattle.picky_policy.specs.Run.{Ends, IsDone, IsOutsideFault, WritesAnswer, offered}
-use Rattle.picky_policy.specs.Verifies.{Relation}
+use Rattle.picky_policy.specs.Verifies.{VerifyRelation}
 use Rattle.picky_policy.specs.declared.offer.Offer.{Offer}
 use Rattle.picky_policy.specs.declared.status.PolicyStatus.{PolicyStatus}
 use Rattle.picky_policy.specs.declared.status.PolicyStatus.TheVariants as statuses
 
-module _ (verifies : Relation) (asked : Asked) (input : List ℕ) (read_rose rose write_rose tells : Type 0)
+module _ (verifies : VerifyRelation) (asked : Asked) (input : List ℕ) (read_rose rose write_rose tells : Type 0)
     (before after : List ℕ) where
   pub ends_done : (status : PolicyStatus) → IsDone status
       → Ends verifies asked input read_rose rose write_rose tells before after status → tells

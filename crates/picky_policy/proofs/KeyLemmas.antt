@@ -9,7 +9,7 @@ use Rattle.picky_keys.specs.Key.{IsKey}
 use Rattle.picky_keys.specs.carried.Blob.{blob_spells}
 use Rattle.picky_keys.specs.declared.key.SshBasePublicKey.{SshBasePublicKey}
 use Rattle.picky_authorized.specs.declared.entry.AuthEntry.{AuthEntry}
-use Rattle.picky_policy.specs.Decided.{IsLineFor, Line, is_for, is_key, line_for, line_of}
+use Rattle.picky_policy.specs.Decided.{IsLineFor, Line, is_for, is_key, line_for, entry_line_of}
 
 -- ---- keys
 
@@ -36,7 +36,7 @@ unfolding line_for
 line_found authority key [] line is = cc is
 line_found authority key (entry ∷ more) line is = elim (cases_Bool (is_for authority key entry.content)) [
   | inl this ↦
-      let here : Some (line_of entry) ≡ Some line = rw this at is in record {
+      let here : Some (entry_line_of entry) ≡ Some line = rw this at is in record {
         front = [];
         entry = entry;
         rest = more;
@@ -59,7 +59,7 @@ line_found authority key (entry ∷ more) line is = elim (cases_Bool (is_for aut
 
 line_behind : (authority : Bool) (key : SshBasePublicKey) (front : List AuthEntry) (entry : AuthEntry) (rest : List AuthEntry)
     → AllByRecursion (λ before. is_for authority key before.content ≡ false) front
-    → is_for authority key entry.content ≡ true → line_for authority key (front ++ entry ∷ rest) ≡ Some (line_of entry)
+    → is_for authority key entry.content ≡ true → line_for authority key (front ++ entry ∷ rest) ≡ Some (entry_line_of entry)
 unfolding line_for
 line_behind authority key [] entry rest none is = rw is refl
 line_behind authority key (before ∷ front) entry rest none is =

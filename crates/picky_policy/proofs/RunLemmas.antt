@@ -2,7 +2,7 @@
 use Rattle.std.proofs.Common.{◌≡◌, ◌⊎◌, ◌<◌, ◌++◌, ℕ, List, length, Bool, true, false, take, IfErr, IfOk, Result, Ok, Err, Some}
 use Rattle.std.proofs.Common.{refl, sym, ◌∙◌, ap, inl, inr, subst, if◌then◌else◌}
 use Rattle.picky_wire_base.specs.Outcome.{map_err, map_ok}
-use Rattle.picky_input.specs.{Extent.{Anywhere, ToEnd}, SourceText.{Reads, text_of}}
+use Rattle.picky_input.specs.{Extent.{Anywhere, ToEnd}, SourceText.{ReadsSourceText, source_text_of}}
 use Rattle.picky_input.specs.declared.source_text.SourceError.{SourceError}
 use Rattle.picky_input.specs.declared.source_text.SourceError.TheVariants as source
 use Rattle.picky_input.proofs.TextLaws.{is_source_text, some_input}
@@ -13,11 +13,11 @@ use Rattle.picky_authorized.specs.declared.keys.PolicyError.TheVariants as keys
 use Rattle.picky_key_text.specs.declared.error.ReadError.{ReadError}
 use Rattle.picky_key_text.specs.declared.error.ReadError.TheVariants as reading
 use Rattle.picky_policy.specs.Command.{Asked, Deciding, Printing}
-use Rattle.picky_policy.specs.Decided.{Accepts, Allows, Decides, IsDecision, asks, decided}
+use Rattle.picky_policy.specs.Decided.{Accepts, Allows, Decides, IsDecision, verifier_asks, decided}
 use Rattle.picky_policy.specs.{Offer.{message_of, offer_in}, Printed.{decision_text, message_text}}
-use Rattle.picky_policy.specs.Run.{Ends, Gives, IsAnswer, IsDecided, IsFaultOf, IsSpared, asks_with, bad_offer, extent_of}
+use Rattle.picky_policy.specs.Run.{Ends, IsAnswerTo, IsAnswer, IsDecided, IsFaultOf, IsSpared, asks_with, bad_offer, extent_of}
 use Rattle.picky_policy.specs.Run.{file_part, is_asked, offer_part, offered_in, source_status}
-use Rattle.picky_policy.specs.{Verifies.{Relation}, declared.answer.Answer.{Answer}}
+use Rattle.picky_policy.specs.{Verifies.{VerifyRelation}, declared.answer.Answer.{Answer}}
 use Rattle.picky_policy.specs.{declared.deciding.DecideError.{DecideError}, declared.decision.Decision.{Decision}}
 use Rattle.picky_policy.specs.{declared.decision.Denial.{Denial}, declared.decision.Grant.{Grant}}
 use Rattle.picky_policy.specs.{declared.offer.Offer.{Offer}, declared.status.PolicyStatus.{PolicyStatus}}
@@ -29,7 +29,7 @@ use Rattle.picky_policy.proofs.SourceLaws.{Bad, NoText, TooLong, no_offer, offer
 -- ---- an answer
 
 -- a decision is answered by its status and its lines
-pub decision_answers : (verifies : Relation) (user : List ℕ) (moment : Timestamp) (file : List ℕ) (offer : Offer) (decision : Decision)
+pub decision_answers : (verifies : VerifyRelation) (user : List ℕ) (moment : Timestamp) (file : List ℕ) (offer : Offer) (decision : Decision)
     (said : PolicyStatus × List ℕ) → IsDecided verifies file offer user moment decision
     → said ≡ (decision_status decision, decision_text decision)
     → IsAnswer verifies (Deciding user moment) file offer said.0 said.1
@@ -37,12 +37,12 @@ decision_answers verifies user moment file offer (decisions.Granted grant) said 
 decision_answers verifies user moment file offer (decisions.Denied why) said is same = rw same (why, (is, refl))
 
 -- and so is what is signed
-pub line_answers : (verifies : Relation) (file : List ℕ) (offer : Offer) (said : PolicyStatus × List ℕ)
+pub line_answers : (verifies : VerifyRelation) (file : List ℕ) (offer : Offer) (said : PolicyStatus × List ℕ)
     → said ≡ (statuses.Message, message_text (message_of offer)) → IsAnswer verifies Printing file offer said.0 said.1
 line_answers verifies file offer said same = rw same refl
 
 -- the printed line, or want of memory
-pub printed_answers : (verifies : Relation) (file : List ℕ) (offer : Offer) (rose : Type 0) (result : Result Answer PolicyStatus)
+pub printed_answers : (verifies : VerifyRelation) (file : List ℕ) (offer : Offer) (rose : Type 0) (result : Result Answer PolicyStatus)
     → IfOk result (λ answer. answer_shown answer ≡ (statuses.Message, message_text (message_of offer)))
     → IfErr result (λ status. status ≡ statuses.NoMemory)
     → AnswersOffer verifies Printing file offer rose (map_ok answer_shown result)
@@ -50,7 +50,7 @@ printed_answers verifies file offer rose (Ok answer) line want = line_answers ve
 printed_answers verifies file offer rose (Err status) line want = inl want
 
 -- the lines of a decision, or want of memory
-pub lines_answer : (verifies : Relation) (user : List ℕ) (moment : Timestamp) (file : List ℕ) (offer : Offer)
+pub lines_answer : (verifies : VerifyRelation) (user : List ℕ) (moment : Timestamp) (file : List ℕ) (offer : Offer)
     (decision : Decision) (rose : Type 0) (result : Result Answer PolicyStatus)
     → IsDecided verifies file offer user moment decision
     → IfOk result (λ answer. answer_shown answer ≡ (decision_status decision, decision_text decision))
@@ -70,9 +70,9 @@ keys_are file entries = go (is_short file)
     go false is = cc is
 
 -- what a call decides over them, and its lines
-module _ (verifies : Relation) (user : List ℕ) (moment : Timestamp) (file : List ℕ) (offer : Offer) (entries : List AuthEntry)
+module _ (verifies : VerifyRelation) (user : List ℕ) (moment : Timestamp) (file : List ℕ) (offer : Offer) (entries : List AuthEntry)
     (rose : Type 0) (result : Result Decision DecideError) (read : keys_in file ≡ Ok entries)
-    (decides : Decides (Accepts verifies offer) (decided entries offer user moment) (asks entries offer user moment) rose result) where
+    (decides : Decides (Accepts verifies offer) (decided entries offer user moment) (verifier_asks entries offer user moment) rose result) where
   pub decided_answers : (decision : Decision) (said : Result Answer PolicyStatus) → result ≡ Ok decision
       → ((grant : Grant) → result ≡ Ok (decisions.Granted grant) → Allows verifies entries offer user moment grant)
       → ((why : Denial) (grant : Grant) → result ≡ Ok (decisions.Denied why)
@@ -84,7 +84,7 @@ module _ (verifies : Relation) (user : List ℕ) (moment : Timestamp) (file : Li
       lines_answer verifies user moment file offer decision rose said
       (subst (λ e. IsDecision verifies e offer user moment decision) (keys_are file entries read) (record {
         answers =
-            subst (Decides (Accepts verifies offer) (decided entries offer user moment) (asks entries offer user moment) rose) is decides;
+            subst (Decides (Accepts verifies offer) (decided entries offer user moment) (verifier_asks entries offer user moment) rose) is decides;
         granted = λ grant same. granted grant (is ∙ ap Ok same);
         denied = λ why grant same. denied why grant (is ∙ ap Ok same);
       }))
@@ -99,7 +99,7 @@ unread_gives text e status (inr is) want (inl none) = inl none
 unread_gives text e status (inr is) want (inr bad) = inr (ap (map_err bad_offer) is ∙ ap Err (sym bad))
 
 -- the offer of a text was answered
-pub offer_answers : (verifies : Relation) (asked : Asked) (text file : List ℕ) (offer : Offer) (rose : Type 0)
+pub offer_answers : (verifies : VerifyRelation) (asked : Asked) (text file : List ℕ) (offer : Offer) (rose : Type 0)
     (result : Result (PolicyStatus × List ℕ) PolicyStatus) → offered_in text ≡ Ok offer → file ≡ file_part text
     → AnswersOffer verifies asked file offer rose result → AnswersText verifies asked text rose result
 offer_answers verifies asked text file offer rose (Ok said) is same answers =
@@ -109,7 +109,7 @@ offer_answers verifies asked text file offer rose (Err status) is same (inr faul
     inr (inl (offer, fault.0, is, rw (sym same) fault.1))
 
 -- or there is none
-pub none_answers : (verifies : Relation) (asked : Asked) (text : List ℕ) (rose : Type 0) (status : PolicyStatus)
+pub none_answers : (verifies : VerifyRelation) (asked : Asked) (text : List ℕ) (rose : Type 0) (status : PolicyStatus)
     → (status ≡ statuses.NoMemory) ⊎ (offered_in text ≡ Err status) → AnswersText verifies asked text rose (Err status)
 none_answers verifies asked text rose status (inl want) = inl want
 none_answers verifies asked text rose status (inr failed) = inr (inr failed)
@@ -127,8 +127,8 @@ printing_asks_none text (Err status) = refl
 
 -- ---- from a text to its source
 
-pub text_comes : (verifies : Relation) (asked : Asked) (input text : List ℕ) (read_rose rose : Type 0)
-    (result : Result (PolicyStatus × List ℕ) PolicyStatus) → text_of input ≡ Ok text
+pub text_comes : (verifies : VerifyRelation) (asked : Asked) (input text : List ℕ) (read_rose rose : Type 0)
+    (result : Result (PolicyStatus × List ℕ) PolicyStatus) → source_text_of input ≡ Ok text
     → AnswersText verifies asked text rose result → Comes verifies asked input read_rose rose result
 text_comes verifies asked input text read_rose rose (Ok said) is answers =
     let same : text ≡ input = (is_source_text input text is).1 in record {
@@ -150,8 +150,8 @@ text_comes verifies asked input text read_rose rose (Err status) is (inr (inl fa
 text_comes verifies asked input text read_rose rose (Err status) is (inr (inr failed)) =
     inr (inr (inr (offered_of input text is ∙ failed)))
 
-pub source_comes : (verifies : Relation) (asked : Asked) (input : List ℕ) (read_rose rose : Type 0) (e : SourceError)
-    (status : PolicyStatus) → status ≡ source_status e → Reads (Err e) input → (e ≡ source.ReadFault → read_rose)
+pub source_comes : (verifies : VerifyRelation) (asked : Asked) (input : List ℕ) (read_rose rose : Type 0) (e : SourceError)
+    (status : PolicyStatus) → status ≡ source_status e → ReadsSourceText (Err e) input → (e ≡ source.ReadFault → read_rose)
     → Comes verifies asked input read_rose rose (Err status)
 source_comes verifies asked input read_rose rose source.ReadFault status is reads count = inr (inl (is, count refl))
 source_comes verifies asked input read_rose rose source.NoMemory status is reads count = inl is
@@ -161,14 +161,14 @@ source_comes verifies asked input read_rose rose source.InputNotUtf8 status is r
     inr (inr (inr (offered_without input source.InputNotUtf8 reads ∙ ap Err (sym is))))
 
 -- of a source that doesn't tell its bytes there are some that are refused so
-pub some_comes : (verifies : Relation) (asked : Asked) (read_rose rose : Type 0) (e : SourceError) (status : PolicyStatus)
+pub some_comes : (verifies : VerifyRelation) (asked : Asked) (read_rose rose : Type 0) (e : SourceError) (status : PolicyStatus)
     → status ≡ source_status e → (e ≡ source.ReadFault → read_rose)
     → (input : List ℕ) × Comes verifies asked input read_rose rose (Err status)
 some_comes verifies asked read_rose rose e status is count =
     let input = some_input e in (input.0, source_comes verifies asked input.0 read_rose rose e status is input.1 count)
 
 -- the verifier isn't asked for the text of a source for whose bytes it is spared
-pub spared_by_text : (asked : Asked) (tells : Type 0) (input text : List ℕ) → (tells → text_of input ≡ Ok text)
+pub spared_by_text : (asked : Asked) (tells : Type 0) (input text : List ℕ) → (tells → source_text_of input ≡ Ok text)
     → IsSpared (Some asked) tells input → asks_with asked text (offered_in text) ≡ false
 spared_by_text Printing tells input text is spared = printing_asks_none text (offered_in text)
 spared_by_text (Deciding user moment) tells input text is (told, none) =
@@ -187,7 +187,7 @@ bad_alone text status = go (offer_in (offer_part text))
     go (Err e) is = cc is
 
 -- for a text the source was read to its end
-pub text_extent : (verifies : Relation) (asked : Asked) (text : List ℕ) (rose : Type 0) (result : Result Answer PolicyStatus)
+pub text_extent : (verifies : VerifyRelation) (asked : Asked) (text : List ℕ) (rose : Type 0) (result : Result Answer PolicyStatus)
     → AnswersText verifies asked text rose (map_ok answer_shown result)
     → (extent_for result ≡ ToEnd) ⊎ (extent_for result ≡ Anywhere)
 text_extent verifies asked text rose (Ok answer) answers = inl refl
@@ -197,7 +197,7 @@ text_extent verifies asked text rose (Err status) (inr (inr failed)) = inl (ap e
 
 -- ---- from the answer to the end
 
-module _ (verifies : Relation) (asked : Asked) (input : List ℕ) (read_rose rose write_rose tells : Type 0)
+module _ (verifies : VerifyRelation) (asked : Asked) (input : List ℕ) (read_rose rose write_rose tells : Type 0)
     (before after : List ℕ) where
   pub comes_ends : (status : PolicyStatus) → Comes verifies asked input read_rose rose (Err status)
       → Ends verifies asked input read_rose rose write_rose tells before after status
@@ -211,7 +211,7 @@ module _ (verifies : Relation) (asked : Asked) (input : List ℕ) (read_rose ros
   ]
 
   -- a text that was written whole
-  pub done_ends : (status : PolicyStatus) (text piece : List ℕ) → Gives verifies asked input status text → piece ≡ text
+  pub done_ends : (status : PolicyStatus) (text piece : List ℕ) → IsAnswerTo verifies asked input status text → piece ≡ text
       → (tells → after ≡ before ++ piece)
       → Ends verifies asked input read_rose rose write_rose tells before after status
   done_ends statuses.Granted text piece gives same written = (text, gives, λ told. written told ∙ ap (λ p. before ++ p) same)
@@ -221,7 +221,7 @@ module _ (verifies : Relation) (asked : Asked) (input : List ℕ) (read_rose ros
 
   -- or a prefix of it alone
   pub prefix_ends : (fault : PolicyStatus) (status : PolicyStatus) (text piece : List ℕ)
-      → (fault ≡ statuses.WriteFault) × write_rose → Gives verifies asked input status text → piece ≡ text
+      → (fault ≡ statuses.WriteFault) × write_rose → IsAnswerTo verifies asked input status text → piece ≡ text
       → (tells → (n : ℕ) × (after ≡ before ++ take n piece) × (n < length piece))
       → Ends verifies asked input read_rose rose write_rose tells before after fault
   prefix_ends fault status text piece cause gives same prefix =

@@ -4,7 +4,7 @@ use Rattle.std.proofs.Common.{Result, Ok, Err, refl, sym, ◌∙◌, ap, inl, in
 use Rattle.std.specs.Str.{IsUtf8}
 use Rattle.picky_wire_base.specs.Outcome.{and_then, map_err}
 use Rattle.picky_input.specs.Input.{input_limit}
-use Rattle.picky_input.specs.SourceText.{IsSourceText, text_of}
+use Rattle.picky_input.specs.SourceText.{IsSourceText, source_text_of}
 use Rattle.picky_input.specs.declared.source_text.SourceError.{SourceError}
 use Rattle.picky_input.specs.declared.source_text.SourceError.TheVariants as source
 use Rattle.picky_input.proofs.TextLaws.{is_source_text, no_text_exactly, source_text_is, text_err, too_long_exactly}
@@ -15,11 +15,11 @@ use Rattle.picky_policy.specs.declared.offer.Offer.{Offer}
 use Rattle.picky_policy.specs.declared.status.PolicyStatus.{PolicyStatus}
 use Rattle.picky_policy.specs.declared.status.PolicyStatus.TheVariants as statuses
 
-pub offered_of : (input text : List ℕ) → text_of input ≡ Ok text → offered input ≡ offered_in text
+pub offered_of : (input text : List ℕ) → source_text_of input ≡ Ok text → offered input ≡ offered_in text
 unfolding offered
 offered_of input text is = ap (λ t. and_then (map_err source_status t) offered_in) is
 
-pub offered_without : (input : List ℕ) (e : SourceError) → text_of input ≡ Err e → offered input ≡ Err (source_status e)
+pub offered_without : (input : List ℕ) (e : SourceError) → source_text_of input ≡ Err e → offered input ≡ Err (source_status e)
 unfolding offered
 offered_without input e is = ap (λ t. and_then (map_err source_status t) offered_in) is
 
@@ -37,9 +37,9 @@ bad_text input text status (Err e) short same says is =
     Bad short e (ap (λ t. offer_in (offer_part t)) (sym same) ∙ says) (cc is)
 
 pub no_offer : (input : List ℕ) (status : PolicyStatus) → offered input ≡ Err status → NoOffer input status
-no_offer input status failed = go (text_of input) refl
+no_offer input status failed = go (source_text_of input) refl
   where
-    go : (text : Result (List ℕ) SourceError) → text_of input ≡ text → NoOffer input status
+    go : (text : Result (List ℕ) SourceError) → source_text_of input ≡ text → NoOffer input status
     go (Ok text) says =
         bad_text input text status (offer_in (offer_part text)) (is_source_text input text says).0
         (is_source_text input text says).1 refl

@@ -15,7 +15,7 @@ use Rattle.picky_authorized.specs.declared.entry.AuthContent.TheVariants as cont
 use Rattle.picky_authorized.specs.declared.entry.AuthEntry.{AuthEntry}
 use Rattle.picky_policy.specs.Demands.{Demands, no_demands}
 use Rattle.picky_policy.specs.Rules.{Lets, judged_rules}
-use Rattle.picky_policy.specs.Verifies.{Keeps, Relation}
+use Rattle.picky_policy.specs.Verifies.{KeepsVerified, VerifyRelation}
 use Rattle.picky_policy.specs.declared.deciding.DecideError.{DecideError}
 use Rattle.picky_policy.specs.declared.deciding.DecideError.TheVariants as errors
 use Rattle.picky_policy.specs.declared.decision.Decision.{Decision}
@@ -58,8 +58,8 @@ options_of (contents.Key options key) = options
 options_of contents.BadOptions = []
 options_of (contents.Unread e) = []
 
-abbrev pub line_of : AuthEntry → Line
-line_of entry = record { number = entry.line; options = options_of entry.content }
+abbrev pub entry_line_of : AuthEntry → Line
+entry_line_of entry = record { number = entry.line; options = options_of entry.content }
 
 -- the first entry that is a line of this sort for the key
 pub record IsLineFor (authority : Bool) (key : SshBasePublicKey) (entries : List AuthEntry) (line : Line) : Type 0 where
@@ -69,12 +69,12 @@ pub record IsLineFor (authority : Bool) (key : SshBasePublicKey) (entries : List
   pub whole : entries ≡ front ++ entry ∷ rest
   pub none : AllByRecursion (λ before. is_for authority key before.content ≡ false) front
   pub is : is_for authority key entry.content ≡ true
-  pub same : line ≡ line_of entry
+  pub same : line ≡ entry_line_of entry
 
 unfoldable pub line_for : (authority : Bool) → SshBasePublicKey → List AuthEntry → Option Line
 line_for authority key [] = None
 line_for authority key (entry ∷ more) =
-    if is_for authority key entry.content then Some (line_of entry) else line_for authority key more
+    if is_for authority key entry.content then Some (entry_line_of entry) else line_for authority key more
 
 -- ---- the grant
 
@@ -99,7 +99,7 @@ granted line d = record {
 
 -- a key that has a line of its own; or a certificate whose issuer has an authority's line, where the rules and the
 -- signature are kept
-abbrev pub Allows : Relation → List AuthEntry → Offer → (user : List ℕ) → Timestamp → Grant → Type 0
+abbrev pub Allows : VerifyRelation → List AuthEntry → Offer → (user : List ℕ) → Timestamp → Grant → Type 0
 Allows verifies entries (offers.Key key) user moment grant =
     (line : Line) × IsLineFor false key.inner_key entries line × (grant ≡ granted line no_demands)
 Allows verifies entries (offers.Certificate c message) user moment grant =
@@ -117,26 +117,26 @@ decided entries (offers.Certificate c message) user moment =
     and_then (judged_rules line.options c user moment) (λ d. Ok (granted line d)))
 
 -- the verifier is asked: of a certificate, where no rule before fails
-abbrev pub asks : List AuthEntry → Offer → (user : List ℕ) → Timestamp → Bool
-asks entries (offers.Key key) user moment = false
-asks entries (offers.Certificate c message) user moment = is_ok (decided entries (offers.Certificate c message) user moment)
+abbrev pub verifier_asks : List AuthEntry → Offer → (user : List ℕ) → Timestamp → Bool
+verifier_asks entries (offers.Key key) user moment = false
+verifier_asks entries (offers.Certificate c message) user moment = is_ok (decided entries (offers.Certificate c message) user moment)
 
 -- the signature is good; a key has none
-abbrev pub Accepts : Relation → Offer → Type 0
+abbrev pub Accepts : VerifyRelation → Offer → Type 0
 Accepts verifies (offers.Key key) = Unit {0}
 Accepts verifies (offers.Certificate c message) = verifies c.signature_key.inner_key c.signature message
 
 -- the decision, by what was judged and whether the signature is good
-abbrev pub Answers : (accepts : Type 0) → Result Grant Denial → Decision → Type 0
-Answers accepts (Ok grant) (decisions.Granted given) = (given ≡ grant) × accepts
-Answers accepts (Ok grant) (decisions.Denied denial) = (denial ≡ denials.BadSignature) × (accepts → ⊥)
-Answers accepts (Err why) (decisions.Granted given) = ⊥
-Answers accepts (Err why) (decisions.Denied denial) = denial ≡ why
+abbrev pub IsDecisionBy : (accepts : Type 0) → Result Grant Denial → Decision → Type 0
+IsDecisionBy accepts (Ok grant) (decisions.Granted given) = (given ≡ grant) × accepts
+IsDecisionBy accepts (Ok grant) (decisions.Denied denial) = (denial ≡ denials.BadSignature) × (accepts → ⊥)
+IsDecisionBy accepts (Err why) (decisions.Granted given) = ⊥
+IsDecisionBy accepts (Err why) (decisions.Denied denial) = denial ≡ why
 
 -- so it is a grant exactly where one is let in, and this is the grant
-pub record IsDecision (verifies : Relation) (entries : List AuthEntry) (offer : Offer) (user : List ℕ) (moment : Timestamp)
+pub record IsDecision (verifies : VerifyRelation) (entries : List AuthEntry) (offer : Offer) (user : List ℕ) (moment : Timestamp)
     (decision : Decision) : Type 0 where
-  pub answers : Answers (Accepts verifies offer) (decided entries offer user moment) decision
+  pub answers : IsDecisionBy (Accepts verifies offer) (decided entries offer user moment) decision
   pub granted : (grant : Grant) → decision ≡ decisions.Granted grant → Allows verifies entries offer user moment grant
   pub denied : (why : Denial) (grant : Grant) → decision ≡ decisions.Denied why
       → Allows verifies entries offer user moment grant → ⊥
@@ -145,13 +145,13 @@ pub record IsDecision (verifies : Relation) (entries : List AuthEntry) (offer : 
 -- grant alone
 abbrev pub Decides : (accepts : Type 0) → Result Grant Denial → (asked : Bool) → (rose : Type 0)
     → Result Decision DecideError → Type 0
-Decides accepts says asked rose (Ok decision) = Answers accepts says decision
+Decides accepts says asked rose (Ok decision) = IsDecisionBy accepts says decision
 Decides accepts says asked rose (Err errors.VerifierFault) = (asked ≡ true) × rose
-Decides accepts says asked rose (Err errors.NoMemory) = (grant : Grant) × Answers accepts says (decisions.Granted grant)
+Decides accepts says asked rose (Err errors.NoMemory) = (grant : Grant) × IsDecisionBy accepts says (decisions.Granted grant)
 
 -- which signatures are good stays; the count moves for the verifier's fault alone; one that isn't asked is as it was
-pub record LeavesVerifier {S A : Type 0} (verifies : S → Relation) (faults : S → ℕ) (asked : Bool)
+pub record LeavesVerifier {S A : Type 0} (verifies : S → VerifyRelation) (faults : S → ℕ) (asked : Bool)
     (result : Result A DecideError) (old new : S) : Type 0 where
-  pub kept : Keeps (verifies old) (verifies new)
+  pub kept : KeepsVerified (verifies old) (verifies new)
   pub calm : Calm errors.VerifierFault result (faults old) (faults new)
   pub unasked : asked ≡ false → new ≡ old

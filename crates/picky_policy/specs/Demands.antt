@@ -79,15 +79,15 @@ abbrev pub flag_demand : Option (List ℕ) → Option Bool
 flag_demand None = Some false
 flag_demand (Some payload) = if length payload == 0 then Some true else None
 
-abbrev pub text_in : SshCriticalOptionType → List SshCriticalOption → Option (Option (List ℕ))
-text_in wanted options = some_then (one_of (payloads_of wanted options)) text_demand
+abbrev pub text_demanded : SshCriticalOptionType → List SshCriticalOption → Option (Option (List ℕ))
+text_demanded wanted options = some_then (one_of (payloads_of wanted options)) text_demand
 
 abbrev pub flag_in : SshCriticalOptionType → List SshCriticalOption → Option Bool
 flag_in wanted options = some_then (one_of (payloads_of wanted options)) flag_demand
 
 unfoldable pub demands_in : List SshCriticalOption → Option Demands
 demands_in options =
-    some_then (text_in ForceCommand options) (λ command.
-    some_then (text_in SourceAddress options) (λ address.
+    some_then (text_demanded ForceCommand options) (λ command.
+    some_then (text_demanded SourceAddress options) (λ address.
     some_then (flag_in VerifyRequired options) (λ verify.
     Some (record { force_command = command; source_address = address; verify_required = verify }))))

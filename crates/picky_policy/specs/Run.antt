@@ -1,20 +1,20 @@
 -- A run: what it writes for the bytes of its source, and how it ends.
-use Rattle.std.specs.Prelude.{◌≡◌, ◌<◌, ◌++◌, ℕ, Bool, true, false, List, [], length, take}
+use Rattle.std.specs.Prelude.{◌≡◌, ◌++◌, ℕ, Bool, true, false, List, []}
 use Rattle.std.specs.Prelude.{Option, Some, None, Result, Ok, Err}
 use Rattle.picky_wire_base.specs.Outcome.{and_then, map_err}
 use Rattle.picky_wire.specs.declared.timestamp.Timestamp.{Timestamp}
-use Rattle.picky_input.specs.Extent.{Extent, Anywhere, PastLimit, ToEnd, ToFault, Untouched}
-use Rattle.picky_input.specs.SourceText.{text_of}
+use Rattle.picky_input.specs.Extent.{Extent, Anywhere, PastLimit, ToEnd, ToFault, Untouched, WritesPrefix}
+use Rattle.picky_input.specs.SourceText.{source_text_of}
 use Rattle.picky_input.specs.declared.source_text.SourceError.{SourceError}
 use Rattle.picky_input.specs.declared.source_text.SourceError.TheVariants as source
-use Rattle.picky_issuing.specs.Parts.{issuer_part, key_part}
+use Rattle.picky_issuing.specs.Parts.{issuer_text_part, key_part}
 use Rattle.picky_authorized.specs.Entries.{entries_in}
 use Rattle.picky_key_text.specs.declared.error.ReadError.{ReadError}
 use Rattle.picky_policy.specs.Command.{Asked, Deciding, Printing}
-use Rattle.picky_policy.specs.Decided.{IsDecision, asks}
+use Rattle.picky_policy.specs.Decided.{IsDecision, verifier_asks}
 use Rattle.picky_policy.specs.Offer.{message_of, offer_in}
 use Rattle.picky_policy.specs.Printed.{decision_text, message_text}
-use Rattle.picky_policy.specs.Verifies.{Relation}
+use Rattle.picky_policy.specs.Verifies.{VerifyRelation}
 use Rattle.picky_policy.specs.declared.decision.Decision.{Decision}
 use Rattle.picky_policy.specs.declared.decision.Decision.TheVariants as decisions
 use Rattle.picky_policy.specs.declared.decision.Denial.{Denial}
@@ -31,7 +31,7 @@ file_or_none None = []
 file_or_none (Some file) = file
 
 abbrev pub file_part : (text : List ℕ) → List ℕ
-file_part text = file_or_none (issuer_part text)
+file_part text = file_or_none (issuer_text_part text)
 
 -- the offer stands after it, and without it is all
 abbrev pub offer_part : (text : List ℕ) → List ℕ
@@ -51,17 +51,17 @@ abbrev pub offered_in : (text : List ℕ) → Result Offer PolicyStatus
 offered_in text = map_err bad_offer (offer_in (offer_part text))
 
 unfoldable pub offered : (input : List ℕ) → Result Offer PolicyStatus
-offered input = and_then (map_err source_status (text_of input)) offered_in
+offered input = and_then (map_err source_status (source_text_of input)) offered_in
 
 -- ---- what is decided of them
 
 -- the decision on the offer, over the authorized keys of a file
-abbrev pub IsDecided : Relation → (file : List ℕ) → Offer → (user : List ℕ) → Timestamp → Decision → Type 0
+abbrev pub IsDecided : VerifyRelation → (file : List ℕ) → Offer → (user : List ℕ) → Timestamp → Decision → Type 0
 IsDecided verifies file offer user moment decision = IsDecision verifies (entries_in file) offer user moment decision
 
 -- the verifier is asked for it: for a decision on a certificate, where no rule before the signature's fails
 abbrev pub is_asked : Asked → (file : List ℕ) → Offer → Bool
-is_asked (Deciding user moment) file offer = asks (entries_in file) offer user moment
+is_asked (Deciding user moment) file offer = verifier_asks (entries_in file) offer user moment
 is_asked Printing file offer = false
 
 abbrev pub asks_with : Asked → (text : List ℕ) → Result Offer PolicyStatus → Bool
@@ -74,7 +74,7 @@ asks_of asked input = asks_with asked input (offered input)
 
 -- the verifier failed, which was asked
 abbrev pub IsFaultOf : Asked → (file : List ℕ) → Offer → (rose : Type 0) → Type 0
-IsFaultOf (Deciding user moment) file offer rose = (asks (entries_in file) offer user moment ≡ true) × rose
+IsFaultOf (Deciding user moment) file offer rose = (verifier_asks (entries_in file) offer user moment ≡ true) × rose
 IsFaultOf Printing file offer rose = ⊥
 
 pub record IsOutsideFault (asked : Asked) (input : List ℕ) (rose : Type 0) : Type 0 where
@@ -91,30 +91,30 @@ IsDecisionOf (Deciding user moment) decides decision text = decides user moment 
 IsDecisionOf Printing decides decision text = ⊥
 
 -- what is signed was asked for, and its line is this
-abbrev pub IsLineOf : Asked → Offer → (text : List ℕ) → Type 0
-IsLineOf (Deciding user moment) offer text = ⊥
-IsLineOf Printing offer text = text ≡ message_text (message_of offer)
+abbrev pub IsMessageLine : Asked → Offer → (text : List ℕ) → Type 0
+IsMessageLine (Deciding user moment) offer text = ⊥
+IsMessageLine Printing offer text = text ≡ message_text (message_of offer)
 
 -- what is asked for is answered with this status and text
-abbrev pub IsAnswer : Relation → Asked → (file : List ℕ) → Offer → PolicyStatus → (text : List ℕ) → Type 0
+abbrev pub IsAnswer : VerifyRelation → Asked → (file : List ℕ) → Offer → PolicyStatus → (text : List ℕ) → Type 0
 IsAnswer verifies asked file offer statuses.Granted text =
     (grant : Grant) × IsDecisionOf asked (IsDecided verifies file offer) (decisions.Granted grant) text
 IsAnswer verifies asked file offer statuses.Denied text =
     (why : Denial) × IsDecisionOf asked (IsDecided verifies file offer) (decisions.Denied why) text
-IsAnswer verifies asked file offer statuses.Message text = IsLineOf asked offer text
+IsAnswer verifies asked file offer statuses.Message text = IsMessageLine asked offer text
 IsAnswer verifies asked file offer status text = ⊥
 
 -- so for the offer of the source
-pub record Gives (verifies : Relation) (asked : Asked) (input : List ℕ) (status : PolicyStatus) (text : List ℕ) : Type 0 where
+pub record IsAnswerTo (verifies : VerifyRelation) (asked : Asked) (input : List ℕ) (status : PolicyStatus) (text : List ℕ) : Type 0 where
   pub offer : Offer
   pub offered : offered input ≡ Ok offer
   pub answer : IsAnswer verifies asked (file_part input) offer status text
 
 -- the whole text was written after what there was
-pub record WritesAnswer (verifies : Relation) (asked : Asked) (input : List ℕ) (status : PolicyStatus)
+pub record WritesAnswer (verifies : VerifyRelation) (asked : Asked) (input : List ℕ) (status : PolicyStatus)
     (before after : List ℕ) : Type 0 where
   pub text : List ℕ
-  pub gives : Gives verifies asked input status text
+  pub gives : IsAnswerTo verifies asked input status text
   pub written : after ≡ before ++ text
 
 -- ---- how a run ends
@@ -129,7 +129,7 @@ IsDone status = ⊥
 -- how a run ends for the bytes of its source, by its status: they have no offer, and this is why; or a fault was counted, of the
 -- source (read), of the verifier that was asked or of the sink (write); or there is an answer. Where the sink tells its bytes, the
 -- answer was written whole or, with WriteFault, a prefix of it
-abbrev pub Ends : Relation → Asked → (input : List ℕ) (read verify write tells : Type 0) (before after : List ℕ) → PolicyStatus
+abbrev pub Ends : VerifyRelation → Asked → (input : List ℕ) (read verify write tells : Type 0) (before after : List ℕ) → PolicyStatus
     → Type 0
 Ends verifies asked input read verify write tells before after statuses.Usage = ⊥
 Ends verifies asked input read verify write tells before after statuses.ReadFault = read
@@ -138,11 +138,11 @@ Ends verifies asked input read verify write tells before after statuses.InputNot
 Ends verifies asked input read verify write tells before after statuses.BadOffer = offered input ≡ Err statuses.BadOffer
 Ends verifies asked input read verify write tells before after statuses.OutsideFault = IsOutsideFault asked input verify
 Ends verifies asked input read verify write tells before after statuses.WriteFault =
-    write × (status : PolicyStatus) × (text : List ℕ) × Gives verifies asked input status text
-    × (tells → (n : ℕ) × (after ≡ before ++ take n text) × (n < length text))
+    write × (status : PolicyStatus) × (text : List ℕ) × IsAnswerTo verifies asked input status text
+    × (tells → WritesPrefix text before after)
 Ends verifies asked input read verify write tells before after statuses.NoMemory = Unit {0}
 Ends verifies asked input read verify write tells before after status =
-    (text : List ℕ) × Gives verifies asked input status text × (tells → after ≡ before ++ text)
+    (text : List ℕ) × IsAnswerTo verifies asked input status text × (tells → after ≡ before ++ text)
 
 -- ---- what is left
 

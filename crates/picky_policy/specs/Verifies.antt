@@ -6,18 +6,18 @@ use Rattle.picky_keys.specs.declared.key.SshBasePublicKey.{SshBasePublicKey}
 use Rattle.picky_cert_parts.specs.declared.signature.SshSignature.{SshSignature}
 
 -- which signatures are good: under a key, of a message
-abbrev pub Relation : Type 1
-Relation = SshBasePublicKey → SshSignature → List ℕ → Type 0
+abbrev pub VerifyRelation : Type 1
+VerifyRelation = SshBasePublicKey → SshSignature → List ℕ → Type 0
 
 -- the same are good
-abbrev pub Keeps : (before after : Relation) → Type 0
-Keeps before after = (key : SshBasePublicKey) (signature : SshSignature) (message : List ℕ)
+abbrev pub KeepsVerified : (before after : VerifyRelation) → Type 0
+KeepsVerified before after = (key : SshBasePublicKey) (signature : SshSignature) (message : List ℕ)
     → after key signature message ↔ before key signature message
 
 -- which signatures are good stays; Ok says whether this one is, and leaves the count of faults; Failed counts one
-pub record Verifies {S : Type 0} (verifies : S → Relation) (faults : S → ℕ) (key : SshBasePublicKey)
+pub record Verifies {S : Type 0} (verifies : S → VerifyRelation) (faults : S → ℕ) (key : SshBasePublicKey)
     (signature : SshSignature) (message : List ℕ) (result : Result Bool Failed) (old new : S) : Type 0 where
-  pub kept : Keeps (verifies old) (verifies new)
+  pub kept : KeepsVerified (verifies old) (verifies new)
   pub says : IfOk result (λ good. IsTrue good ↔ verifies old key signature message)
   pub counted : OnErr result (Rose (faults old) (faults new))
   pub calm : OnOk result (faults new ≡ faults old)
@@ -30,7 +30,7 @@ pub record HandedVerifierState : Type 0 where
   pub faults : ℕ
 
 -- that message alone has good signatures
-abbrev pub VerifiesAsHanded : HandedVerifierState → Relation
+abbrev pub VerifiesAsHanded : HandedVerifierState → VerifyRelation
 VerifiesAsHanded verifier key signature message = verifier.message ≡ Some message
 
 -- a call fails exactly where there is none, and is counted
@@ -47,7 +47,7 @@ pub record Fixed : Type 0 where
   pub calls : Calls
 
 -- each signature is good, or none is
-abbrev pub VerifiesAsFixed : Fixed → Relation
+abbrev pub VerifiesAsFixed : Fixed → VerifyRelation
 VerifiesAsFixed verifier key signature message = IsTrue verifier.yes
 
 -- a call fails exactly where its number is listed, and is counted

@@ -8,11 +8,11 @@ ghost use Rattle.picky_wire_base.specs.Gives.{Gives};
 ghost use Rattle.picky_input.specs.Extent.{LeavesDevice, ReadsInput};
 ghost use Rattle.picky_authorized.specs.Entries.{entries_in};
 ghost use Rattle.picky_policy.specs.Command.{asked_by, Deciding};
-ghost use Rattle.picky_policy.specs.Decided.{asks};
+ghost use Rattle.picky_policy.specs.Decided.{verifier_asks};
 ghost use Rattle.picky_policy.specs.Offer.{message_of, offer_in};
 ghost use Rattle.picky_policy.specs.Printed.{decision_text as decision_text_of, message_text as message_text_of};
 ghost use Rattle.picky_policy.specs.Run.{asks_with, bad_offer, file_or_none, is_asked, offered_in, IsSpared};
-ghost use Rattle.picky_policy.specs.Verifies.{Keeps};
+ghost use Rattle.picky_policy.specs.Verifies.{KeepsVerified};
 ghost use Rattle.picky_policy.specs.inner.Comes.{answer_shown, decision_status, extent_for, AnswersOffer, AnswersText, Comes};
 
 use crate::command::Command;
@@ -52,7 +52,7 @@ pub(crate) fn take_answer<V: Verifier, I: Source>(
         (Rose (I.faults source.old) (I.faults source.new)) (Rose (V.faults verifier.old) (V.faults verifier.new))
         (map_ok answer_shown result) }
     ensures source { ReadsInput I.tells I.left I.faults (extent_for result) source.old source.new }
-    ensures verifier { LeavesDevice (Keeps (V.verifies verifier.old) (V.verifies verifier.new)) V.faults
+    ensures verifier { LeavesDevice (KeepsVerified (V.verifies verifier.old) (V.verifies verifier.new)) V.faults
         (result ≡ Err PolicyStatus.OutsideFault)
         (IsSpared (Some (asked_by command.entry)) (I.tells source.old) (I.left source.old)) verifier.old verifier.new }
 {
@@ -75,7 +75,7 @@ fn answer_to<V: Verifier>(
 ) -> Result<Answer, PolicyStatus>
     ensures answers { AnswersText (V.verifies verifier.old) (asked_by command.entry) text.now
         (Rose (V.faults verifier.old) (V.faults verifier.new)) (map_ok answer_shown result) }
-    ensures kept { Keeps (V.verifies verifier.old) (V.verifies verifier.new) }
+    ensures kept { KeepsVerified (V.verifies verifier.old) (V.verifies verifier.new) }
     ensures calm { result ≢ Err PolicyStatus.OutsideFault → V.faults verifier.new ≡ V.faults verifier.old }
     ensures unasked { asks_with (asked_by command.entry) text.now (offered_in text.now) ≡ false → verifier.new ≡ verifier.old }
 {
@@ -135,7 +135,7 @@ fn answer_offer<V: Verifier>(
 ) -> Result<Answer, PolicyStatus>
     ensures answers { AnswersOffer (V.verifies verifier.old) (asked_by command.entry) file.now offer.now
         (Rose (V.faults verifier.old) (V.faults verifier.new)) (map_ok answer_shown result) }
-    ensures kept { Keeps (V.verifies verifier.old) (V.verifies verifier.new) }
+    ensures kept { KeepsVerified (V.verifies verifier.old) (V.verifies verifier.new) }
     ensures calm { result ≢ Err PolicyStatus.OutsideFault → V.faults verifier.new ≡ V.faults verifier.old }
     ensures unasked { is_asked (asked_by command.entry) file.now offer.now ≡ false → verifier.new ≡ verifier.old }
 {
@@ -168,9 +168,9 @@ fn decided<V: Verifier>(
 ) -> Result<Answer, PolicyStatus>
     ensures answers { AnswersOffer (V.verifies verifier.old) (Deciding user.now moment) file.now offer.now
         (Rose (V.faults verifier.old) (V.faults verifier.new)) (map_ok answer_shown result) }
-    ensures kept { Keeps (V.verifies verifier.old) (V.verifies verifier.new) }
+    ensures kept { KeepsVerified (V.verifies verifier.old) (V.verifies verifier.new) }
     ensures calm { result ≢ Err PolicyStatus.OutsideFault → V.faults verifier.new ≡ V.faults verifier.old }
-    ensures unasked { asks (entries_in file.now) offer.now user.now moment ≡ false → verifier.new ≡ verifier.old }
+    ensures unasked { verifier_asks (entries_in file.now) offer.now user.now moment ≡ false → verifier.new ≡ verifier.old }
 {
     match read_keys(alloc, file) {
         Ok(entries) => {

@@ -5,7 +5,7 @@ ghost use Rattle.std.specs.Option.{option_copied};
 ghost use Rattle.picky_wire.specs.Count.{Rose};
 ghost use Rattle.picky_wire.specs.declared.timestamp.Timestamp.{Timestamp as Moment};
 ghost use Rattle.picky_authorized.specs.Entries.{AreFit};
-ghost use Rattle.picky_policy.specs.Decided.{asks, decided, granted as granted_by, is_kept_back as is_kept_back_option, options_left};
+ghost use Rattle.picky_policy.specs.Decided.{verifier_asks, decided, granted as granted_by, is_kept_back as is_kept_back_option, options_left};
 ghost use Rattle.picky_policy.specs.Decided.{Accepts, Allows, Decides, LeavesVerifier};
 ghost use Rattle.picky_policy.specs.declared.decision.Denial.{Denial as Why};
 ghost use Rattle.picky_policy.specs.declared.decision.Grant.{Grant as Given};
@@ -61,8 +61,8 @@ pub fn decide<V: Verifier>(
 
     // The decision in the order of the rules, and when the verifier's fault comes.
     ensures decides { Decides (Accepts (V.verifies verifier.old) offer.now) (decided entries.now offer.now user.now moment)
-        (asks entries.now offer.now user.now moment) (Rose (V.faults verifier.old) (V.faults verifier.new)) result }
-    ensures verifier { LeavesVerifier V.verifies V.faults (asks entries.now offer.now user.now moment) result
+        (verifier_asks entries.now offer.now user.now moment) (Rose (V.faults verifier.old) (V.faults verifier.new)) result }
+    ensures verifier { LeavesVerifier V.verifies V.faults (verifier_asks entries.now offer.now user.now moment) result
         verifier.old verifier.new }
 {
     decide_over(alloc, entries.as_slice(), offer, user, moment, verifier)
@@ -78,8 +78,8 @@ fn decide_over<V: Verifier>(
     verifier: &mut V,
 ) -> Result<Decision, DecideError>
     ensures decides { Decides (Accepts (V.verifies verifier.old) offer.now) (decided entries.now offer.now user.now moment)
-        (asks entries.now offer.now user.now moment) (Rose (V.faults verifier.old) (V.faults verifier.new)) result }
-    ensures verifier { LeavesVerifier V.verifies V.faults (asks entries.now offer.now user.now moment) result
+        (verifier_asks entries.now offer.now user.now moment) (Rose (V.faults verifier.old) (V.faults verifier.new)) result }
+    ensures verifier { LeavesVerifier V.verifies V.faults (verifier_asks entries.now offer.now user.now moment) result
         verifier.old verifier.new }
 {
     match offer {
@@ -125,10 +125,10 @@ fn decide_certificate<V: Verifier>(
 ) -> Result<Decision, DecideError>
     ensures decides { Decides (Accepts (V.verifies verifier.old) (offers.Certificate certificate.now message.now))
         (decided entries.now (offers.Certificate certificate.now message.now) user.now moment)
-        (asks entries.now (offers.Certificate certificate.now message.now) user.now moment)
+        (verifier_asks entries.now (offers.Certificate certificate.now message.now) user.now moment)
         (Rose (V.faults verifier.old) (V.faults verifier.new)) result }
     ensures verifier { LeavesVerifier V.verifies V.faults
-        (asks entries.now (offers.Certificate certificate.now message.now) user.now moment) result verifier.old verifier.new }
+        (verifier_asks entries.now (offers.Certificate certificate.now message.now) user.now moment) result verifier.old verifier.new }
 {
     match line_for(true, &certificate.signature_key.inner_key, entries) {
         Some(line) => match judge(line.options, certificate, user, moment) {

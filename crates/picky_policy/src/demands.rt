@@ -2,7 +2,7 @@
 
 ghost use Rattle.std.specs.Prelude.{◌≡◌};
 ghost use Rattle.std.specs.Option.{option_copied, option_map};
-ghost use Rattle.picky_policy.specs.Demands.{demands_in, flag_in, is_type as is_type_of, no_demands, one_of as one_of_payloads, payloads_of, text_in, text_of_payload as payload_text};
+ghost use Rattle.picky_policy.specs.Demands.{demands_in, flag_in, is_type as is_type_of, no_demands, one_of as one_of_payloads, payloads_of, text_demanded, text_of_payload as payload_text};
 ghost use Rattle.picky_policy.specs.inner.Payload.{with_payload};
 ghost use Rattle.picky_policy.specs.inner.Shown.{demands_shown};
 
@@ -47,7 +47,7 @@ pub fn demands_of(options: &[SshCriticalOption]) -> Option<Demanded<'_>>
 
 /// The text of the one option of a type, where there is one; none where there are two, or its payload doesn't fit.
 fn text_of(options: &[SshCriticalOption], wanted: SshCriticalOptionType) -> Option<Option<&str>>
-    ensures { option_map option_copied result ≡ text_in wanted options.now }
+    ensures { option_map option_copied result ≡ text_demanded wanted options.now }
 {
     match one_of(options, wanted)? {
         Some(payload) => match text_of_payload(payload) {

@@ -1,4 +1,6 @@
 //! Who gets in: authorized keys decide on a key or a certificate that is offered.
+//!
+//! Read first: `specs/Decided.antt` and `specs/Run.antt`; then `src/run.rt`.
 #![tactic(auto)]
 
 mod answer;

@@ -6,7 +6,7 @@ ghost use Rattle.picky_wire.specs.Puts.{Puts};
 ghost use Rattle.picky_input.specs.Extent.{LeavesDevice, ReadsInput, WritesLast};
 ghost use Rattle.picky_policy.specs.Command.{asked_by, asked_for, Asked, Names};
 ghost use Rattle.picky_policy.specs.Run.{extent_of, offered, Ends, IsDone, IsOutsideFault, IsSpared, WritesAnswer};
-ghost use Rattle.picky_policy.specs.Verifies.{Keeps};
+ghost use Rattle.picky_policy.specs.Verifies.{KeepsVerified};
 ghost use Rattle.picky_policy.specs.declared.offer.Offer.{Offer as AnOffer};
 
 use crate::answer::take_answer;
@@ -58,7 +58,7 @@ pub fn run_policy<V: Verifier, I: Source, O: Sink>(
     ensures source { ReadsInput I.tells I.left I.faults (extent_of result) source.old source.new }
     ensures out { WritesLast O.tells O.faults (result ≡ PolicyStatus.WriteFault)
         ((IsDone result → ⊥) × (result ≢ PolicyStatus.WriteFault)) out.old out.new }
-    ensures verifier { LeavesDevice (Keeps (V.verifies verifier.old) (V.verifies verifier.new)) V.faults
+    ensures verifier { LeavesDevice (KeepsVerified (V.verifies verifier.old) (V.verifies verifier.new)) V.faults
         (result ≡ PolicyStatus.OutsideFault) (IsSpared (asked_for words.now) (I.tells source.old) (I.left source.old))
         verifier.old verifier.new }
 {
@@ -85,7 +85,7 @@ fn perform<V: Verifier, I: Source, O: Sink>(
     ensures source { ReadsInput I.tells I.left I.faults (extent_of result) source.old source.new }
     ensures out { WritesLast O.tells O.faults (result ≡ PolicyStatus.WriteFault)
         ((IsDone result → ⊥) × (result ≢ PolicyStatus.WriteFault)) out.old out.new }
-    ensures verifier { LeavesDevice (Keeps (V.verifies verifier.old) (V.verifies verifier.new)) V.faults
+    ensures verifier { LeavesDevice (KeepsVerified (V.verifies verifier.old) (V.verifies verifier.new)) V.faults
         (result ≡ PolicyStatus.OutsideFault) (IsSpared (Some (asked_by command.entry)) (I.tells source.old) (I.left source.old))
         verifier.old verifier.new }
 {

@@ -12,7 +12,7 @@ use Rattle.picky_sshkey.specs.Made.{key_made}
 use Rattle.picky_ppk_parts.specs.declared.error.PuttyError.{PuttyError}
 use Rattle.picky_ppk_parts.specs.declared.error.PuttyError.TheVariants as errors
 use Rattle.picky_ppk_parts.specs.PartsRefusal.{parts_key, key_in_blob}
-use Rattle.picky_ppk_parts.specs.Unsupported.{no_hardware_keys}
+use Rattle.picky_ppk_parts.specs.Unsupported.{no_security_keys}
 use Rattle.picky_ppk_file.specs.PuttyRefusal.{plain_key}
 use Rattle.picky_ppk_file.specs.declared.file.PpkFile.{PpkFile}
 use Rattle.picky_ppk.specs.Changed.{open_file}
@@ -35,8 +35,8 @@ abbrev pub plain_private : SshBasePrivateKey → Result PrivateKey PuttyError
 plain_private (keys.Rsa n e d iqmp p q) = Ok (plain.Rsa n e d iqmp p q)
 plain_private (keys.Ec curve point secret) = Ok (plain.Ec curve point secret)
 plain_private (keys.Ed secret public) = Ok (plain.Ed secret public)
-plain_private (keys.SkEcdsaSha2NistP256 point application flags handle) = Err no_hardware_keys
-plain_private (keys.SkEd25519 key application flags handle) = Err no_hardware_keys
+plain_private (keys.SkEcdsaSha2NistP256 point application flags handle) = Err no_security_keys
+plain_private (keys.SkEd25519 key application flags handle) = Err no_security_keys
 
 unfoldable pub private_key_of : PpkFile → Result PrivateKey PuttyError
 private_key_of f = and_then (base_key_of f) plain_private

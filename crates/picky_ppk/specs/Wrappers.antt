@@ -11,8 +11,8 @@ use Rattle.picky_ppk_parts.specs.declared.error.PuttyError.{PuttyError}
 use Rattle.picky_ppk_parts.specs.declared.key_parts.KeyParts.{KeyParts}
 use Rattle.picky_ppk_parts.specs.KeyParts.{blob_within, key_parts}
 use Rattle.picky_ppk_parts.specs.PartsRefusal.{parts_key, key_in_blob}
-use Rattle.picky_ppk_parts.specs.Unsupported.{no_hardware_keys}
-use Rattle.picky_ppk_file.specs.PuttyRefusal.{is_hardware, plain_key}
+use Rattle.picky_ppk_parts.specs.Unsupported.{no_security_keys}
+use Rattle.picky_ppk_file.specs.PuttyRefusal.{is_security_key, plain_key}
 use Rattle.picky_ppk.specs.declared.wrappers.PuttyBasePublicKey.{PuttyBasePublicKey}
 use Rattle.picky_ppk.specs.declared.wrappers.PuttyBasePrivateKey.{PuttyBasePrivateKey}
 use Rattle.picky_ppk.specs.declared.wrappers.PuttyPrivateKey.{PuttyPrivateKey}
@@ -23,7 +23,7 @@ use Rattle.picky_ppk.specs.KeyOf.{made_error, plain_private}
 -- of an OpenSSH key
 unfoldable pub public_of_openssh : SshBasePublicKey → Result PuttyBasePublicKey PuttyError
 public_of_openssh key =
-    if is_hardware key then Err no_hardware_keys else and_then (blob_within key) (λ blob. Ok (record { blob = blob }))
+    if is_security_key key then Err no_security_keys else and_then (blob_within key) (λ blob. Ok (record { blob = blob }))
 
 -- the OpenSSH key in it
 abbrev pub public_to_openssh : PuttyBasePublicKey → Result SshBasePublicKey PuttyError

@@ -13,7 +13,7 @@ ghost use Rattle.picky_ppk_parts.specs.Counted.{counted};
 ghost use Rattle.picky_ppk_parts.specs.Parts.{StandsForKey};
 ghost use Rattle.picky_ppk_file.specs.declared.file.PpkFile.{PpkFile as File};
 ghost use Rattle.picky_ppk_file.specs.File.{IsFile, version_of, is_sealed};
-ghost use Rattle.picky_ppk_file.specs.Written.{end_of, written};
+ghost use Rattle.picky_ppk_file.specs.Written.{line_end_of, file_spelled};
 ghost use Rattle.picky_ppk.specs.Mac.{CarriesMac, covered};
 ghost use Rattle.picky_ppk.specs.Accepted.{HaveOneMac, IsAccepted, SayTheSame, mac_key_under};
 ghost use Rattle.picky_ppk.specs.Checked.{ppk_meaning};
@@ -42,8 +42,8 @@ pub fn sizes_are_those_of_the_ciphers()
 /// has no LF, and in version 3 no CR at its end.
 pub fn file_is_read_back()
     ensures { (m : Meanings) (f : File) (text more : List ℕ) → IsFile f
-        → IsLine (end_of (version_of f.sealing)) f.comment → (is_sealed f.sealing ≡ true) ⊎ CarriesMac m f
-        → written f ≡ Ok text → ppk_meaning m (text ++ more) ≡ Ok f }
+        → IsLine (line_end_of (version_of f.sealing)) f.comment → (is_sealed f.sealing ≡ true) ⊎ CarriesMac m f
+        → file_spelled f ≡ Ok text → ppk_meaning m (text ++ more) ≡ Ok f }
 {}
 
 /// A file that is sealed and opened under the same passphrase is the same, where it carries its own MAC and its private

@@ -1,5 +1,7 @@
 //! PuTTY's files (PuTTY's manual, Appendix C): private keys of versions 2 and 3, sealed under a passphrase or not, and the
 //! public keys that PuTTYgen saves.
+//!
+//! Read first: `specs/Accepted.antt`, what a text means, and `specs/Sealed.antt`; then `src/ppk.rt`.
 #![tactic(auto)]
 
 pub mod aes;

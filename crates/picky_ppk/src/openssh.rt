@@ -17,7 +17,7 @@ use crate::ppk::Ppk;
 use picky_keys::{PrivateKey, PublicKey};
 use picky_ppk_file::{PpkFile, PpkSealing, PuttyPublicKey, plain_key};
 use picky_ppk_parts::{
-    KeyParts, PpkVersion, PuttyError, key_in_blob, no_hardware_keys, private_key_of as key_of_parts,
+    KeyParts, PpkVersion, PuttyError, key_in_blob, no_security_keys, private_key_of as key_of_parts,
 };
 use picky_sshkey::{SshBasePrivateKey, SshPrivateKey, SshPrivateKeyError};
 use picky_suite::Suite;
@@ -200,7 +200,7 @@ pub fn plain_private(alloc: Global, key: SshBasePrivateKey) -> Result<PrivateKey
         SshBasePrivateKey::Ed { secret, public } => Ok(PrivateKey::Ed { secret, public }),
         SshBasePrivateKey::SkEcdsaSha2NistP256 { .. } | SshBasePrivateKey::SkEd25519 { .. } => {
             drop(key);
-            Err(no_hardware_keys(alloc))
+            Err(no_security_keys(alloc))
         }
     }
 }

@@ -7,7 +7,7 @@ ghost use Rattle.picky_wire_base.specs.Gives.{Gives};
 ghost use Rattle.picky_ppk_file.specs.declared.file.PpkFile.{PpkFile as File};
 ghost use Rattle.picky_ppk_parts.specs.Mac.{mac_bytes as mac_bytes_of};
 ghost use Rattle.picky_ppk_file.specs.File.{version_of, is_sealed, params_of};
-ghost use Rattle.picky_ppk_file.specs.Written.{end_of, written};
+ghost use Rattle.picky_ppk_file.specs.Written.{line_end_of, file_spelled};
 ghost use Rattle.picky_ppk.specs.Mac.{CarriesMac, covered as covered_of, own_mac as own_mac_of, with_own_mac as with_own_mac_of};
 ghost use Rattle.picky_ppk.specs.Checked.{checked as checked_of, ppk_meaning};
 ghost use Rattle.picky_ppk.specs.Sealed.{padding_len as padding_len_of};
@@ -60,11 +60,11 @@ impl Ppk {
     /// have more than 3,145,680 bytes.
     #[tactic(auto, using(crate::proofs::CheckedLaws::read_texts))]
     pub fn to_string(&self, alloc: Global) -> Result<Text, PuttyError>
-        ensures gives { Gives PuttyError.NoMemory (λ text. text) result (written self.now) }
+        ensures gives { Gives PuttyError.NoMemory (λ text. text) result (file_spelled self.now) }
 
         // The text of a file that is sealed, or carries its own MAC under a suite, is read back, whatever follows it,
         // unless its comment breaks the line.
-        ensures read_back { IsLine (end_of (version_of self.now.sealing)) self.now.comment
+        ensures read_back { IsLine (line_end_of (version_of self.now.sealing)) self.now.comment
             → IfOk result (λ text. (m : Meanings) (more : List ℕ)
             → (is_sealed self.now.sealing ≡ true) ⊎ CarriesMac m self.now → ppk_meaning m (text ++ more) ≡ Ok self.now) }
     {

@@ -9,9 +9,9 @@ ghost use Rattle.picky_ppk.specs.Wrappers.{private_of_openssh, private_to_openss
 
 use crate::openssh::{made_private, plain_in_blob, plain_private};
 use picky_keys::{PrivateKey, PublicKey, SshBasePublicKey};
-use picky_ppk_file::is_hardware;
+use picky_ppk_file::is_security_key;
 use picky_ppk_parts::{
-    KeyParts, PpkKeyAlgorithm, PuttyError, blob_of_public, key_in_blob, no_hardware_keys,
+    KeyParts, PpkKeyAlgorithm, PuttyError, blob_of_public, key_in_blob, no_security_keys,
     private_key_of,
 };
 use picky_sshkey::{SshBasePrivateKey, SshPrivateKey};
@@ -49,8 +49,8 @@ impl PuttyBasePublicKey {
     ) -> Result<PuttyBasePublicKey, PuttyError>
         ensures { Gives PuttyError.NoMemory (λ key. key) result (public_of_openssh key.now) }
     {
-        if is_hardware(key) {
-            return Err(no_hardware_keys(alloc));
+        if is_security_key(key) {
+            return Err(no_security_keys(alloc));
         }
         match blob_of_public(alloc, key) {
             Ok(blob) => Ok(PuttyBasePublicKey { blob }),

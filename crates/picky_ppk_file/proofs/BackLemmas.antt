@@ -10,7 +10,7 @@ use Rattle.picky_kv.specs.Lines.{next_pair, next_block, value_alone}
 use Rattle.picky_kv.specs.Parts.{HasNoLineEnd}
 use Rattle.picky_kv.proofs.OneLineLemmas.{base64_is_one_line}
 use Rattle.picky_kv.proofs.ReadBackLemmas.{pair_is_read_back, block_is_read_back}
-use Rattle.picky_ppk_file.specs.Written.{line_of, rows_under, fits_block}
+use Rattle.picky_ppk_file.specs.Written.{line_under, rows_under, fits_block}
 use Rattle.picky_ppk_file.proofs.TextLemmas.{text_of-then, few_rows}
 
 -- the lines of a text of lines, whatever follows it
@@ -20,16 +20,16 @@ lines_at end ls more = lines (text_of end ls ++ more)
 -- A pair is.
 pub pair_back : {K V : Type 0} (key : Field K) (value : Field V) (context : List ℕ) (end : LineEnd) (k : K) (v : V)
     (behind : List (List ℕ)) (more : List ℕ) → IsPlain key → key.fits k → value.fits v → IsLine end (value.spelling v)
-    → next_pair key value context (lines_at end (line_of key value k v ∷ behind) more) ≡ Ok
+    → next_pair key value context (lines_at end (line_under key value k v ∷ behind) more) ≡ Ok
     ((k, v), lines_at end behind more)
 pair_back key value context end k v behind more plain key_fits fits line =
-    ap (λ t. next_pair key value context (lines t)) (text_of-then end (line_of key value k v ∷ []) behind more)
+    ap (λ t. next_pair key value context (lines t)) (text_of-then end (line_under key value k v ∷ []) behind more)
     ∙ pair_is_read_back key value context plain end k v (text_of end behind ++ more) key_fits fits line
 
 -- And so is its value alone.
 pub value_back : {K V : Type 0} (key : Field K) (value : Field V) (context : List ℕ) (end : LineEnd) (k : K) (v : V)
     (behind : List (List ℕ)) (more : List ℕ) → IsPlain key → key.fits k → value.fits v → IsLine end (value.spelling v)
-    → value_alone (next_pair key value context (lines_at end (line_of key value k v ∷ behind) more))
+    → value_alone (next_pair key value context (lines_at end (line_under key value k v ∷ behind) more))
     ≡ Ok (v, lines_at end behind more)
 value_back key value context end k v behind more plain key_fits fits line =
     ap (λ r. value_alone r) (pair_back key value context end k v behind more plain key_fits fits line)

@@ -17,8 +17,8 @@ use Rattle.picky_ppk_parts.specs.declared.error.PuttyError.TheVariants as errors
 use Rattle.picky_ppk_file.specs.declared.putty_public.PuttyPublicKey.{PuttyPublicKey}
 use Rattle.picky_ppk_file.specs.PuttyPublic.{SaysPuttyPublic, IsPuttyPublic}
 use Rattle.picky_ppk_parts.specs.PartsRefusal.{key_in_blob}
-use Rattle.picky_ppk_parts.specs.Unsupported.{no_hardware_keys}
-use Rattle.picky_ppk_file.specs.PuttyRefusal.{is_hardware, of_openssh, to_openssh}
+use Rattle.picky_ppk_parts.specs.Unsupported.{no_security_keys}
+use Rattle.picky_ppk_file.specs.PuttyRefusal.{is_security_key, of_openssh, to_openssh}
 use Rattle.picky_ppk_file.specs.PuttyRefusal.{putty_meaning}
 use Rattle.picky_ppk_file.proofs.MeaningLaws.{putty_meaning_of, putty_meaning_says}
 
@@ -39,7 +39,7 @@ pub openssh_reads_back : (key : SshPublicKey) (putty : PuttyPublicKey) → IsKey
 unfolding of_openssh
 openssh_reads_back key putty is made =
     let bytes = blob_of key.inner_key in
-    let plain = unless (is_hardware key.inner_key) no_hardware_keys _ putty made in
+    let plain = unless (is_security_key key.inner_key) no_security_keys _ putty made in
     let passed = passed_ok (is_short bytes) errors.TooLong _ putty plain in
     let fits : Fits layout.piece key.inner_key bytes [] = (bytes, blob_spells key.inner_key is, sym (append-nil bytes)) in
     subst (λ p. to_openssh p ≡ Ok key) passed.1

@@ -28,8 +28,8 @@ use Rattle.picky_ppk_file.specs.declared.file.PpkSealing.TheVariants.{Unsealed, 
 use Rattle.picky_ppk_file.specs.{declared.file.PpkFile.{PpkFile}, declared.reading.Front.{Front}}
 use Rattle.picky_ppk_file.specs.File.{version_of, encryption_of, AreParams, IsSealing, IsFile}
 use Rattle.picky_ppk_file.specs.FileRefusal.{argon2_in, front_in, sealing_in, file_in, file_meaning}
-use Rattle.picky_ppk_file.specs.Written.{line_of, rows_under, argon2_lines, sealing_lines, file_lines, end_of, file_text}
-use Rattle.picky_ppk_file.specs.Written.{fits_block, written}
+use Rattle.picky_ppk_file.specs.Written.{line_under, rows_under, argon2_lines, sealing_lines, file_lines, line_end_of, file_text}
+use Rattle.picky_ppk_file.specs.Written.{fits_block, file_spelled}
 use Rattle.picky_ppk_file.proofs.{LineSteps.{then_ok}, FileLaws.{read_is_meant}}
 use Rattle.picky_ppk_file.proofs.BackLemmas.{lines_at, pair_back, value_back, bytes_back}
 use Rattle.picky_text.proofs.LineLaws.{one_line}
@@ -41,10 +41,10 @@ argon2_back : (end : LineEnd) (params : Argon2Params) (behind : List (List ℕ))
 unfolding argon2_in argon2_lines key_derivation_key argon2_memory_key argon2_passes_key argon2_parallelism_key
     argon2_salt_key flavour_field u32_field hex_field
 argon2_back end params behind more is =
-    let salt : List (List ℕ) = line_of argon2_salt_key hex_field (record {}) params.salt ∷ behind in
-    let lanes : List (List ℕ) = line_of argon2_parallelism_key u32_field (record {}) params.parallelism ∷ salt in
-    let passes : List (List ℕ) = line_of argon2_passes_key u32_field (record {}) params.passes ∷ lanes in
-    let memory : List (List ℕ) = line_of argon2_memory_key u32_field (record {}) params.memory ∷ passes in
+    let salt : List (List ℕ) = line_under argon2_salt_key hex_field (record {}) params.salt ∷ behind in
+    let lanes : List (List ℕ) = line_under argon2_parallelism_key u32_field (record {}) params.parallelism ∷ salt in
+    let passes : List (List ℕ) = line_under argon2_passes_key u32_field (record {}) params.passes ∷ lanes in
+    let memory : List (List ℕ) = line_under argon2_memory_key u32_field (record {}) params.memory ∷ passes in
     then_ok _ _ (params.flavor, lines_at end memory more) _
     (value_back key_derivation_key flavour_field key_derivation_key_row.name end (record {}) params.flavor memory more
     key_derivation_key_is_plain tt tt (one_line end _ (flavours_are_one_line params.flavor tt)))
@@ -89,27 +89,27 @@ front_of f = record {
 
 -- the lines behind them
 abbrev last_lines : PpkFile → List (List ℕ)
-last_lines f = rows_under private_lines_key (record {}) f.private_bytes ++ line_of private_mac_key hex_field (record {})
+last_lines f = rows_under private_lines_key (record {}) f.private_bytes ++ line_under private_mac_key hex_field (record {})
     f.mac ∷ []
 
 -- the lines of a file, with those that are read first in front
 abbrev all_lines : PpkFile → List (List ℕ)
 all_lines f =
-    line_of version_field algorithm_field (version_of f.sealing) f.algorithm
-    ∷ line_of encryption_key encryption_field (record {}) (encryption_of f.sealing)
-    ∷ line_of comment_key comment_field (record {}) f.comment
+    line_under version_field algorithm_field (version_of f.sealing) f.algorithm
+    ∷ line_under encryption_key encryption_field (record {}) (encryption_of f.sealing)
+    ∷ line_under comment_key comment_field (record {}) f.comment
     ∷ (rows_under public_lines_key (record {}) f.public_key ++ (sealing_lines f.sealing ++ last_lines f))
 
 file_lines-all : (f : PpkFile) → file_lines f ≡ all_lines f
 unfolding file_lines
 file_lines-all f =
     let front : List (List ℕ) =
-    line_of version_field algorithm_field (version_of f.sealing) f.algorithm
-    ∷ line_of encryption_key encryption_field (record {}) (encryption_of f.sealing)
-    ∷ line_of comment_key comment_field (record {}) f.comment
+    line_under version_field algorithm_field (version_of f.sealing) f.algorithm
+    ∷ line_under encryption_key encryption_field (record {}) (encryption_of f.sealing)
+    ∷ line_under comment_key comment_field (record {}) f.comment
     ∷ rows_under public_lines_key (record {}) f.public_key in
     append_assoc (front ++ sealing_lines f.sealing) (rows_under private_lines_key (record {}) f.private_bytes)
-    (line_of private_mac_key hex_field (record {}) f.mac ∷ [])
+    (line_under private_mac_key hex_field (record {}) f.mac ∷ [])
     ∙ append_assoc front (sealing_lines f.sealing) (last_lines f)
 
 front_back : (end : LineEnd) (f : PpkFile) (more : List ℕ) → IsFile f → IsLine end f.comment → fits_block f.public_key ≡
@@ -124,8 +124,8 @@ unfolding front_in version_field algorithm_field encryption_key encryption_field
 front_back end f more is line fits =
     let sealing : List (List ℕ) = sealing_lines f.sealing ++ last_lines f in
     let public : List (List ℕ) = rows_under public_lines_key (record {}) f.public_key ++ sealing in
-    let comment : List (List ℕ) = line_of comment_key comment_field (record {}) f.comment ∷ public in
-    let encryption : List (List ℕ) = line_of encryption_key encryption_field (record {}) (encryption_of f.sealing) ∷
+    let comment : List (List ℕ) = line_under comment_key comment_field (record {}) f.comment ∷ public in
+    let encryption : List (List ℕ) = line_under encryption_key encryption_field (record {}) (encryption_of f.sealing) ∷
     comment in
     then_ok _ _ ((version_of f.sealing, f.algorithm), lines_at end encryption more) _
     (pair_back version_field algorithm_field version_row.name end (version_of f.sealing) f.algorithm encryption more
@@ -148,7 +148,7 @@ file_back : (end : LineEnd) (f : PpkFile) (more : List ℕ) → IsFile f → IsL
     → fits_block f.private_bytes ≡ true → file_in (lines_at end (all_lines f) more) ≡ Ok (f, lines_at end [] more)
 unfolding file_in private_lines_key private_mac_key hex_field
 file_back end f more is line public_fits private_fits =
-    let mac : List (List ℕ) = line_of private_mac_key hex_field (record {}) f.mac ∷ [] in
+    let mac : List (List ℕ) = line_under private_mac_key hex_field (record {}) f.mac ∷ [] in
     let private : List (List ℕ) = rows_under private_lines_key (record {}) f.private_bytes ++ mac in
     then_ok _ _ (front_of f, lines_at end (sealing_lines f.sealing ++ private) more) _
     (front_back end f more is line public_fits)
@@ -170,12 +170,12 @@ both_passed true blocks x y is = passed_ok blocks errors.TooManyLines x y is
 both_passed false blocks x y is = cc is
 
 -- What is written of a file is read back, whatever follows it.
-pub written_is_read_back : (f : PpkFile) (text more : List ℕ) → IsFile f → IsLine (end_of (version_of f.sealing))
+pub written_is_read_back : (f : PpkFile) (text more : List ℕ) → IsFile f → IsLine (line_end_of (version_of f.sealing))
     f.comment
-    → written f ≡ Ok text → file_meaning (text ++ more) ≡ Ok f
-unfolding written file_text
+    → file_spelled f ≡ Ok text → file_meaning (text ++ more) ≡ Ok f
+unfolding file_spelled file_text
 written_is_read_back f text more is line written_is =
-    let end : LineEnd = end_of (version_of f.sealing) in
+    let end : LineEnd = line_end_of (version_of f.sealing) in
     let blocks = fits_block f.public_key && fits_block f.private_bytes in
     let short = both_passed (is_short (file_text f)) blocks (file_text f) text written_is in
     let fit = and_parts (fits_block f.public_key) (fits_block f.private_bytes) short.0 in
@@ -186,13 +186,13 @@ written_is_read_back f text more is line written_is =
 
 -- So is a text that is short enough, of blocks that are.
 pub text_is_read_back : (f : PpkFile) (text more : List ℕ) → text ≡ file_text f → IsFile f → length text < 2 ^ 32
-    → (fits_block f.public_key && fits_block f.private_bytes) ≡ true → IsLine (end_of (version_of f.sealing)) f.comment
+    → (fits_block f.public_key && fits_block f.private_bytes) ≡ true → IsLine (line_end_of (version_of f.sealing)) f.comment
     → file_meaning (text ++ more) ≡ Ok f
-unfolding written
+unfolding file_spelled
 text_is_read_back f text more text_is is short fit line =
     let whole : length (file_text f) < 2 ^ 32 = subst (λ t. length t < 2 ^ 32) text_is short in
     let first : is_short (file_text f) ≡ true = grind (arith, nat_tests, whole) in
-    let written_is : written f ≡ Ok (file_text f) = rw (first, fit) refl in
+    let written_is : file_spelled f ≡ Ok (file_text f) = rw (first, fit) refl in
     written_is_read_back f text more is line (written_is ∙ ap Ok (sym text_is))
 
 pub ruleset written_texts = (text_is_read_back)

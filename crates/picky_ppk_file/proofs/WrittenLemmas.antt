@@ -18,7 +18,7 @@ use Rattle.picky_kv.specs.Output.{pair_line, block_lines}
 use Rattle.picky_ppk_parts.specs.declared.material.Argon2Params.{Argon2Params}
 use Rattle.picky_ppk_file.specs.declared.file.PpkFile.{PpkFile}
 use Rattle.picky_ppk_file.specs.File.{version_of, encryption_of}
-use Rattle.picky_ppk_file.specs.Written.{argon2_lines, sealing_lines, file_lines, end_of, file_text}
+use Rattle.picky_ppk_file.specs.Written.{argon2_lines, sealing_lines, file_lines, line_end_of, file_text}
 use Rattle.picky_ppk_file.proofs.WriteLemmas.{lines_written}
 
 -- one line alone
@@ -50,7 +50,7 @@ argon2_written end params flavor salt t0 t1 t2 t3 t4 t5 flavor_is salt_is p1 p2 
 -- The lines of a file.
 pub file_written : (f : PpkFile) (end : LineEnd) (version : PpkVersionKey) (encryption : PpkEncryptionValue)
     (header algorithm named comment public private mac t0 t1 t2 t3 t4 t5 t6 t7 : List ℕ)
-    → end ≡ end_of version → version ≡ version_of f.sealing → encryption ≡ encryption_of f.sealing
+    → end ≡ line_end_of version → version ≡ version_of f.sealing → encryption ≡ encryption_of f.sealing
     → header ≡ version_field.spelling version → algorithm ≡ algorithm_field.spelling f.algorithm
     → named ≡ encryption_field.spelling encryption → comment ≡ f.comment → public ≡ f.public_key
     → private ≡ f.private_bytes → mac ≡ f.mac

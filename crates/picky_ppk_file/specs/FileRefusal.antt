@@ -30,11 +30,11 @@ use Rattle.picky_ppk_file.specs.declared.file.PpkFile.{PpkFile}
 use Rattle.picky_ppk_file.specs.declared.reading.Front.{Front}
 
 -- what a step reads, and the lines after it
-abbrev pub Step : Type 0 → Type 0
-Step A = List (List ℕ) → Result (A × List (List ℕ)) KvError
+abbrev pub TakesLines : Type 0 → Type 0
+TakesLines A = List (List ℕ) → Result (A × List (List ℕ)) KvError
 
 -- the lines of a derivation by Argon2
-unfoldable pub argon2_in : Step Argon2Params
+unfoldable pub argon2_in : TakesLines Argon2Params
 argon2_in ls =
     and_then (value_alone (next_pair key_derivation_key flavour_field key_derivation_key_row.name ls)) (λ flavor.
     and_then (value_alone (next_pair argon2_memory_key u32_field argon2_memory_key_row.name flavor.1)) (λ memory.
@@ -47,7 +47,7 @@ argon2_in ls =
     ))))))
 
 -- the first lines of a file
-unfoldable pub front_in : Step Front
+unfoldable pub front_in : TakesLines Front
 front_in ls =
     and_then (next_pair version_field algorithm_field version_row.name ls) (λ header.
     and_then (value_alone (next_pair encryption_key encryption_field encryption_key_row.name header.1)) (λ encryption.
@@ -65,13 +65,13 @@ front_in ls =
     )))))
 
 -- what seals the file: its version and encryption say it, and in a sealed file of version 3 five lines more
-abbrev pub sealing_in : PpkVersionKey → PpkEncryptionValue → Step PpkSealing
+abbrev pub sealing_in : PpkVersionKey → PpkEncryptionValue → TakesLines PpkSealing
 sealing_in version None ls = Ok (Unsealed version, ls)
 sealing_in V2 Aes256Cbc ls = Ok (SealedV2, ls)
 sealing_in V3 Aes256Cbc ls = and_then (argon2_in ls) (λ params. Ok (SealedV3 params.0, params.1))
 
 -- the file that the lines begin with
-unfoldable pub file_in : Step PpkFile
+unfoldable pub file_in : TakesLines PpkFile
 file_in ls =
     and_then (front_in ls) (λ front.
     and_then (sealing_in front.0.version front.0.encryption front.1) (λ sealing.

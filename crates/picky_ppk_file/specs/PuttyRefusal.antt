@@ -19,7 +19,7 @@ use Rattle.picky_keys.specs.LineRefusal.{is_short}
 use Rattle.picky_ppk_parts.specs.declared.error.PuttyError.{PuttyError}
 use Rattle.picky_ppk_parts.specs.declared.error.PuttyError.TheVariants as errors
 use Rattle.picky_ppk_parts.specs.PartsRefusal.{key_in_blob}
-use Rattle.picky_ppk_parts.specs.Unsupported.{no_hardware_keys}
+use Rattle.picky_ppk_parts.specs.Unsupported.{no_security_keys}
 use Rattle.picky_ppk_file.specs.declared.putty_public.PuttyPublicKey.{PuttyPublicKey}
 use Rattle.picky_ppk_file.specs.PuttyPublic.{header, footer, comment_start, putty_public}
 
@@ -81,17 +81,17 @@ putty_text key =
 -- ---- a blob
 
 -- a key whose secret a device keeps
-abbrev pub is_hardware : SshBasePublicKey → Bool
-is_hardware (keys.Rsa e n) = false
-is_hardware (keys.Ec curve point) = false
-is_hardware (keys.Ed key) = false
-is_hardware (keys.SkEcdsaSha2NistP256 point application) = true
-is_hardware (keys.SkEd25519 key application) = true
+abbrev pub is_security_key : SshBasePublicKey → Bool
+is_security_key (keys.Rsa e n) = false
+is_security_key (keys.Ec curve point) = false
+is_security_key (keys.Ed key) = false
+is_security_key (keys.SkEcdsaSha2NistP256 point application) = true
+is_security_key (keys.SkEd25519 key application) = true
 
 -- PuTTY's public key for an OpenSSH one
 unfoldable pub of_openssh : SshPublicKey → Result PuttyPublicKey PuttyError
 of_openssh key =
-    if is_hardware key.inner_key then Err no_hardware_keys
+    if is_security_key key.inner_key then Err no_security_keys
     else if is_short (blob_of key.inner_key)
     then Ok (record { blob = blob_of key.inner_key; comment = key.comment }) else Err errors.TooLong
 
@@ -102,7 +102,7 @@ to_openssh key =
 
 -- the key in the blob, of a kind that PuTTY has
 abbrev pub plain_key : SshBasePublicKey → Result PublicKey PuttyError
-plain_key key = if is_hardware key then Err no_hardware_keys else Ok (public_key_of key)
+plain_key key = if is_security_key key then Err no_security_keys else Ok (public_key_of key)
 
 unfoldable pub plain_key_of : PuttyPublicKey → Result PublicKey PuttyError
 plain_key_of key = and_then (key_in_blob key.blob) plain_key

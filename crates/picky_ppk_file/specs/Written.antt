@@ -24,8 +24,8 @@ use Rattle.picky_ppk_file.specs.declared.file.PpkFile.{PpkFile}
 use Rattle.picky_ppk_file.specs.File.{version_of, encryption_of}
 
 -- the line of a key and a value, each as it is written
-abbrev pub line_of : {K V : Type 0} → Field K → Field V → K → V → List ℕ
-line_of key value k v = pair_line (key.spelling k) (value.spelling v)
+abbrev pub line_under : {K V : Type 0} → Field K → Field V → K → V → List ℕ
+line_under key value k v = pair_line (key.spelling k) (value.spelling v)
 
 -- the lines of a block of bytes
 abbrev pub rows_under : {K : Type 0} → Field K → K → List ℕ → List (List ℕ)
@@ -34,11 +34,11 @@ rows_under key k bytes = block_lines (key.spelling k) (base64_field.spelling byt
 -- the lines of a derivation by Argon2
 unfoldable pub argon2_lines : Argon2Params → List (List ℕ)
 argon2_lines params =
-    line_of key_derivation_key flavour_field (record {}) params.flavor
-    ∷ line_of argon2_memory_key u32_field (record {}) params.memory
-    ∷ line_of argon2_passes_key u32_field (record {}) params.passes
-    ∷ line_of argon2_parallelism_key u32_field (record {}) params.parallelism
-    ∷ line_of argon2_salt_key hex_field (record {}) params.salt ∷ []
+    line_under key_derivation_key flavour_field (record {}) params.flavor
+    ∷ line_under argon2_memory_key u32_field (record {}) params.memory
+    ∷ line_under argon2_passes_key u32_field (record {}) params.passes
+    ∷ line_under argon2_parallelism_key u32_field (record {}) params.parallelism
+    ∷ line_under argon2_salt_key hex_field (record {}) params.salt ∷ []
 
 abbrev pub sealing_lines : PpkSealing → List (List ℕ)
 sealing_lines (Unsealed version) = []
@@ -48,29 +48,29 @@ sealing_lines (SealedV3 params) = argon2_lines params
 -- the lines of a file
 unfoldable pub file_lines : PpkFile → List (List ℕ)
 file_lines f =
-    line_of version_field algorithm_field (version_of f.sealing) f.algorithm
-    ∷ line_of encryption_key encryption_field (record {}) (encryption_of f.sealing)
-    ∷ line_of comment_key comment_field (record {}) f.comment
+    line_under version_field algorithm_field (version_of f.sealing) f.algorithm
+    ∷ line_under encryption_key encryption_field (record {}) (encryption_of f.sealing)
+    ∷ line_under comment_key comment_field (record {}) f.comment
     ∷ rows_under public_lines_key (record {}) f.public_key
     ++ sealing_lines f.sealing
     ++ rows_under private_lines_key (record {}) f.private_bytes
-    ++ line_of private_mac_key hex_field (record {}) f.mac ∷ []
+    ++ line_under private_mac_key hex_field (record {}) f.mac ∷ []
 
 -- CR LF ends the lines of version 2, LF those of version 3
-abbrev pub end_of : PpkVersionKey → LineEnd
-end_of V2 = CrLf
-end_of V3 = Lf
+abbrev pub line_end_of : PpkVersionKey → LineEnd
+line_end_of V2 = CrLf
+line_end_of V3 = Lf
 
 unfoldable pub file_text : PpkFile → List ℕ
-file_text f = text_of (end_of (version_of f.sealing)) (file_lines f)
+file_text f = text_of (line_end_of (version_of f.sealing)) (file_lines f)
 
 -- 65,535 lines of 64 characters have room for the bytes, which are 48 a line
 abbrev pub fits_block : List ℕ → Bool
 fits_block bytes = nat_le (length bytes) 3145680
 
 -- the text, where a length of the wire can say its length and each block has room
-unfoldable pub written : PpkFile → Result (List ℕ) PuttyError
-written f =
+unfoldable pub file_spelled : PpkFile → Result (List ℕ) PuttyError
+file_spelled f =
     if is_short (file_text f)
     then (if fits_block f.public_key && fits_block f.private_bytes then Ok (file_text f) else Err errors.TooManyLines)
     else Err errors.TooLong

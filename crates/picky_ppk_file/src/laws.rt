@@ -8,7 +8,7 @@ ghost use Rattle.picky_ppk_file.specs.declared.file.PpkFile.{PpkFile as File};
 ghost use Rattle.picky_ppk_file.specs.File.{IsFile, version_of};
 ghost use Rattle.picky_ppk_file.specs.FileText.{SaysFile};
 ghost use Rattle.picky_ppk_file.specs.FileRefusal.{file_meaning};
-ghost use Rattle.picky_ppk_file.specs.Written.{end_of, written};
+ghost use Rattle.picky_ppk_file.specs.Written.{line_end_of, file_spelled};
 
 use crate::file::{PpkFile, PpkSealing};
 
@@ -22,8 +22,8 @@ pub fn text_means_what_it_says()
 /// What is written of a file is read back, whatever follows it, where the comment has no LF, and in version 3 no CR at its
 /// end.
 pub fn file_is_read_back()
-    ensures { (f : File) (text more : List ℕ) → IsFile f → IsLine (end_of (version_of f.sealing)) f.comment
-        → written f ≡ Ok text → file_meaning (text ++ more) ≡ Ok f }
+    ensures { (f : File) (text more : List ℕ) → IsFile f → IsLine (line_end_of (version_of f.sealing)) f.comment
+        → file_spelled f ≡ Ok text → file_meaning (text ++ more) ≡ Ok f }
 {}
 
 /// The fields that a text of bytes has are in their ranges.

@@ -6,11 +6,11 @@ ghost use Rattle.picky_text.specs.Lines.{HasNo};
 ghost use Rattle.picky_wire_base.specs.Gives.{Gives};
 ghost use Rattle.picky_kv.specs.Joined.{joined_text};
 ghost use Rattle.picky_ppk_file.specs.PuttyPublic.{putty_public as text_of};
-ghost use Rattle.picky_ppk_file.specs.PuttyRefusal.{quoted as quoted_in, after_header as after_header_of, after_comment as after_comment_of, body_from, of_blob as of_blob_of, of_parts as of_parts_of, putty_meaning, putty_text, is_hardware as is_hardware_of, of_openssh, to_openssh as to_openssh_of, plain_key_of, plain_key as plain_of, commented};
+ghost use Rattle.picky_ppk_file.specs.PuttyRefusal.{quoted as quoted_in, after_header as after_header_of, after_comment as after_comment_of, body_from, of_blob as of_blob_of, of_parts as of_parts_of, putty_meaning, putty_text, is_security_key as is_security_key_of, of_openssh, to_openssh as to_openssh_of, plain_key_of, plain_key as plain_of, commented};
 
 use picky_keys::{PublicKey, SshBasePublicKey, SshPublicKey};
 use picky_kv::JoinedLines;
-use picky_ppk_parts::{PuttyError, blob_of_public, key_in_blob, no_hardware_keys};
+use picky_ppk_parts::{PuttyError, blob_of_public, key_in_blob, no_security_keys};
 use picky_text::{
     Base64Error, LineEnd, LineReader, decode, encode, push_quoted, push_rows, unquoted,
 };
@@ -288,8 +288,8 @@ fn putty_key(
 ) -> Result<PuttyPublicKey, PuttyError>
     ensures { Gives PuttyError.NoMemory (λ key. key) result (of_openssh (record { inner_key = inner_key.now; comment = comment })) }
 {
-    if is_hardware(inner_key) {
-        return Err(no_hardware_keys(alloc));
+    if is_security_key(inner_key) {
+        return Err(no_security_keys(alloc));
     }
     match blob_of_public(alloc, inner_key) {
         Ok(blob) => Ok(PuttyPublicKey { blob, comment }),
@@ -308,8 +308,8 @@ fn text_room(body_len: usize, comment_len: usize) -> usize
 }
 
 /// Whether a device keeps the key's secret.
-pub fn is_hardware(key: &SshBasePublicKey) -> bool
-    ensures { result ≡ is_hardware_of key.now }
+pub fn is_security_key(key: &SshBasePublicKey) -> bool
+    ensures { result ≡ is_security_key_of key.now }
 {
     match key {
         SshBasePublicKey::Rsa { .. } | SshBasePublicKey::Ec { .. } | SshBasePublicKey::Ed { .. } =>
@@ -330,7 +330,7 @@ pub fn plain_key(alloc: Global, key: SshBasePublicKey) -> Result<PublicKey, Putt
         SshBasePublicKey::Ed { key } => Ok(PublicKey::Ed { key }),
         SshBasePublicKey::SkEcdsaSha2NistP256 { .. } | SshBasePublicKey::SkEd25519 { .. } => {
             drop(key);
-            Err(no_hardware_keys(alloc))
+            Err(no_security_keys(alloc))
         }
     }
 }

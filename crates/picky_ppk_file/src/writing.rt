@@ -12,8 +12,8 @@ ghost use Rattle.picky_kv.specs.Output.{pair_line, block_lines};
 ghost use Rattle.picky_ppk_file.specs.File.{version_of};
 ghost use Rattle.picky_ppk_file.specs.File.{AreParams, IsSealing, IsFile};
 ghost use Rattle.picky_ppk_file.specs.FileRefusal.{file_meaning};
-ghost use Rattle.picky_ppk_file.specs.Written.{end_of as end_of_version, file_text, argon2_lines};
-ghost use Rattle.picky_ppk_file.specs.Written.{sealing_lines, fits_block, written};
+ghost use Rattle.picky_ppk_file.specs.Written.{line_end_of as end_of_version, file_text, argon2_lines};
+ghost use Rattle.picky_ppk_file.specs.Written.{sealing_lines, fits_block, file_spelled};
 
 use crate::file::{PpkFile, PpkSealing};
 use picky_kv::PpkLiteral;
@@ -38,9 +38,9 @@ impl PpkFile {
     ///
     /// Refuses, in order: `TooLong`, where it has 2^32 bytes or more; `TooManyLines`, where the blob or the private bytes
     /// have more than 3,145,680 bytes.
-    #[tactic(auto, unfolding(crate::specs::Written::written), using(crate::proofs::ReadBackLaws::written_texts))]
+    #[tactic(auto, unfolding(crate::specs::Written::file_spelled), using(crate::proofs::ReadBackLaws::written_texts))]
     pub fn to_string(&self, alloc: Global) -> Result<Text, PuttyError>
-        ensures gives { Gives PuttyError.NoMemory (λ text. text) result (written self.now) }
+        ensures gives { Gives PuttyError.NoMemory (λ text. text) result (file_spelled self.now) }
 
         // A text is read back, whatever follows it, unless its comment breaks the line.
         ensures read_back { IsLine (end_of_version (version_of self.now.sealing)) self.now.comment

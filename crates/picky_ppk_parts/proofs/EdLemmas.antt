@@ -18,7 +18,7 @@ use Rattle.picky_wire_base.specs.declared.view.Part.{Part}
 use Rattle.picky_wire_base.specs.declared.view.Stuck.{Stuck}
 use Rattle.picky_wire_base.specs.declared.view.Stuck.TheVariants as stucks
 use Rattle.picky_wire_base.specs.View.{Seen, Lies, Places, end_of, part_bytes, why_in, why_of}
-use Rattle.picky_ppk_parts.specs.Number.{padded}
+use Rattle.picky_ppk_parts.specs.Number.{padded_number}
 use Rattle.picky_ppk_parts.specs.carried.Number.{padded_len, number_complete}
 use Rattle.picky_ppk_parts.specs.EdSecret.{as_number}
 use Rattle.picky_ppk_parts.specs.Secret.{ed_secret}
@@ -43,7 +43,7 @@ string_in bytes v rest is =
 
 -- ---- read
 
-ed_reads : (bytes v rest secret : List ℕ) → HasNumber bytes v rest → length v ≤ 32 → secret ≡ padded v
+ed_reads : (bytes v rest secret : List ℕ) → HasNumber bytes v rest → length v ≤ 32 → secret ≡ padded_number v
     → ed_secret.read bytes ≡ Ok (secret, rest)
 unfolding ed_secret
 ed_reads bytes v rest secret has short is =
@@ -72,8 +72,8 @@ unfolding ed_secret
 ed_refuses bytes v rest has long =
     let number = number_is has.content v has.stands in
     ap (λ r. and_then (map_err (placed 0) r) (meant (as_number (0, Length)))) has.read
-    ∙ ap (λ w. and_then (if nat_le (length w) 32 then Ok (padded w) else Err (0, Length)) (λ b. Ok (b, rest))) number
-    ∙ ap (λ t. and_then (if t then Ok (padded v) else Err (0, Length)) (λ b. Ok (b, rest))) (lt-leb (length v) 32 long)
+    ∙ ap (λ w. and_then (if nat_le (length w) 32 then Ok (padded_number w) else Err (0, Length)) (λ b. Ok (b, rest))) number
+    ∙ ap (λ t. and_then (if t then Ok (padded_number v) else Err (0, Length)) (λ b. Ok (b, rest))) (lt-leb (length v) 32 long)
 
 pub ed_is_long : (private : List ℕ) (part : Part) (next : ℕ)
     → Seen part_bytes (Lies private (end_of mpint private 0)) Flawed mpint private 0 (Ok (part, next))

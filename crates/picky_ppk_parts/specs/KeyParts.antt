@@ -14,15 +14,15 @@ use Rattle.picky_ppk_parts.specs.declared.error.PuttyError.TheVariants as errors
 use Rattle.picky_ppk_parts.specs.declared.key_parts.KeyParts.{KeyParts}
 use Rattle.picky_ppk_parts.specs.Algorithm.{curve_algorithm}
 use Rattle.picky_ppk_parts.specs.Secret.{secret_bytes}
-use Rattle.picky_ppk_parts.specs.Unsupported.{no_hardware_keys}
+use Rattle.picky_ppk_parts.specs.Unsupported.{no_security_keys}
 
 -- the algorithm that names the key; PuTTY has none whose secret a device keeps
 abbrev pub private_algorithm : SshBasePrivateKey → Result PpkKeyAlgorithmValue PuttyError
 private_algorithm (keys.Rsa n e d iqmp p q) = Ok algorithms.Rsa
 private_algorithm (keys.Ec curve point secret) = Ok (curve_algorithm curve)
 private_algorithm (keys.Ed secret public) = Ok algorithms.Ed25519
-private_algorithm (keys.SkEcdsaSha2NistP256 point application flags handle) = Err no_hardware_keys
-private_algorithm (keys.SkEd25519 key application flags handle) = Err no_hardware_keys
+private_algorithm (keys.SkEcdsaSha2NistP256 point application flags handle) = Err no_security_keys
+private_algorithm (keys.SkEd25519 key application flags handle) = Err no_security_keys
 
 -- the one blob of a public key, where a length of the wire can say its length
 abbrev pub blob_within : SshBasePublicKey → Result (List ℕ) PuttyError

@@ -11,7 +11,7 @@ use crate::algorithm::curve_algorithm;
 use crate::error::PuttyError;
 use crate::joined::joined_pieces;
 use crate::names::PpkKeyAlgorithm;
-use crate::unsupported::no_hardware_keys;
+use crate::unsupported::no_security_keys;
 use picky_keys::{SshBasePublicKey, SshPublicKeyError};
 use picky_sshkey_blob::SshBasePrivateKey;
 use picky_wire::{Bytes, MAX_LEN, Mpint, NoMemory, Piece, TryClone};
@@ -62,7 +62,7 @@ fn private_algorithm(alloc: Global, key: &SshBasePrivateKey) -> Result<PpkKeyAlg
         SshBasePrivateKey::Ec { curve, .. } => Ok(curve_algorithm(*curve)),
         SshBasePrivateKey::Ed { .. } => Ok(PpkKeyAlgorithm::Ed25519),
         SshBasePrivateKey::SkEcdsaSha2NistP256 { .. } | SshBasePrivateKey::SkEd25519 { .. } => {
-            Err(no_hardware_keys(alloc))
+            Err(no_security_keys(alloc))
         }
     }
 }

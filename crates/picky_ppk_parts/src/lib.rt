@@ -1,5 +1,7 @@
 //! What a PuTTY private key file is made of: the bytes of its secret, its MAC, and what seals it (PuTTY's manual,
 //! Appendix C, "PPK file format").
+//!
+//! Read first: `specs/Secret.antt` and `specs/Mac.antt`; then `src/laws.rt` and `src/parts.rt`.
 #![tactic(auto)]
 
 pub mod aes;
@@ -25,4 +27,4 @@ pub use mac::{MAC_SIZE_V3, Mac, mac_input, mac_key_v2};
 pub use material::{Argon2Params, KeyMaterialV2, KeyMaterialV3, flavour_of};
 pub use names::{Argon2Flavour, PpkKeyAlgorithm, PpkVersion};
 pub use parts::{key_in_blob, private_key_of};
-pub use unsupported::no_hardware_keys;
+pub use unsupported::no_security_keys;

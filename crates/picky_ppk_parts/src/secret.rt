@@ -6,7 +6,7 @@ ghost use Rattle.picky_wire_base.specs.Magnitude.{IsMagnitude};
 ghost use Rattle.picky_wire_base.specs.Mpint.{mpint};
 ghost use Rattle.picky_wire_base.specs.View.{Seen, part_bytes, why_in, why_of};
 ghost use Rattle.picky_wire_base.specs.Gives.{Gives};
-ghost use Rattle.picky_ppk_parts.specs.Number.{padded as padded_of};
+ghost use Rattle.picky_ppk_parts.specs.Number.{padded_number as padded_of};
 ghost use Rattle.picky_ppk_parts.specs.Secret.{rsa_secret, ed_secret, rsa_key as rsa_key_of};
 ghost use Rattle.picky_ppk_parts.specs.PartsRefusal.{why_error, key_with_secret as key_with_secret_of};
 ghost use Rattle.picky_ppk_parts.specs.inner.View.{rsa_seen, ed_seen, AreNumbers};

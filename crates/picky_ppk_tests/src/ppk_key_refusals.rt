@@ -204,7 +204,7 @@ fn has_no_public(alloc: Global) -> Result<bool, Fail> {
 #[test]
 fn has_no_keys_of_devices(rt: HostRuntime) -> Result<(), Fail> {
     for row in &PRIVATE_ROWS {
-        if row.is_on_device {
+        if row.is_security_key_kind {
             assert!(rt; is_not_made(rt.alloc(), row.text)?, "{}", row.name);
         }
     }

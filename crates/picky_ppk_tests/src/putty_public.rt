@@ -160,7 +160,7 @@ fn keeps_bytes_after_the_last_field(rt: HostRuntime) -> Result<(), Fail> {
 }
 
 /// PuTTY has no key of the line, whose blob its text may hold.
-fn is_hardware(alloc: Global, line: &str) -> Result<bool, Fail> {
+fn is_security_key(alloc: Global, line: &str) -> Result<bool, Fail> {
     let wanted = "NotSupported: SK keys";
     let key = kept(SshPublicKey::from_str(alloc, line))?;
     let body = line.split(' ').nth(1).ok_or("one word")?;
@@ -173,10 +173,10 @@ fn is_hardware(alloc: Global, line: &str) -> Result<bool, Fail> {
 }
 
 #[test]
-fn has_no_hardware_keys(rt: HostRuntime) -> Result<(), Fail> {
+fn has_no_security_keys(rt: HostRuntime) -> Result<(), Fail> {
     for row in &KEY_ROWS {
         if row.putty.is_none() {
-            assert!(rt; is_hardware(rt.alloc(), row.line)?, "{}", row.name);
+            assert!(rt; is_security_key(rt.alloc(), row.line)?, "{}", row.name);
         }
     }
     Ok(())

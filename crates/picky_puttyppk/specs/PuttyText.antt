@@ -9,7 +9,7 @@ use Rattle.picky_ppk_parts.specs.declared.error.PuttyError.{PuttyError}
 use Rattle.picky_ppk_parts.specs.declared.error.PuttyError.TheVariants as errors
 use Rattle.picky_ppk_file.specs.declared.file.PpkFile.{PpkFile}
 use Rattle.picky_ppk_file.specs.File.{version_of}
-use Rattle.picky_ppk_file.specs.Written.{end_of, written}
+use Rattle.picky_ppk_file.specs.Written.{line_end_of, file_spelled}
 use Rattle.picky_ppk.specs.Checked.{ppk_meaning}
 use Rattle.picky_ppk.specs.KeyOf.{base_key_of}
 use Rattle.picky_ppk.specs.ForPutty.{HasPuttySecret, for_putty}
@@ -35,7 +35,7 @@ is_line CrLf text = not (has_lf text)
 -- the text of a file, whose comment has to be a line
 unfoldable pub text_in_lines : PpkFile → Result (List ℕ) PuttyPpkStatus
 text_in_lines f =
-    if is_line (end_of (version_of f.sealing)) f.comment then map_err refusal_status (written f) else Err statuses.CommentNotCarried
+    if is_line (line_end_of (version_of f.sealing)) f.comment then map_err refusal_status (file_spelled f) else Err statuses.CommentNotCarried
 
 -- the text of the file for PuTTY of a file, and of a text's file, or the first status that says why there is none
 abbrev pub file_for_putty : Meanings → PpkFile → Result (List ℕ) PuttyPpkStatus

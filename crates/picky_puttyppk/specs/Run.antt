@@ -1,9 +1,9 @@
 -- How a run of the filter ends.
-use Rattle.std.specs.Prelude.{◌≡◌, ◌<◌, ◌++◌, List, ℕ, take, length, Result, Ok, Err}
+use Rattle.std.specs.Prelude.{◌≡◌, ◌++◌, List, ℕ, Result, Ok, Err}
 use Rattle.picky_wire_base.specs.Outcome.{and_then, map_err}
 use Rattle.picky_suite.specs.Meanings.{Meanings}
-use Rattle.picky_input.specs.Extent.{Extent, ToFault, PastLimit, ToEnd, Anywhere}
-use Rattle.picky_input.specs.SourceText.{text_of}
+use Rattle.picky_input.specs.Extent.{Extent, ToFault, PastLimit, ToEnd, Anywhere, WritesPrefix}
+use Rattle.picky_input.specs.SourceText.{source_text_of}
 use Rattle.picky_input.specs.declared.source_text.SourceError.{SourceError}
 use Rattle.picky_input.specs.declared.source_text.SourceError.TheVariants as source
 use Rattle.picky_puttyppk.specs.PuttyText.{IsOf, text_for_putty}
@@ -18,15 +18,15 @@ source_status source.NoMemory = statuses.NoMemory
 
 -- what is written for the bytes of a source, or the status that says why nothing is
 unfoldable pub outcome : Meanings → (input : List ℕ) → Result (List ℕ) PuttyPpkStatus
-outcome m input = and_then (map_err source_status (text_of input)) (text_for_putty m)
+outcome m input = and_then (map_err source_status (source_text_of input)) (text_for_putty m)
 
 -- why nothing is written for these bytes: a fault of the source was counted, or they have no text for PuTTY, or memory ran out
-abbrev pub Fails : Meanings → (input : List ℕ) (read_rose : Type 0) → PuttyPpkStatus → Type 0
-Fails m input read_rose statuses.Done = ⊥
-Fails m input read_rose statuses.WriteFault = ⊥
-Fails m input read_rose statuses.ReadFault = read_rose
-Fails m input read_rose statuses.NoMemory = Unit {0}
-Fails m input read_rose status = outcome m input ≡ Err status
+abbrev pub Stops : Meanings → (input : List ℕ) (read_rose : Type 0) → PuttyPpkStatus → Type 0
+Stops m input read_rose statuses.Done = ⊥
+Stops m input read_rose statuses.WriteFault = ⊥
+Stops m input read_rose statuses.ReadFault = read_rose
+Stops m input read_rose statuses.NoMemory = Unit {0}
+Stops m input read_rose status = outcome m input ≡ Err status
 
 -- the text is what is written for these bytes, and means what they mean
 abbrev pub IsTextFor : Meanings → (input text : List ℕ) → Type 0
@@ -39,8 +39,8 @@ Ends m input read_rose write_rose tells before after statuses.Done =
     (text : List ℕ) × IsTextFor m input text × (tells → after ≡ before ++ text)
 Ends m input read_rose write_rose tells before after statuses.WriteFault =
     write_rose × (text : List ℕ) × IsTextFor m input text
-    × (tells → (n : ℕ) × (after ≡ before ++ take n text) × (n < length text))
-Ends m input read_rose write_rose tells before after status = Fails m input read_rose status
+    × (tells → WritesPrefix text before after)
+Ends m input read_rose write_rose tells before after status = Stops m input read_rose status
 
 -- how the program ends: 0 for Done
 abbrev pub exit_code : PuttyPpkStatus → ℕ

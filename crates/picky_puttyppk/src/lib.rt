@@ -1,5 +1,7 @@
 //! A filter for PuTTY's private key files: a file that isn't sealed in, the same file as PuTTY's own programs write it out
 //! (PuTTY's manual, Appendix C).
+//!
+//! Read first: `specs/PuttyText.antt` and `specs/Run.antt`; then `src/run.rt`.
 #![tactic(auto)]
 
 mod run;

@@ -4,7 +4,7 @@ ghost use Rattle.std.specs.Prelude.{◌≡◌, ◌++◌, List, ℕ, IfErr, IfOk}
 ghost use Rattle.picky_wire_base.specs.Gives.{Gives};
 ghost use Rattle.picky_suite.specs.Meanings.{Meanings};
 ghost use Rattle.picky_ppk_file.specs.File.{version_of};
-ghost use Rattle.picky_ppk_file.specs.Written.{end_of};
+ghost use Rattle.picky_ppk_file.specs.Written.{line_end_of};
 ghost use Rattle.picky_ppk.specs.Checked.{ppk_meaning};
 ghost use Rattle.picky_ppk.specs.Mac.{CarriesMac};
 ghost use Rattle.picky_puttyppk.specs.PuttyText.{IsForPutty, IsOf, ends_in_cr as ends_in_cr_of, file_for_putty as file_for_putty_of};
@@ -77,7 +77,7 @@ fn text_in_lines(alloc: Global, ppk: &Ppk) -> Result<Text, PuttyPpkStatus>
 
 /// Whether the comment is a line: it has no LF, and in version 3 no CR at its end.
 fn is_line(version: PpkVersion, comment: &str) -> bool
-    ensures { result ≡ is_line_of (end_of version) comment.now }
+    ensures { result ≡ is_line_of (line_end_of version) comment.now }
 {
     match version {
         PpkVersion::V2 => !has_lf(comment),

@@ -18,7 +18,7 @@ use Rattle.picky_keys.specs.{declared.key.SshPublicKey.{SshPublicKey}, LineRefus
 use Rattle.picky_keys.proofs.LineLaws.{line_meaning_of, line_meaning_says}
 use Rattle.picky_issuing.specs.{Steps.{some_then}, Value.{cert_type_named, client, host, number_named}}
 use Rattle.picky_request.specs.{declared.request.CertRequestLine.{CertRequestLine}, Names.{is_id, principals_in}}
-use Rattle.picky_request.specs.Request.{IsRequestLine, Words, cut_at_space, is_space, named, request_in, said_by, words_in}
+use Rattle.picky_request.specs.Request.{IsRequestLine, Words, cut_at_space, is_space, request_named, request_in, said_by, words_in}
 use Rattle.picky_request.proofs.{CutLaws.{first_of, none_passes}, NameLaws.{principals_are, principals_say}}
 use Rattle.picky_issuing.proofs.NumberLaws.{decimal_names, named_is_decimal}
 
@@ -247,8 +247,8 @@ request_of_words line w r each short are id says =
 request_says : (line : List ℕ) (r : CertRequestLine) → IsBytes line → request_in line ≡ Some r → IsRequestLine line r
 unfolding request_in
 request_says line r each says =
-    let short = chosen (is_short line) (some_then (words_in line) named) r says in
-    let words = goes_on (words_in line) named r short.1 in
+    let short = chosen (is_short line) (some_then (words_in line) request_named) r says in
+    let words = goes_on (words_in line) request_named r short.1 in
     let id = chosen (is_id words.0.id) (said_by words.0) r words.2 in
     request_of_words line words.0 r each (short_says line short.0) (words_say line words.0 words.1) id.0 id.1
 
@@ -296,8 +296,8 @@ request_is line r is =
     let says = said_is w r refl is.is_kind (principals_are is.principals r.principals is.are_principals)
     (decimal_names _ r.valid_after.0 refl is.after) (decimal_names _ r.valid_before.0 refl is.before)
     (ap result_ok (line_meaning_of is.key_line r.key is.key)) in
-    ap (λ (b : Bool). if b then some_then (words_in line) named else None) (says_short line is.short)
-    ∙ then_is (words_in line) w named (words_are line w are)
+    ap (λ (b : Bool). if b then some_then (words_in line) request_named else None) (says_short line is.short)
+    ∙ then_is (words_in line) w request_named (words_are line w are)
     ∙ ap (λ (b : Bool). if b then said_by w else None) is.is_id
     ∙ says
 

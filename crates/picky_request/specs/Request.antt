@@ -87,9 +87,9 @@ said_by w =
     }))))))
 
 -- the id is one
-abbrev pub named : Words → Option CertRequestLine
-named w = if is_id w.id then said_by w else None
+abbrev pub request_named : Words → Option CertRequestLine
+request_named w = if is_id w.id then said_by w else None
 
 -- the request of a line whose length a length of the wire can say
 unfoldable pub request_in : (line : List ℕ) → Option CertRequestLine
-request_in line = if is_short line then some_then (words_in line) named else None
+request_in line = if is_short line then some_then (words_in line) request_named else None

@@ -1,4 +1,6 @@
 //! Requests for certificates, a line each, and the certificates that they ask for.
+//!
+//! Read first: `specs/Request.antt`; then `src/request.rt`.
 #![tactic(auto)]
 
 mod asked;

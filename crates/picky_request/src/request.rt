@@ -3,7 +3,7 @@
 ghost use Rattle.std.specs.Prelude.{◌≡◌, ◌^◌, ◌<◌, length, IfOk};
 ghost use Rattle.std.specs.Result.{result_ok};
 ghost use Rattle.picky_keys.specs.LineRefusal.{line_meaning};
-ghost use Rattle.picky_request.specs.Request.{named, request_in, said_by};
+ghost use Rattle.picky_request.specs.Request.{request_named, request_in, said_by};
 ghost use Rattle.picky_request.specs.inner.Shown.{words_shown};
 
 use crate::names::{is_id, principals_of, text_of};
@@ -51,7 +51,7 @@ impl CertRequestLine {
 
 /// The request of the words. Refuses: `NoMemory`.
 fn request_of(alloc: Global, words: LineWords<'_>) -> Result<Option<CertRequestLine>, NoMemory>
-    ensures { IfOk result (λ request. request ≡ named (words_shown words.entry)) }
+    ensures { IfOk result (λ request. request ≡ request_named (words_shown words.entry)) }
 {
     if !is_id(words.id) {
         return Ok(None);

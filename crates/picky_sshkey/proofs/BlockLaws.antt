@@ -12,7 +12,7 @@ use Rattle.picky_sshkey_blob.specs.Blob.{secret_of}
 use Rattle.picky_sshkey.specs.declared.private_key.SshPrivateKey.{SshPrivateKey}
 use Rattle.picky_sshkey.specs.Kept.{IsSshPrivateKey}
 use Rattle.picky_sshkey.specs.PrivateBlock.{PrivateBlock, check_numbers, private_block}
-use Rattle.picky_sshkey.specs.Written.{count_up, unpadded_block, padding_of, plain_block, unit_of}
+use Rattle.picky_sshkey.specs.Written.{count_up, unpadded_block, block_padding, plain_block, unit_of}
 use Rattle.picky_sshkey_blob.specs.carried.Blob.{secret_spells}
 use Rattle.picky_sshkey.proofs.SecretLaws.{secret_is_bytes}
 
@@ -68,7 +68,7 @@ block_is_bytes key kept =
     let check = number_bytes key.check in
     let small = unit_small key.passphrase in
     let fields : List ℕ = secret_of key.base_key ++ (string_of key.comment ++ []) in
-    bytes_joined (unpadded_block key) (padding_of (unit_of key.passphrase) (unpadded_block key))
+    bytes_joined (unpadded_block key) (block_padding (unit_of key.passphrase) (unpadded_block key))
     (bytes_joined (to_be_bytes w32 key.check) (to_be_bytes w32 key.check ++ fields) check
     (bytes_joined (to_be_bytes w32 key.check) fields check
     (bytes_joined _ _ (secret_is_bytes key.base_key kept.base_key)

@@ -18,7 +18,7 @@ use Rattle.picky_sshkey.specs.{declared.private_key.SshPrivateKey.{SshPrivateKey
 use Rattle.picky_sshkey.specs.{Opened.{Lock, opened}, PrivateRefusal.{content_key, text_key}}
 use Rattle.picky_sshkey.specs.PrivateText.{IsOpened, IsPrivateContent, IsShortPass}
 use Rattle.picky_sshkey.specs.Written.{content_under, envelope_of, unpadded_block, key_content, key_text, lock_kept, may_derive}
-use Rattle.picky_sshkey.specs.Written.{padding_of, plain_block, sealable, sealed_block, text_len, unit_of, written_cipher}
+use Rattle.picky_sshkey.specs.Written.{block_padding, plain_block, sealable, sealed_block, text_len, unit_of, written_cipher}
 use Rattle.picky_sshkey.specs.Written.{written_kdf, written_option}
 use Rattle.picky_sshkey.proofs.{LockLaws.{length-opened, opened-opened, opened_bytes}, MeaningLaws.{content_means}}
 use Rattle.picky_sshkey.proofs.BlockLaws.{block_is_bytes, block_read, block_spells}
@@ -116,7 +116,7 @@ written_short m key short =
 
 -- A block is its fields and their padding.
 plain_is : (key : SshPrivateKey)
-    → plain_block key ≡ unpadded_block key ++ padding_of (unit_of key.passphrase) (unpadded_block key)
+    → plain_block key ≡ unpadded_block key ++ block_padding (unit_of key.passphrase) (unpadded_block key)
 unfolding plain_block
 plain_is key = refl
 
@@ -134,7 +134,7 @@ written_says m key more kept may short =
       plain = plain_block key;
       opened = sealed_opens m key key.passphrase outer may;
       block = block_read key;
-      padding = padding_of (unit_of key.passphrase) (unpadded_block key);
+      padding = block_padding (unit_of key.passphrase) (unpadded_block key);
       block_fits = (unpadded_block key, block_spells key kept, plain_is key);
       outer_rest = [];
       outer_fits = (outer, blob_spells (public_part key.base_key) (public_part_is_key key.base_key kept.base_key), sym (append-nil outer));

@@ -11,30 +11,30 @@ use Rattle.picky_sshkey_blob.proofs.KeyLaws.{spelled_is_key}
 use Rattle.picky_sshkey.specs.declared.kdf.KdfOption.{KdfOption}
 use Rattle.picky_sshkey.specs.Envelope.{Envelope, envelope, envelope_fields, envelope_parts}
 use Rattle.picky_sshkey.specs.Kdf.{kdf_fields, kdf_option, option_inside}
-use Rattle.picky_sshkey.specs.KdfLayout.{IsOption}
+use Rattle.picky_sshkey.specs.KdfLayout.{IsKdfOption}
 use Rattle.picky_sshkey.specs.PrivateBlock.{PrivateBlock, check_numbers, private_block}
 
 -- ---- the options
 
 -- Fields that are bytes are in their ranges.
-fields_keep : (option : KdfOption) (bytes : List ℕ) → IsBytes bytes → kdf_fields.piece option bytes → IsOption option
+fields_keep : (option : KdfOption) (bytes : List ℕ) → IsBytes bytes → kdf_fields.piece option bytes → IsKdfOption option
 unfolding kdf_fields
 fields_keep option bytes each (salt, x1, y1, salt_is, (rounds, x2, y2, rounds_is, (is, none), j2), j1) =
     let b1 = subst IsBytes j1 each in
     let number = uint32_exact rounds x2 (bytes_in_front x2 y2 (subst IsBytes j2 (bytes_behind x1 y1 b1))) rounds_is in
-    subst IsOption (sym is)
+    subst IsKdfOption (sym is)
     (record { salt = string_keeps salt x1 (bytes_in_front x1 y1 b1) salt_is; rounds = number.1 })
 
 -- So are those that a string of bytes says.
-said_keep : (block : List ℕ) (option : KdfOption) → IsBytes block → option_inside.means block option → IsOption option
+said_keep : (block : List ℕ) (option : KdfOption) → IsBytes block → option_inside.means block option → IsKdfOption option
 said_keep [] option each is =
-    subst IsOption (sym is)
+    subst IsKdfOption (sym is)
     (record { salt = record { bytes = no_bytes; short = omega arith }; rounds = omega arith })
 said_keep (b ∷ block) option each (rest, (front, spells, whole)) =
     fields_keep option front (bytes_in_front front rest (subst IsBytes whole each)) spells
 
 -- Options that bytes spell are in their ranges.
-pub option_keeps : (option : KdfOption) (bytes : List ℕ) → IsBytes bytes → kdf_option.piece option bytes → IsOption option
+pub option_keeps : (option : KdfOption) (bytes : List ℕ) → IsBytes bytes → kdf_option.piece option bytes → IsKdfOption option
 unfolding kdf_option
 option_keeps option bytes each (block, spells, means) =
     said_keep block option (string_keeps block bytes each spells).bytes means
@@ -43,7 +43,7 @@ option_keeps option bytes each (block, spells, means) =
 
 -- what an envelope's parts keep
 abbrev pub EnvelopeKeeps : Envelope → Type 0
-EnvelopeKeeps e = IsOption e.option × IsBytes e.outer × IsBytes e.block
+EnvelopeKeeps e = IsKdfOption e.option × IsBytes e.outer × IsBytes e.block
 
 -- So do the parts after the names.
 parts_keep : (cipher kdf : List ℕ) (e : Envelope) (bytes : List ℕ) → IsBytes bytes

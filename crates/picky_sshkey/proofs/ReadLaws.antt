@@ -11,7 +11,7 @@ use Rattle.picky_sshkey_blob.specs.declared.key.SshBasePrivateKey.{SshBasePrivat
 use Rattle.picky_sshkey_blob.specs.Key.{IsPrivateKey}
 use Rattle.picky_sshkey.specs.declared.private_key.SshPrivateKey.{SshPrivateKey}
 use Rattle.picky_sshkey.specs.Kept.{IsSshPrivateKey}
-use Rattle.picky_sshkey.specs.KdfLayout.{IsOption}
+use Rattle.picky_sshkey.specs.KdfLayout.{IsKdfOption}
 use Rattle.picky_sshkey.specs.Made.{made_of, made_option}
 use Rattle.picky_sshkey.specs.PrivateRefusal.{content_key, text_key}
 use Rattle.picky_sshkey.specs.PrivateText.{IsPrivateContent}
@@ -54,7 +54,7 @@ text_is_kept m given text key each pass has =
     let says = text_says m given text key each (pass_bytes given pass) has in
     said_is_kept m given says.content key says.pem.bytes pass says.says
 
-option_is_kept : (given : Option (List ℕ)) (salt : List ℕ) → IsString salt → IsOption (made_option given salt)
+option_is_kept : (given : Option (List ℕ)) (salt : List ℕ) → IsString salt → IsKdfOption (made_option given salt)
 option_is_kept None salt is = record { salt = record { bytes = no_bytes; short = omega arith }; rounds = omega arith }
 option_is_kept (Some pass) salt is = record { salt = is; rounds = omega arith }
 

@@ -19,8 +19,8 @@ use Rattle.picky_sshkey_blob.proofs.KeyLaws.{public_part_is_key}
 use Rattle.picky_sshkey.specs.declared.kdf.KdfOption.{KdfOption}
 use Rattle.picky_sshkey.specs.declared.private_key.SshPrivateKey.{SshPrivateKey}
 use Rattle.picky_sshkey.specs.Envelope.{Envelope, envelope, envelope_fields, envelope_parts, magic}
-use Rattle.picky_sshkey.specs.Kdf.{HasRoom, is_no_option, kdf_option_of, no_option, option_fields}
-use Rattle.picky_sshkey.specs.KdfLayout.{IsOption, unwritten}
+use Rattle.picky_sshkey.specs.Kdf.{HasSaltRoom, is_no_option, kdf_option_of, no_option, option_fields}
+use Rattle.picky_sshkey.specs.KdfLayout.{IsKdfOption, unwritten}
 use Rattle.picky_sshkey.specs.Kept.{IsSshPrivateKey}
 use Rattle.picky_sshkey.specs.Written.{envelope_of, written_cipher, written_kdf, written_option}
 use Rattle.picky_sshkey.specs.carried.Kdf.{option_spells}
@@ -31,12 +31,12 @@ use Rattle.picky_sshkey.proofs.NameLaws.{cipher_is_name, kdf_is_name}
 -- ---- the options
 
 -- No salt and 0 rounds keep what options do.
-none_is_short : IsOption no_option
+none_is_short : IsKdfOption no_option
 none_is_short = record { salt = record { bytes = no_bytes; short = omega arith }; rounds = omega arith }
 
 -- The options that are written keep what the key's do.
-pub written_keeps : (given : Option (List ℕ)) (option : KdfOption) → IsOption option
-    → IsOption (written_option given option)
+pub written_keeps : (given : Option (List ℕ)) (option : KdfOption) → IsKdfOption option
+    → IsKdfOption (written_option given option)
 written_keeps None option keeps = none_is_short
 written_keeps (Some pass) option keeps = keeps
 
@@ -46,21 +46,21 @@ and_left true b is = refl
 and_left false b is = cc is
 
 -- Options whose string is short have room in it.
-pub room_of : (option : KdfOption) → length (kdf_option_of option) < 2 ^ 32 → HasRoom option
+pub room_of : (option : KdfOption) → length (kdf_option_of option) < 2 ^ 32 → HasSaltRoom option
 room_of option short = go (is_no_option option) refl
   where
-    go : (no : Bool) → is_no_option option ≡ no → HasRoom option
+    go : (no : Bool) → is_no_option option ≡ no → HasSaltRoom option
     go true is =
         let empty = eqb-true (length option.salt) 0 (and_left (length option.salt == 0) (option.rounds == 0) is) in
         omega (arith, empty)
     go false is = omega (arith, short, option_len option is)
 
 -- Options that have room are written.
-unwritten_of : (option : KdfOption) → HasRoom option → unwritten option ≡ None
+unwritten_of : (option : KdfOption) → HasSaltRoom option → unwritten option ≡ None
 unwritten_of option room = rw (lt-ltb (length option.salt) (2 ^ 32 - 8) room) refl
 
 -- Options that are written are bytes.
-option_is_bytes : (option : KdfOption) → IsOption option → IsBytes (kdf_option_of option)
+option_is_bytes : (option : KdfOption) → IsKdfOption option → IsBytes (kdf_option_of option)
 unfolding kdf_option_of
 option_is_bytes option keeps = string_bytes_each (option_fields option) (go (is_no_option option))
   where
@@ -122,7 +122,7 @@ length-envelope_of key block =
 record IsShort (key : SshPrivateKey) (block : List ℕ) : Type 0 where
   outer : length (blob_of (public_part key.base_key)) < 2 ^ 32
   inner : length block < 2 ^ 32
-  room : HasRoom (written_option key.passphrase key.kdf.option)
+  room : HasSaltRoom (written_option key.passphrase key.kdf.option)
 
 -- The parts of a short envelope are short.
 parts_short : (key : SshPrivateKey) (block : List ℕ) → length (envelope_of key block) < 2 ^ 32 → IsShort key block

@@ -13,7 +13,7 @@ use Rattle.picky_sshkey.specs.declared.kdf.KdfOption.{KdfOption}
 use Rattle.picky_sshkey.specs.declared.private_key.SshPrivateKey.{SshPrivateKey}
 use Rattle.picky_sshkey.specs.CipherNames.{cipher_name}
 use Rattle.picky_sshkey.specs.Envelope.{magic}
-use Rattle.picky_sshkey.specs.Kdf.{HasRoom, bcrypt, is_no_option, kdf_option_of, none, no_option}
+use Rattle.picky_sshkey.specs.Kdf.{HasSaltRoom, bcrypt, is_no_option, kdf_option_of, none, no_option}
 use Rattle.picky_sshkey.specs.Written.{count_up, envelope_of, may_derive, written_cipher, written_kdf, written_option}
 use Rattle.picky_wire_base.proofs.PieceLemmas.{length-string_of}
 use Rattle.picky_sshkey.proofs.KdfLemmas.{no_option_len, option_len}
@@ -102,19 +102,19 @@ same_len key a b same =
     omega (arith, envelope_under key a key.passphrase refl, envelope_under key b key.passphrase refl, same)
 
 -- no salt leaves room
-none_room : (given : Option (List ℕ)) (option : KdfOption) → given ≡ None → HasRoom (written_option given option)
+none_room : (given : Option (List ℕ)) (option : KdfOption) → given ≡ None → HasSaltRoom (written_option given option)
 none_room None option is = omega arith
 none_room (Some pass) option is = cc is
 
-some_room : (given : Option (List ℕ)) (option : KdfOption) (pass : List ℕ) → given ≡ Some pass → HasRoom option
-    → HasRoom (written_option given option)
+some_room : (given : Option (List ℕ)) (option : KdfOption) (pass : List ℕ) → given ≡ Some pass → HasSaltRoom option
+    → HasSaltRoom (written_option given option)
 some_room None option pass is room = cc is
 some_room (Some other) option pass is room = room
 
 -- a short envelope leaves room for its options
 pub envelope_room : (key : SshPrivateKey) (block : List ℕ) (given : Option (List ℕ)) → key.passphrase ≡ given
     → may_derive key.passphrase key.kdf.option ≡ true → length (envelope_of key block) < 2 ^ 32
-    → HasRoom (written_option key.passphrase key.kdf.option)
+    → HasSaltRoom (written_option key.passphrase key.kdf.option)
 envelope_room key block None is range short = none_room key.passphrase key.kdf.option is
 envelope_room key block (Some pass) is range short =
     some_room key.passphrase key.kdf.option pass is (omega (arith, sealed_len key pass block is range, short))

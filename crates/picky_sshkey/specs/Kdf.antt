@@ -50,5 +50,5 @@ unfoldable pub kdf_option_of : KdfOption → List ℕ
 kdf_option_of option = string_of (option_fields option)
 
 -- the salt leaves room in the string for its length and the rounds
-abbrev pub HasRoom : KdfOption → Type 0
-HasRoom option = length option.salt < 2 ^ 32 - 8
+abbrev pub HasSaltRoom : KdfOption → Type 0
+HasSaltRoom option = length option.salt < 2 ^ 32 - 8

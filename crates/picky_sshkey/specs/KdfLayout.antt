@@ -26,7 +26,7 @@ read_option bytes =
     and_then (option_said block.0) (λ option. Ok (option, block.1)))
 
 -- what each value keeps
-pub record IsOption (option : KdfOption) : Type 0 where
+pub record IsKdfOption (option : KdfOption) : Type 0 where
   pub salt : IsString option.salt
   pub rounds : option.rounds < 2 ^ 32
 

@@ -5,7 +5,7 @@ use Rattle.std.specs.Str.{trim_end}
 use Rattle.picky_keys.specs.Key.{IsText}
 use Rattle.picky_sshkey_blob.specs.Key.{IsPrivateKey, public_part}
 use Rattle.picky_sshkey.specs.declared.private_key.SshPrivateKey.{SshPrivateKey}
-use Rattle.picky_sshkey.specs.KdfLayout.{IsOption}
+use Rattle.picky_sshkey.specs.KdfLayout.{IsKdfOption}
 use Rattle.picky_sshkey.specs.Written.{written_cipher, written_kdf, written_option}
 
 -- what every value of the type keeps, of what is written: its key, its numbers and its texts
@@ -14,7 +14,7 @@ pub record IsSshPrivateKey (key : SshPrivateKey) : Type 0 where
   pub check : key.check < 2 ^ 32
   pub comment : IsText key.comment
   pub passphrase : IfSome key.passphrase IsText
-  pub option : IsOption key.kdf.option
+  pub option : IsKdfOption key.kdf.option
 
 -- the key that is read of what is written: the names and options are those that are written, and the comment goes
 -- without the white space at its end

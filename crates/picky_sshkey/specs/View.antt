@@ -15,15 +15,15 @@ use Rattle.picky_sshkey_blob.specs.Key.{public_part}
 use Rattle.picky_sshkey_blob.specs.View.{key_seen}
 
 -- the salt and the rounds that are seen
-abbrev pub option_seen : OptionView → KdfOption
-option_seen v = record { salt = v.salt.now; rounds = v.rounds }
+abbrev pub kdf_option_seen : OptionView → KdfOption
+kdf_option_seen v = record { salt = v.salt.now; rounds = v.rounds }
 
 -- the envelope that is seen
 abbrev pub envelope_seen : EnvelopeView → Envelope
 envelope_seen v = record {
   cipher = v.cipher.now;
   kdf = v.kdf.now;
-  option = option_seen v.option;
+  option = kdf_option_seen v.option;
   outer = v.outer.now;
   block = v.block.now;
 }
@@ -45,7 +45,7 @@ lock_shown (Some v) = Some (lock_seen v)
 abbrev pub found_seen : FoundKey → SshPrivateKey
 found_seen found = record {
   cipher_name = found.envelope.cipher.now;
-  kdf = record { name = found.envelope.kdf.now; option = option_seen found.envelope.option };
+  kdf = record { name = found.envelope.kdf.now; option = kdf_option_seen found.envelope.option };
   base_key = found.base_key;
   public_key = record { inner_key = public_part found.base_key; comment = [] };
   check = found.check;

@@ -27,8 +27,8 @@ count_up n zero = []
 count_up n (suc more) = n ∷ count_up (n + 1) more
 
 -- 1, 2, 3 and so on up to a multiple of the unit, a whole unit where the block is one
-abbrev pub padding_of : ℕ → List ℕ → List ℕ
-padding_of unit block = count_up 1 (unit - length block % unit)
+abbrev pub block_padding : ℕ → List ℕ → List ℕ
+block_padding unit block = count_up 1 (unit - length block % unit)
 
 -- the block without its padding
 unfoldable pub unpadded_block : SshPrivateKey → List ℕ
@@ -42,7 +42,7 @@ unit_of (Some pass) = 16
 
 -- the block that is written or sealed
 unfoldable pub plain_block : SshPrivateKey → List ℕ
-plain_block key = unpadded_block key ++ padding_of (unit_of key.passphrase) (unpadded_block key)
+plain_block key = unpadded_block key ++ block_padding (unit_of key.passphrase) (unpadded_block key)
 
 -- the names and options that are written, whatever those are that the key has
 abbrev pub written_cipher : Option (List ℕ) → List ℕ

@@ -5,7 +5,7 @@ ghost use Rattle.std.specs.Option.{IfSome};
 ghost use Rattle.picky_keys.specs.Blob.{blob_of};
 ghost use Rattle.picky_keys.specs.Key.{IsString, IsText};
 ghost use Rattle.picky_sshkey_blob.specs.Key.{IsPrivateKey, public_part};
-ghost use Rattle.picky_sshkey.specs.Written.{envelope_of, may_derive as may_derive_of, padding_of, plain_block};
+ghost use Rattle.picky_sshkey.specs.Written.{envelope_of, may_derive as may_derive_of, block_padding, plain_block};
 ghost use Rattle.picky_sshkey.specs.inner.Draft.{IsDraft};
 
 use crate::private_key::SshPrivateKey;
@@ -128,7 +128,7 @@ fn block_of(alloc: Global, key: &SshPrivateKey) -> Result<Vec<u8>, AllocError>
 fn pad(block: &mut Vec<u8>, unit: usize) -> Result<(), AllocError>
     requires some { 1 ≤ unit }
     requires most { unit ≤ 16 }
-    ensures { OnOk result (block.new.items ≡ block.old.items ++ padding_of unit block.old.items) }
+    ensures { OnOk result (block.new.items ≡ block.old.items ++ block_padding unit block.old.items) }
 {
     let count = unit - block.len() % unit;
     let (padding, _) = PADDING.split_at(count);

@@ -9,7 +9,7 @@ ghost use Rattle.picky_wire_base.specs.View.{Seen, why_of, why_in};
 ghost use Rattle.picky_sshkey.specs.Envelope.{envelope, envelope_fields, envelope_parts, magic};
 ghost use Rattle.picky_sshkey.specs.Kdf.{kdf_option};
 ghost use Rattle.picky_sshkey.specs.PrivateRefusal.{envelope_error, envelope_why};
-ghost use Rattle.picky_sshkey.specs.View.{envelope_seen, option_seen};
+ghost use Rattle.picky_sshkey.specs.View.{envelope_seen, kdf_option_seen};
 ghost use Rattle.picky_sshkey.specs.inner.Short.{IsShortEnvelope};
 
 use crate::kdf::{OptionView, option_in};
@@ -148,7 +148,7 @@ fn parts_at<'a>(
 #[tactic(auto, unfolding(crate::specs::Kdf::kdf_option))]
 fn option_at<'a>(content: &'a [u8], from: usize) -> Result<(OptionView<'a>, usize), Stuck<'a>>
     requires { length content.now < 2 ^ 32 }
-    ensures seen { Seen option_seen (λ _. ⊤) Flawed kdf_option content.now from result }
+    ensures seen { Seen kdf_option_seen (λ _. ⊤) Flawed kdf_option content.now from result }
     ensures short { IfOk result (λ found. length found.0.salt.now < 2 ^ 32) }
 {
     let (block, next) = match string_at(content, from) {

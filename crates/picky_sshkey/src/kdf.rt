@@ -6,8 +6,8 @@ ghost use Rattle.picky_wire_base.specs.Flaw.{Flawed};
 ghost use Rattle.picky_wire_base.specs.Front.{read_front};
 ghost use Rattle.picky_wire_base.specs.Outcome.{map_err};
 ghost use Rattle.picky_wire_base.specs.View.{why_of};
-ghost use Rattle.picky_sshkey.specs.Kdf.{HasRoom, bcrypt, is_no_option as is_no_option_of, kdf_fields, kdf_option_of, no_option, none, option_inside};
-ghost use Rattle.picky_sshkey.specs.View.{option_seen};
+ghost use Rattle.picky_sshkey.specs.Kdf.{HasSaltRoom, bcrypt, is_no_option as is_no_option_of, kdf_fields, kdf_option_of, no_option, none, option_inside};
+ghost use Rattle.picky_sshkey.specs.View.{kdf_option_seen};
 
 use crate::kept::name_text;
 use picky_wire::{Bytes, NoMemory, Piece, Stuck, Text, TryClone, string_at, uint32_at};
@@ -97,7 +97,7 @@ pub struct OptionView<'a> {
 /// What the bytes of such a string say. Refuses, in order: `Short`.
 pub fn option_in(block: &[u8]) -> Result<OptionView<'_>, Stuck<'_>>
     requires { length block.now < 2 ^ 32 }
-    ensures ok { IfOk result (λ seen. option_inside.decide block.now ≡ Ok (option_seen seen)) }
+    ensures ok { IfOk result (λ seen. option_inside.decide block.now ≡ Ok (kdf_option_seen seen)) }
     ensures err { IfErr result (λ stuck. map_err Flawed (option_inside.decide block.now) ≡ Err (why_of stuck)) }
     ensures short { IfOk result (λ seen. length seen.salt.now < 2 ^ 32) }
 {
@@ -114,7 +114,7 @@ pub fn option_in(block: &[u8]) -> Result<OptionView<'_>, Stuck<'_>>
 #[tactic(auto, unfolding(crate::specs::Kdf::kdf_fields))]
 fn fields_in(block: &[u8]) -> Result<OptionView<'_>, Stuck<'_>>
     requires { length block.now < 2 ^ 32 }
-    ensures ok { IfOk result (λ seen. read_front kdf_fields block.now ≡ Ok (option_seen seen)) }
+    ensures ok { IfOk result (λ seen. read_front kdf_fields block.now ≡ Ok (kdf_option_seen seen)) }
     ensures err { IfErr result (λ stuck. map_err Flawed (read_front kdf_fields block.now) ≡ Err (why_of stuck)) }
     ensures short { IfOk result (λ seen. length seen.salt.now < 2 ^ 32) }
 {
@@ -134,7 +134,7 @@ fn fields_in(block: &[u8]) -> Result<OptionView<'_>, Stuck<'_>>
 /// The pieces of the options' one spelling.
 #[tactic(auto, using(crate::proofs::KdfLemmas::no_option_spelled, crate::proofs::KdfLemmas::option_spelled))]
 pub fn kdf_pieces(option: &KdfOption) -> [Piece<'_>; 3]
-    requires { HasRoom option.now }
+    requires { HasSaltRoom option.now }
     ensures { concat result ≡ kdf_option_of option.now }
 {
     if is_no_option(option) {

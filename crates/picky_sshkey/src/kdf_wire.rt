@@ -7,7 +7,7 @@ ghost use Rattle.picky_wire_base.specs.Wire.{string};
 ghost use Rattle.picky_wire.specs.Flaws.{wire_error};
 ghost use Rattle.picky_wire_base.specs.View.{why_of};
 ghost use Rattle.picky_sshkey.specs.Kdf.{kdf_option_of};
-ghost use Rattle.picky_sshkey.specs.KdfLayout.{IsOption, kdf_layout, option_said as option_said_of, read_option, unwritten};
+ghost use Rattle.picky_sshkey.specs.KdfLayout.{IsKdfOption, kdf_layout, option_said as option_said_of, read_option, unwritten};
 ghost use Rattle.picky_sshkey.specs.carried.Kdf.{option_own, option_reads_layout, option_used, option_solid, option_spells, unwritten_for_length};
 
 use crate::kdf::{KdfOption, is_no_option, kdf_pieces, option_in, option_of};
@@ -27,7 +27,7 @@ impl SshComplexTypeEncode for KdfOption {
 
     ghost write_reason = { unwritten };
 
-    ghost keeps = { IsOption };
+    ghost keeps = { IsKdfOption };
 
     ghost reason_is_no_want = { unwritten_for_length };
 
@@ -95,7 +95,7 @@ impl SshElement for KdfOption {
 /// How many bytes the salt has.
 fn salt_len(option: &KdfOption) -> usize
     ensures len { result ≡ length option.now.salt }
-    ensures keeps { IsOption option.now }
+    ensures keeps { IsKdfOption option.now }
 {
     let _rounds = option.rounds;
     let salt = option.salt.as_slice();

@@ -8,7 +8,7 @@ ghost use Rattle.picky_keys.specs.View.{key_seen as public_seen};
 ghost use Rattle.picky_sshkey_blob.specs.Key.{IsPrivateKey, public_part};
 ghost use Rattle.picky_sshkey_blob.specs.View.{key_seen};
 ghost use Rattle.picky_sshkey.specs.PrivateRefusal.{is_public_part, key_of_block as key_of_block_of};
-ghost use Rattle.picky_sshkey.specs.View.{block_seen, envelope_seen, found_seen, option_seen};
+ghost use Rattle.picky_sshkey.specs.View.{block_seen, envelope_seen, found_seen, kdf_option_seen};
 ghost use Rattle.picky_sshkey.specs.inner.Short.{IsShortEnvelope};
 
 use crate::block::BlockView;
@@ -168,7 +168,7 @@ fn kept_parts(
     requires pass { is_short_text (option_copied pass) ≡ true }
     ensures { IfOk result (λ parts. parts ≡ (
       envelope.now.cipher.now,
-      record { name = envelope.now.kdf.now; option = option_seen envelope.now.option },
+      record { name = envelope.now.kdf.now; option = kdf_option_seen envelope.now.option },
       option_copied pass.entry,
     )) }
 {

@@ -1,4 +1,6 @@
 //! SSH private keys in OpenSSH's envelope (OpenSSH's PROTOCOL.key), sealed under a passphrase or not.
+//!
+//! Read first: `specs/PrivateText.antt`, what a text means, and `specs/Written.antt`; then `src/private_key.rt`.
 #![tactic(auto)]
 
 mod block;

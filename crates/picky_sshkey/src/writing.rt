@@ -12,10 +12,10 @@ ghost use Rattle.picky_keys.specs.Blob.{blob_of};
 ghost use Rattle.picky_keys.specs.Key.{IsString, IsText};
 ghost use Rattle.picky_sshkey_blob.specs.Key.{IsPrivateKey, public_part};
 ghost use Rattle.picky_sshkey.specs.Encodes.{Encodes};
-ghost use Rattle.picky_sshkey.specs.Kdf.{HasRoom, kdf_option_of};
+ghost use Rattle.picky_sshkey.specs.Kdf.{HasSaltRoom, kdf_option_of};
 ghost use Rattle.picky_sshkey.specs.Kept.{IsSshPrivateKey, read_again};
 ghost use Rattle.picky_sshkey.specs.PrivateRefusal.{content_key, text_key};
-ghost use Rattle.picky_sshkey.specs.Written.{content_under, envelope_of, key_content, key_text, lock_kept, padding_of, plain_block};
+ghost use Rattle.picky_sshkey.specs.Written.{content_under, envelope_of, key_content, key_text, lock_kept, block_padding, plain_block};
 ghost use Rattle.picky_sshkey.specs.Written.{text_writing_asks, writing_asks, written_cipher, written_kdf, written_option};
 ghost use Rattle.picky_sshkey.specs.Written.{may_derive as may_derive_of};
 ghost use Rattle.picky_sshkey.specs.inner.Draft.{IsDraft};
@@ -200,7 +200,7 @@ fn content_round(
 ) -> Result<Vec<u8>, SshPrivateKeyError>
     requires outer { outer.now ≡ blob_of (public_part key.now.base_key) }
     requires short { length block.now < 2 ^ 32 }
-    requires room { HasRoom (written_option key.now.passphrase key.now.kdf.option) }
+    requires room { HasSaltRoom (written_option key.now.passphrase key.now.kdf.option) }
     ensures ok { IfOk result (λ content. content.items ≡ envelope_of key.now block.now) }
     ensures err { IfErr result (λ e. e ≡ SshPrivateKeyError.NoMemory) }
 {
@@ -220,7 +220,7 @@ fn content_of(
 ) -> Result<Vec<u8>, AllocError>
     requires outer { outer.now ≡ blob_of (public_part key.now.base_key) }
     requires short { length block.now < 2 ^ 32 }
-    requires room { HasRoom (written_option key.now.passphrase key.now.kdf.option) }
+    requires room { HasSaltRoom (written_option key.now.passphrase key.now.kdf.option) }
     ensures { IfOk result (λ content. content.items ≡ envelope_of key.now block.now) }
 {
     let mut content = Vec::with_capacity(alloc, content_room(outer.as_slice().len(), block.len()))?;
@@ -236,7 +236,7 @@ fn content_of(
 /// Appends the names and the options of the envelope.
 #[tactic(auto, unfolding(crate::specs::Kdf::none, crate::specs::Kdf::bcrypt), using(crate::proofs::WrittenLemmas::names_joined, crate::proofs::KdfLemmas::empty_option))]
 fn push_names(content: &mut Vec<u8>, key: &SshPrivateKey) -> Result<(), AllocError>
-    requires { HasRoom (written_option key.now.passphrase key.now.kdf.option) }
+    requires { HasSaltRoom (written_option key.now.passphrase key.now.kdf.option) }
     ensures { OnOk result (content.new.items ≡ content.old.items ++ concat ((0 ∷ []) ∷ string_of (written_cipher key.now.passphrase)
         ∷ string_of (written_kdf key.now.passphrase) ∷ kdf_option_of (written_option key.now.passphrase key.now.kdf.option) ∷ [])) }
 {

@@ -1,5 +1,7 @@
 //! The blobs of SSH private keys: read, seen in a buffer and written; and the armour of a private key file (OpenSSH's
 //! PROTOCOL.key and PROTOCOL.u2f; RFC 7468).
+//!
+//! Read first: `specs/Blob.antt` and `specs/Pem.antt`; then `src/laws.rt` and `src/key.rt`.
 #![tactic(auto)]
 
 mod blob;

@@ -2,8 +2,8 @@
 use Rattle.std.specs.Prelude.{ℕ, ◌-◌, nat_lt, bit_xor, List, ◌++◌, length, map, replicate, if◌then◌else◌}
 
 -- B, the bytes of a block
-abbrev pub block_len : ℕ
-block_len = 64
+abbrev pub hash_block_len : ℕ
+hash_block_len = 64
 
 -- ipad is this byte, B times
 abbrev pub inner_pad : ℕ
@@ -15,11 +15,11 @@ outer_pad = 0x5C
 
 -- the key itself, or its digest where it has more than B bytes
 abbrev pub short_key : (List ℕ → List ℕ) → List ℕ → List ℕ
-short_key h key = if nat_lt block_len (length key) then h key else key
+short_key h key = if nat_lt hash_block_len (length key) then h key else key
 
 -- a short key with zero bytes appended, up to B bytes
 abbrev pub padded_key : List ℕ → List ℕ
-padded_key short = short ++ replicate (block_len - length short) 0
+padded_key short = short ++ replicate (hash_block_len - length short) 0
 
 -- K: the B bytes that a key stands for
 abbrev pub block_key : (List ℕ → List ℕ) → List ℕ → List ℕ

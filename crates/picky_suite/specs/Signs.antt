@@ -8,12 +8,12 @@ use Rattle.picky_suite.specs.declared.signer.SignError.{SignError}
 use Rattle.picky_suite.specs.declared.signer.SignError.TheVariants as errors
 
 -- which signatures are good: of a message, under a public key and an algorithm
-abbrev pub Relation : Type 1
-Relation = PublicKey → SignatureAlgorithm → List ℕ → List ℕ → Type 0
+abbrev pub SignRelation : Type 1
+SignRelation = PublicKey → SignatureAlgorithm → List ℕ → List ℕ → Type 0
 
 -- which signatures are good stays; an Ok is a good one under the key, and leaves the count of faults; Failed counts
 -- one fault; want of memory leaves the device as it was
-pub record Signs {S : Type 0} (signs : S → Relation)
+pub record Signs {S : Type 0} (signs : S → SignRelation)
     (faults : S → ℕ) (key : PublicKey) (algorithm : SignatureAlgorithm) (message : List ℕ)
     (result : Result (List ℕ) SignError) (old new : S) : Type 0 where
   pub kept : (k : PublicKey) (a : SignatureAlgorithm) (m s : List ℕ) → signs new k a m s ↔ signs old k a m s
@@ -23,7 +23,7 @@ pub record Signs {S : Type 0} (signs : S → Relation)
   pub unchanged : result ≡ Err errors.NoMemory → new ≡ old
 
 -- the signer in memory calls one signature of a message good, under each key: its digest
-abbrev pub SignsByDigest : Relation
+abbrev pub SignsByDigest : SignRelation
 SignsByDigest key algorithm message signature = signature ≡ sha256 message
 
 -- a call of the signer in memory fails exactly where its number is listed, and is counted; one that wants memory isn't
@@ -38,7 +38,7 @@ pub record HandedSignerState : Type 0 where
   pub faults : ℕ
 
 -- that signature alone is good, of each message
-abbrev pub SignsAsHanded : HandedSignerState → Relation
+abbrev pub SignsAsHanded : HandedSignerState → SignRelation
 SignsAsHanded signer key algorithm message signature = signer.signature ≡ Some signature
 
 -- a call of the signer that hands it out fails exactly where there is none, and is counted

@@ -65,8 +65,8 @@ derived_block pass salt numbers i =
     sha512 (string_of pass ++ string_of salt ++ flat_map (to_be_bytes w32) numbers ++ i ∷ [])
 
 -- the first n bytes of D(0) and D(1) joined
-unfoldable pub derived : ℕ → List ℕ → List ℕ → List ℕ → List ℕ
-derived n pass salt numbers = take n (derived_block pass salt numbers 0 ++ derived_block pass salt numbers 1)
+unfoldable pub toy_derived : ℕ → List ℕ → List ℕ → List ℕ → List ℕ
+toy_derived n pass salt numbers = take n (derived_block pass salt numbers 0 ++ derived_block pass salt numbers 1)
 
 -- a flavour's number (RFC 9106, section 3.2: the type y)
 abbrev pub flavour_number : Flavour → ℕ
@@ -76,9 +76,9 @@ flavour_number Argon2id = 2
 
 -- bcrypt's one number is the rounds
 abbrev pub toy_bcrypt : List ℕ → List ℕ → ℕ → ℕ → List ℕ
-toy_bcrypt pass salt rounds n = derived n pass salt (rounds ∷ [])
+toy_bcrypt pass salt rounds n = toy_derived n pass salt (rounds ∷ [])
 
 -- Argon2's numbers are the flavour's and those of the call
 abbrev pub toy_argon2 : Flavour → ℕ → ℕ → ℕ → List ℕ → List ℕ → List ℕ
 toy_argon2 flavour memory passes parallelism pass salt =
-    derived 80 pass salt (flavour_number flavour ∷ memory ∷ passes ∷ parallelism ∷ [])
+    toy_derived 80 pass salt (flavour_number flavour ∷ memory ∷ passes ∷ parallelism ∷ [])

@@ -3,6 +3,8 @@
 //! The MACs that PuTTY's key files carry, HMAC over SHA-1 and SHA-256 (RFC 2104), are this crate's own. Ciphers,
 //! derivations and signatures come from outside, and may fail; `MemorySuite` and `MemorySigner` stand in for them
 //! in tests.
+//!
+//! Read first: `specs/Meanings.antt` and `specs/Signs.antt`; then the traits in `src/suite.rt` and `src/signer.rt`.
 #![tactic(auto)]
 
 mod flavour;

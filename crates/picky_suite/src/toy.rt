@@ -5,7 +5,7 @@ ghost use Rattle.std.specs.Int.{w32, to_be_bytes};
 ghost use Rattle.std.specs.List.{flat_map};
 ghost use Rattle.sha2.specs.Hashers.{Holds512};
 ghost use Rattle.picky_wire_base.specs.Wire.{string_of};
-ghost use Rattle.picky_suite.specs.Toy.{xored, first_block, ciphered, masks, toy_seal, toy_open, toy_ctr, derived_block, derived, flavour_number};
+ghost use Rattle.picky_suite.specs.Toy.{xored, first_block, ciphered, masks, toy_seal, toy_open, toy_ctr, derived_block, toy_derived, flavour_number};
 
 use crate::flavour::Flavour;
 use sha2::{Digest, Sha512};
@@ -51,12 +51,12 @@ pub(crate) fn mask_text(key: &[u8], iv: &[u8; 16], text: &mut [u8])
 }
 
 /// Derives a key from a passphrase, a salt and numbers.
-#[tactic(auto, unfolding(crate::specs::Toy::derived))]
+#[tactic(auto, unfolding(crate::specs::Toy::toy_derived))]
 pub(crate) fn derive(pass: &[u8], salt: &[u8], numbers: &[u32], out: &mut [u8])
     requires pass { length pass.now < 2 ^ 32 }
     requires salt { length salt.now < 2 ^ 32 }
     requires room { length out.old ≤ 128 }
-    ensures { out.new ≡ derived (length out.old) pass.now salt.now numbers.now }
+    ensures { out.new ≡ toy_derived (length out.old) pass.now salt.now numbers.now }
 {
     let zeroth = derived_block(pass, salt, numbers, 0);
     let first = derived_block(pass, salt, numbers, 1);

@@ -12,7 +12,7 @@ use Rattle.picky_target.specs.declared.error.ConvertError.TheVariants as errors
 use Rattle.picky_target.specs.declared.target.KeyTarget.TheVariants as targets
 use Rattle.picky_target.specs.Judged.{carries_comment}
 use Rattle.picky_target.specs.Output.{Output}
-use Rattle.picky_target.specs.inner.Envelope.{envelope_refusal, made, drafted, salt_judged}
+use Rattle.picky_target.specs.inner.Envelope.{envelope_refusal, made, envelope_drafted, salt_judged}
 use Rattle.picky_target.proofs.TestLemmas.{refuses, step_refuses}
 
 -- ---- the suite's fault
@@ -39,7 +39,7 @@ made_no_fault pass key comment salt e is = go _ (made_of key pass comment salt) 
     go false k is = λ fault. cc (is, fault)
 
 pub drafted_no_fault : (out : Output) (key : SshBasePrivateKey) (comment : List ℕ) (e : ConvertError)
-    → drafted out key comment ≡ Err e → IsNoFault e
+    → envelope_drafted out key comment ≡ Err e → IsNoFault e
 drafted_no_fault out key comment e is =
     refuses IsNoFault (carries_comment targets.OpenSsh comment) _ errors.CommentNotCarried e
     (λ f step. step_refuses IsNoFault (salt_judged out.pass out.fresh) _ f (salt_no_fault out.pass out.fresh)
@@ -52,6 +52,6 @@ drafted_no_fault out key comment e is =
 pub drafted_is : (out : Output) (key : SshBasePrivateKey) (comment salt : List ℕ)
     → carries_comment targets.OpenSsh comment ≡ true → salt_judged out.pass out.fresh ≡ Ok tt
     → made_option out.pass salt ≡ made_option out.pass (take 16 out.fresh)
-    → made out.pass key comment salt ≡ drafted out key comment
+    → made out.pass key comment salt ≡ envelope_drafted out key comment
 unfolding key_made
 drafted_is out key comment salt carries judged same = rw (carries, judged, same) refl

@@ -16,7 +16,7 @@ use Rattle.picky_sshkey_blob.specs.Blob.{secret_of}
 use Rattle.picky_sshkey_blob.specs.declared.key.SshBasePrivateKey.{SshBasePrivateKey}
 use Rattle.picky_sshkey.specs.declared.private_key.SshPrivateKey.{SshPrivateKey}
 use Rattle.picky_sshkey.specs.Made.{key_made, made_of}
-use Rattle.picky_sshkey.specs.Written.{envelope_of, unpadded_block, key_text, padding_of, plain_block, sealable, text_writing_asks, unit_of}
+use Rattle.picky_sshkey.specs.Written.{envelope_of, unpadded_block, key_text, block_padding, plain_block, sealable, text_writing_asks, unit_of}
 use Rattle.picky_sshkey.proofs.WrittenLemmas.{block_within}
 use Rattle.picky_key_text.specs.Key.{private_meaning}
 use Rattle.picky_target.specs.declared.target.KeyTarget.TheVariants as targets
@@ -44,7 +44,7 @@ fields_len key =
 
 block_len : (key : SshPrivateKey) → length (unpadded_block key) ≤ length (plain_block key)
 unfolding plain_block
-block_len key = omega (arith, length-append (unpadded_block key) (padding_of (unit_of key.passphrase) (unpadded_block key)))
+block_len key = omega (arith, length-append (unpadded_block key) (block_padding (unit_of key.passphrase) (unpadded_block key)))
 
 comment_within : (key : SshPrivateKey) → length key.comment ≤ length (pem_text (envelope_of key (plain_block key)))
 comment_within key =

@@ -10,17 +10,17 @@ use Rattle.picky_sshkey_blob.specs.{declared.key.SshBasePrivateKey.{SshBasePriva
 use Rattle.picky_ppk_parts.specs.declared.config.PpkEncryptionConfig.{PpkEncryptionConfig}
 use Rattle.picky_ppk_parts.specs.{declared.error.PuttyError.{PuttyError}, KeyParts.{key_parts}, Secret.{secret_bytes}}
 use Rattle.picky_ppk_parts.specs.declared.error.PuttyError.TheVariants as putty
-use Rattle.picky_ppk_file.specs.{PuttyRefusal.{is_hardware}, declared.file.PpkFile.{PpkFile}}
-use Rattle.picky_ppk_file.specs.Written.{file_text, fits_block, written}
+use Rattle.picky_ppk_file.specs.{PuttyRefusal.{is_security_key}, declared.file.PpkFile.{PpkFile}}
+use Rattle.picky_ppk_file.specs.Written.{file_text, fits_block, file_spelled}
 use Rattle.picky_ppk.specs.{Changed.{file_of_parts, of_base_key}, Fresh.{salt_len}}
 use Rattle.picky_target.specs.{declared.error.ConvertError.{ConvertError}, Drafts.{padding_len, parts_of}}
 use Rattle.picky_target.specs.Judged.{derives_under}
-use Rattle.picky_target.specs.inner.File.{text_of_file, drawn, measured, plain_of, plain_drafted, plain_written}
+use Rattle.picky_target.specs.inner.File.{text_of_file, salt_and_padding, measured, plain_of, plain_drafted, plain_written}
 use Rattle.picky_target.specs.inner.Public.{putty_refusal}
 use Rattle.picky_target.specs.declared.error.ConvertError.TheVariants as errors
 use Rattle.picky_target.specs.declared.target.KeyTarget.TheVariants as targets
 use Rattle.picky_target.proofs.TestLemmas.{refuses, step_refuses}
-use Rattle.picky_target.proofs.FileLemmas.{key_parts_is, hardware_is_refused, tested}
+use Rattle.picky_target.proofs.FileLemmas.{key_parts_is, security_key_is_refused, tested}
 
 abbrev pub IsNoFault : ConvertError → Type 0
 IsNoFault e = e ≢ errors.Putty putty.SuiteFault
@@ -44,8 +44,8 @@ mapped_no_fault (Err e) f each is =
 
 -- ---- a text
 
-written_no_fault : (f : PpkFile) (e : PuttyError) → written f ≡ Err e → IsNoPuttyFault e
-unfolding written
+written_no_fault : (f : PpkFile) (e : PuttyError) → file_spelled f ≡ Err e → IsNoPuttyFault e
+unfolding file_spelled
 written_no_fault f e is =
     refuses IsNoPuttyFault (is_short (file_text f)) _ putty.TooLong e
     (λ g more. refuses IsNoPuttyFault (fits_block f.public_key && fits_block f.private_bytes) (Ok (file_text f)) putty.TooManyLines g
@@ -53,7 +53,7 @@ written_no_fault f e is =
     (λ same. cc same) is
 
 pub text_no_fault : (f : PpkFile) (e : ConvertError) → text_of_file f ≡ Err e → IsNoFault e
-text_no_fault f e is = mapped_no_fault (written f) e (written_no_fault f) is
+text_no_fault f e is = mapped_no_fault (file_spelled f) e (written_no_fault f) is
 
 -- ---- what is judged before the suite is asked
 
@@ -63,11 +63,11 @@ tested_no_fault true false x e is = λ fault. cc (is, fault)
 tested_no_fault false secret x e is = λ fault. cc (is, fault)
 
 parts_no_fault : (key : SshBasePrivateKey) (e : PuttyError) → key_parts key ≡ Err e → IsNoPuttyFault e
-parts_no_fault key e is = go (is_hardware (public_part key)) refl
+parts_no_fault key e is = go (is_security_key (public_part key)) refl
   where
-    go : (hardware : Bool) → is_hardware (public_part key) ≡ hardware → IsNoPuttyFault e
-    go true hardware =
-        let same : putty.NotSupported (codes "SK keys") ≡ e = cc (sym (hardware_is_refused key hardware) ∙ is) in
+    go : (is_sk : Bool) → is_security_key (public_part key) ≡ is_sk → IsNoPuttyFault e
+    go true is_sk =
+        let same : putty.NotSupported (codes "SK keys") ≡ e = cc (sym (security_key_is_refused key is_sk) ∙ is) in
         λ fault. cc (same, fault)
     go false plain = tested_no_fault (is_short (blob_of (public_part key))) (is_short (secret_bytes key)) (parts_of key) e
         (sym (key_parts_is key plain) ∙ is)
@@ -93,7 +93,7 @@ plain_no_fault m version config key comment salt padding e is =
     (measured_no_fault config salt padding f) (λ _ h none. cc none) rest) is
 
 pub drawn_no_fault : (pass fresh : List ℕ) (version : PpkVersionKey) (config : PpkEncryptionConfig) (key : SshBasePrivateKey)
-    (e : ConvertError) → drawn pass fresh version config key ≡ Err e → IsNoFault e
+    (e : ConvertError) → salt_and_padding pass fresh version config key ≡ Err e → IsNoFault e
 drawn_no_fault pass fresh version config key e is =
     refuses {A = List ℕ × List ℕ} IsNoFault (derives_under (targets.Ppk version config) pass) _ (errors.Putty putty.Argon2) e
     (λ g more. refuses {A = List ℕ × List ℕ} IsNoFault (nat_le (salt_len version config + padding_len key) (length fresh)) _

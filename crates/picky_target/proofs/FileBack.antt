@@ -19,7 +19,7 @@ use Rattle.picky_ppk_parts.proofs.{CountedLaws.{cut_stands, made_is_counted}, Pa
 use Rattle.picky_ppk_parts.proofs.ReadBackLaws.{parts_read_back}
 use Rattle.picky_ppk_file.specs.{declared.file.PpkFile.{PpkFile}, File.{IsFile, IsSealing, version_of}}
 use Rattle.picky_ppk_file.specs.{FileText.{SaysFile}, FileRefusal.{file_meaning}}
-use Rattle.picky_ppk_file.specs.{Written.{end_of, file_text, fits_block}, PuttyRefusal.{is_hardware}}
+use Rattle.picky_ppk_file.specs.{Written.{line_end_of, file_text, fits_block}, PuttyRefusal.{is_security_key}}
 use Rattle.picky_ppk_file.proofs.{FileLaws.{meaning_is_said}, ReadBackLaws.{text_is_read_back}}
 use Rattle.picky_ppk.specs.{Keyed.{keys_under}, Mac.{own_mac}, Sealed.{sealing_under}, Fresh.{salt_len}}
 use Rattle.picky_ppk.proofs.CheckedLaws.{made_file_carries}
@@ -35,7 +35,7 @@ use Rattle.picky_target.proofs.{FileLemmas.{key_parts_is}, FormLaws.{file_form}}
 -- ---- the parts
 
 -- the parts of a key that fits a file
-made_parts : (key : SshBasePrivateKey) → is_hardware (public_part key) ≡ false → length (blob_of (public_part key)) < 2 ^ 32
+made_parts : (key : SshBasePrivateKey) → is_security_key (public_part key) ≡ false → length (blob_of (public_part key)) < 2 ^ 32
     → length (secret_bytes key) < 2 ^ 32 → key_parts key ≡ Ok (parts_of key)
 made_parts key plain blob secret =
     let blob_fits = lt-ltb (length (blob_of (public_part key))) (2 ^ 32) blob in
@@ -68,7 +68,7 @@ own_mac_bytes m f = mac_bytes m (version_of f.sealing) _ _
 
 -- a file in its ranges is said by its text
 text_says_file : (f : PpkFile) → IsFile f → length (file_text f) < 2 ^ 32 → length f.public_key ≤ 3145680
-    → length f.private_bytes ≤ 3145680 → IsLine (end_of (version_of f.sealing)) f.comment → SaysFile (file_text f) f
+    → length f.private_bytes ≤ 3145680 → IsLine (line_end_of (version_of f.sealing)) f.comment → SaysFile (file_text f) f
 text_says_file f is short public private line =
     let text = file_text f in
     let public_fits : fits_block f.public_key ≡ true = le-leb (length f.public_key) 3145680 public in
@@ -167,8 +167,8 @@ sealed_is_read_back m pass fresh version config key comment ranges is text fresh
       mac = mac_bytes m (version_of sealing) keys.mac_key _;
     } in
     let made = made_parts key (carries.holds Kind) room.blob (omega (arith, length-append secret padding, room.private)) in
-    let line : IsLine (end_of (version_of sealing)) comment =
-    subst (λ v. IsLine (end_of v) comment) (sym (sealing_version version config salt)) (carries.holds Comment) in
+    let line : IsLine (line_end_of (version_of sealing)) comment =
+    subst (λ v. IsLine (line_end_of v) comment) (sym (sealing_version version config salt)) (carries.holds Comment) in
     record {
       file = f;
       says = text_says_file f file (room.text m) lines.0 (omega (arith, sealed_len, lines.1)) line;

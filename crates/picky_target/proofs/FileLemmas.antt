@@ -20,9 +20,9 @@ use Rattle.picky_ppk_parts.specs.declared.key_parts.KeyParts.{KeyParts}
 use Rattle.picky_ppk_parts.specs.Algorithm.{curve_algorithm}
 use Rattle.picky_ppk_parts.specs.KeyParts.{key_parts, parts_under}
 use Rattle.picky_ppk_parts.specs.Secret.{secret_bytes}
-use Rattle.picky_ppk_parts.specs.Unsupported.{no_hardware_keys}
+use Rattle.picky_ppk_parts.specs.Unsupported.{no_security_keys}
 use Rattle.picky_ppk_file.specs.declared.file.PpkFile.{PpkFile}
-use Rattle.picky_ppk_file.specs.PuttyRefusal.{is_hardware}
+use Rattle.picky_ppk_file.specs.PuttyRefusal.{is_security_key}
 use Rattle.picky_ppk.specs.Changed.{file_of_parts, of_base_key}
 use Rattle.picky_ppk.specs.Fresh.{salt_len}
 use Rattle.picky_target.specs.Drafts.{parts_of, plain_file}
@@ -50,7 +50,7 @@ under_is key algorithm is =
     ∙ ap (λ a. tested (is_short (blob_of (public_part key))) (is_short (secret_bytes key)) (record (parts_of key) { algorithm = a })) (sym is)
 
 -- Which parts a key has, and which refusals.
-pub key_parts_is : (key : SshBasePrivateKey) → is_hardware (public_part key) ≡ false → key_parts key ≡ parts_tested key
+pub key_parts_is : (key : SshBasePrivateKey) → is_security_key (public_part key) ≡ false → key_parts key ≡ parts_tested key
 unfolding key_parts
 key_parts_is (keys.Rsa n e d iqmp p q) plain = under_is (keys.Rsa n e d iqmp p q) algorithms.Rsa refl
 key_parts_is (keys.Ec curve point secret) plain = under_is (keys.Ec curve point secret) (curve_algorithm curve) refl
@@ -64,19 +64,19 @@ tested_ok true false x y is = cc is
 tested_ok false secret x y is = cc is
 
 -- A key whose secret a device keeps has none.
-pub hardware_is_refused : (key : SshBasePrivateKey) → is_hardware (public_part key) ≡ true → key_parts key ≡ Err no_hardware_keys
+pub security_key_is_refused : (key : SshBasePrivateKey) → is_security_key (public_part key) ≡ true → key_parts key ≡ Err no_security_keys
 unfolding key_parts
-hardware_is_refused (keys.Rsa n e d iqmp p q) hardware = cc hardware
-hardware_is_refused (keys.Ec curve point secret) hardware = cc hardware
-hardware_is_refused (keys.Ed secret public) hardware = cc hardware
-hardware_is_refused (keys.SkEcdsaSha2NistP256 point application flags handle) hardware = refl
-hardware_is_refused (keys.SkEd25519 key application flags handle) hardware = refl
+security_key_is_refused (keys.Rsa n e d iqmp p q) is_sk = cc is_sk
+security_key_is_refused (keys.Ec curve point secret) is_sk = cc is_sk
+security_key_is_refused (keys.Ed secret public) is_sk = cc is_sk
+security_key_is_refused (keys.SkEcdsaSha2NistP256 point application flags handle) is_sk = refl
+security_key_is_refused (keys.SkEd25519 key application flags handle) is_sk = refl
 
 parts_are : (key : SshBasePrivateKey) (parts : KeyParts) → key_parts key ≡ Ok parts → parts_of key ≡ parts
-parts_are key parts is = go (is_hardware (public_part key)) refl
+parts_are key parts is = go (is_security_key (public_part key)) refl
   where
-    go : (hardware : Bool) → is_hardware (public_part key) ≡ hardware → parts_of key ≡ parts
-    go true hardware = cc (sym (hardware_is_refused key hardware) ∙ is)
+    go : (is_sk : Bool) → is_security_key (public_part key) ≡ is_sk → parts_of key ≡ parts
+    go true is_sk = cc (sym (security_key_is_refused key is_sk) ∙ is)
     go false plain = tested_ok _ _ (parts_of key) parts (sym (key_parts_is key plain) ∙ is)
 
 -- The file that is made of a key.

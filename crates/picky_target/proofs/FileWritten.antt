@@ -13,7 +13,7 @@ use Rattle.picky_ppk_parts.specs.{declared.config.PpkEncryptionConfig.{PpkEncryp
 use Rattle.picky_ppk_parts.specs.Secret.{secret_bytes}
 use Rattle.picky_ppk_parts.specs.declared.error.PuttyError.TheVariants as putty
 use Rattle.picky_ppk_file.specs.{declared.file.PpkFile.{PpkFile}, File.{version_of}}
-use Rattle.picky_ppk_file.specs.{Written.{file_text, fits_block, written as file_written}, PuttyRefusal.{is_hardware}}
+use Rattle.picky_ppk_file.specs.{Written.{file_text, fits_block, file_spelled as file_written}, PuttyRefusal.{is_security_key}}
 use Rattle.picky_ppk.specs.{Changed.{of_base_key}, Keyed.{keys_under}, Mac.{own_mac}}
 use Rattle.picky_ppk.specs.{Sealed.{encrypted, file_to_seal, sealing_under}, Fresh.{salt_len}}
 use Rattle.picky_ppk.proofs.SealedLemmas.{draft_fits}
@@ -76,7 +76,7 @@ rest derives enough blob private text lines =
 -- ---- the file that isn't sealed
 
 plain_is : (m : Meanings) (fresh : List ℕ) (version : PpkVersionKey) (config : PpkEncryptionConfig) (key : SshBasePrivateKey)
-    (comment : List ℕ) → is_hardware (public_part key) ≡ false
+    (comment : List ℕ) → is_security_key (public_part key) ≡ false
     → plain_written m version key comment
     ≡ and_then (rest true true (is_short (blob_of (public_part key))) (is_short (secret_bytes key))
     (is_short (file_text (measured_file (record { pass = None; fresh = fresh }) version config key comment)))
@@ -128,7 +128,7 @@ secret_short secret padding long =
     le-ltb (length (secret ++ padding)) (2 ^ 32) (omega (arith, most, length-append secret padding))
 
 sealable_is : (m : Meanings) (pass fresh : List ℕ) (version : PpkVersionKey) (config : PpkEncryptionConfig)
-    (key : SshBasePrivateKey) (comment : List ℕ) → is_hardware (public_part key) ≡ false
+    (key : SshBasePrivateKey) (comment : List ℕ) → is_security_key (public_part key) ≡ false
     → sealable m pass fresh version config key comment
     ≡ and_then (sealed_rest pass fresh version config key comment) (λ _. Ok (to_seal m fresh version config key comment))
 unfolding of_base_key
@@ -220,13 +220,13 @@ AreWritten m out version config key comment =
 -- what comes first is judged alike
 first : (m : Meanings) (out : Output) (version : PpkVersionKey) (config : PpkEncryptionConfig) (key : SshBasePrivateKey)
     (comment : List ℕ)
-    → (is_hardware (public_part key) ≡ false → carries_comment (targets.Ppk version config) comment ≡ true
+    → (is_security_key (public_part key) ≡ false → carries_comment (targets.Ppk version config) comment ≡ true
     → AreWritten m out version config key comment)
     → AreWritten m out version config key comment
 unfolding written writing_asks judged_meaning
 first m out version config key comment rest =
-    elim (cases_Bool (is_hardware (public_part key))) [
-      | inl hardware ↦ rw hardware (refl, sym (and_false (is_some out.pass)))
+    elim (cases_Bool (is_security_key (public_part key))) [
+      | inl is_sk ↦ rw is_sk (refl, sym (and_false (is_some out.pass)))
       | inr plain ↦ elim (cases_Bool (carries_comment (targets.Ppk version config) comment)) [
         | inl carries ↦ rest plain carries
         | inr bad ↦ rw (plain, bad) (refl, sym (and_false (is_some out.pass)))
@@ -238,7 +238,7 @@ first m out version config key comment rest =
     and_false false = refl
 
 plain_is_written : (m : Meanings) (fresh : List ℕ) (version : PpkVersionKey) (config : PpkEncryptionConfig)
-    (key : SshBasePrivateKey) (comment : List ℕ) → is_hardware (public_part key) ≡ false
+    (key : SshBasePrivateKey) (comment : List ℕ) → is_security_key (public_part key) ≡ false
     → carries_comment (targets.Ppk version config) comment ≡ true
     → AreWritten m (record { pass = None; fresh = fresh }) version config key comment
 unfolding written writing_asks judged_meaning
@@ -247,7 +247,7 @@ plain_is_written m fresh version config key comment plain carries =
     rw (plain, carries, enough) (plain_is m fresh version config key comment plain, refl)
 
 sealed_is_written : (m : Meanings) (pass fresh : List ℕ) (version : PpkVersionKey) (config : PpkEncryptionConfig)
-    (key : SshBasePrivateKey) (comment : List ℕ) → is_hardware (public_part key) ≡ false
+    (key : SshBasePrivateKey) (comment : List ℕ) → is_security_key (public_part key) ≡ false
     → carries_comment (targets.Ppk version config) comment ≡ true
     → AreWritten m (record { pass = Some pass; fresh = fresh }) version config key comment
 unfolding written writing_asks judged_meaning

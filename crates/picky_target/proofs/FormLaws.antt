@@ -24,7 +24,7 @@ use Rattle.picky_keys.specs.Key.{kind_of}
 use Rattle.picky_keys.specs.Line.{line_body, line_of as public_line_of}
 use Rattle.picky_ppk_file.specs.declared.file.PpkFile.{PpkFile}
 use Rattle.picky_ppk_file.specs.File.{version_of}
-use Rattle.picky_ppk_file.specs.Written.{end_of, file_lines, file_text, line_of}
+use Rattle.picky_ppk_file.specs.Written.{line_end_of, file_lines, file_text, line_under}
 use Rattle.picky_ppk_file.specs.PuttyPublic.{putty_public, header as putty_header}
 use Rattle.picky_key_text.specs.Form.{envelope_start, form_of, is_certificate, ppk_start, putty_public_start}
 use Rattle.picky_key_text.specs.declared.form.Form.TheVariants as forms
@@ -34,14 +34,14 @@ unfolding pem_text pem_lines header envelope_start
 envelope_form content = refl
 
 first_line_form : (end : LineEnd) (version : PpkVersionKey) (algorithm : PpkKeyAlgorithmValue) (more : List (List ℕ))
-    → form_of (text_of end (line_of version_field algorithm_field version algorithm ∷ more)) ≡ forms.Ppk
+    → form_of (text_of end (line_under version_field algorithm_field version algorithm ∷ more)) ≡ forms.Ppk
 unfolding text_of version_field envelope_start ppk_start
 first_line_form end V2 algorithm more = refl
 first_line_form end V3 algorithm more = refl
 
 pub file_form : (f : PpkFile) → form_of (file_text f) ≡ forms.Ppk
 unfolding file_text file_lines
-file_form f = first_line_form (end_of (version_of f.sealing)) (version_of f.sealing) f.algorithm _
+file_form f = first_line_form (line_end_of (version_of f.sealing)) (version_of f.sealing) f.algorithm _
 
 pub putty_form : (blob comment : List ℕ) → form_of (putty_public blob comment) ≡ forms.PuttyPublic
 unfolding putty_public text_of putty_header envelope_start ppk_start putty_public_start

@@ -26,7 +26,7 @@ use Rattle.picky_kv.proofs.WriteLemmas.{length-rows_of}
 use Rattle.picky_ppk_parts.specs.declared.config.PpkEncryptionConfig.{PpkEncryptionConfig}
 use Rattle.picky_ppk_parts.specs.declared.material.Argon2Params.{Argon2Params}
 use Rattle.picky_ppk_file.specs.{declared.file.PpkFile.{PpkFile}, File.{version_of, encryption_of}}
-use Rattle.picky_ppk_file.specs.Written.{argon2_lines, end_of, file_lines, file_text, sealing_lines}
+use Rattle.picky_ppk_file.specs.Written.{argon2_lines, line_end_of, file_lines, file_text, sealing_lines}
 use Rattle.picky_ppk_file.proofs.TextLemmas.{text_of-append, text_of-nil}
 use Rattle.picky_ppk.specs.Sealed.{sealing_under}
 use Rattle.picky_target.specs.{Judged.{mac_len}, inner.File.{draft_of}, inner.Lengths.{line_len, block_len}}
@@ -120,7 +120,7 @@ length_parts : (end : LineEnd) (a b c d e : List (List ℕ)) → length (text_of
     ≡ length (text_of end a) + length (text_of end b) + length (text_of end c) + length (text_of end d) + length (text_of end e)
 length_parts end a b c d e = simp length_more
 
-length_file : (f : PpkFile) → let end = end_of (version_of f.sealing) in length (file_text f)
+length_file : (f : PpkFile) → let end = line_end_of (version_of f.sealing) in length (file_text f)
     ≡ line_len end (version_field.spelling (version_of f.sealing)) (length (algorithm_field.spelling f.algorithm))
     + line_len end (codes "Encryption") (length (encryption_field.spelling (encryption_of f.sealing)))
     + line_len end (codes "Comment") (length f.comment)
@@ -134,7 +134,7 @@ length_file f =
     let encryption = pair_line (codes "Encryption") (encryption_field.spelling (encryption_of f.sealing)) in
     let comment = pair_line (codes "Comment") f.comment in
     let mac = pair_line (codes "Private-MAC") (encode_lower f.mac) in
-    length_parts (end_of (version_of f.sealing)) (version ∷ encryption ∷ comment ∷ [])
+    length_parts (line_end_of (version_of f.sealing)) (version ∷ encryption ∷ comment ∷ [])
     (block_lines (codes "Public-Lines") (base64_of f.public_key)) (sealing_lines f.sealing)
     (block_lines (codes "Private-Lines") (base64_of f.private_bytes)) (mac ∷ [])
     ∙ simp (length_first, length_none, length_rows, length-rows_of, length_symbols, length-append, length-encode_with) (omega arith)
@@ -158,7 +158,7 @@ sealing_encryption V2 config salt = refl
 sealing_encryption V3 config salt = refl
 
 pub length_sealed : (config : PpkEncryptionConfig) (salt padding : List ℕ) (f : PpkFile)
-    → let version = version_of f.sealing in let end = end_of version in length (file_text (draft_of config salt padding f))
+    → let version = version_of f.sealing in let end = line_end_of version in length (file_text (draft_of config salt padding f))
     ≡ line_len end (version_field.spelling version) (length (algorithm_field.spelling f.algorithm))
     + line_len end (codes "Encryption") (length (encryption_field.spelling encryptions.Aes256Cbc))
     + line_len end (codes "Comment") (length f.comment)

@@ -17,7 +17,7 @@ use Rattle.picky_sshkey.specs.Written.{content_under, envelope_of, lock_kept, pl
 use Rattle.picky_sshkey.proofs.KeptLaws.{envelopes_alike, sealed_len as block_sealed_len}
 use Rattle.picky_ppk_parts.specs.declared.config.PpkEncryptionConfig.{PpkEncryptionConfig}
 use Rattle.picky_ppk_file.specs.{Written.{file_text, fits_block}, PuttyPublic.{putty_public}}
-use Rattle.picky_ppk_file.specs.PuttyRefusal.{is_hardware}
+use Rattle.picky_ppk_file.specs.PuttyRefusal.{is_security_key}
 use Rattle.picky_key_text.specs.{declared.meaning.Key.{Key}, declared.meaning.Meaning.{Meaning}}
 use Rattle.picky_key_text.specs.Key.{public_part, public_key}
 use Rattle.picky_key_text.specs.declared.meaning.Key.TheVariants as keys
@@ -54,9 +54,9 @@ secret_test targets.PuttyPublic key holds = refl
 
 kind_holds : (target : KeyTarget) (key : Key) → has_kind target key ≡ true → HasKind target key
 kind_holds targets.OpenSsh key test = tt
-kind_holds (targets.Ppk version config) key test = not_true (is_hardware (public_part key)) test
+kind_holds (targets.Ppk version config) key test = not_true (is_security_key (public_part key)) test
 kind_holds targets.OpenSshPublic key test = tt
-kind_holds targets.PuttyPublic key test = not_true (is_hardware (public_part key)) test
+kind_holds targets.PuttyPublic key test = not_true (is_security_key (public_part key)) test
 
 kind_test : (target : KeyTarget) (key : Key) → HasKind target key → has_kind target key ≡ true
 kind_test targets.OpenSsh key holds = refl

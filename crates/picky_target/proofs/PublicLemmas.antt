@@ -8,7 +8,7 @@ use Rattle.picky_keys.specs.LineRefusal.{is_short}
 use Rattle.picky_ppk_parts.specs.declared.error.PuttyError.TheVariants as putty
 use Rattle.picky_ppk_file.specs.declared.putty_public.PuttyPublicKey.{PuttyPublicKey}
 use Rattle.picky_ppk_file.specs.PuttyPublic.{putty_public}
-use Rattle.picky_ppk_file.specs.PuttyRefusal.{is_hardware, of_openssh, putty_text}
+use Rattle.picky_ppk_file.specs.PuttyRefusal.{is_security_key, of_openssh, putty_text}
 use Rattle.picky_target.specs.declared.error.ConvertError.TheVariants as errors
 use Rattle.picky_target.specs.declared.target.KeyTarget.TheVariants as targets
 use Rattle.picky_target.specs.Judged.{carries_comment}
@@ -29,7 +29,7 @@ then_text true key = refl
 then_text false key = refl
 
 -- PuTTY's text of a key that it has, and a comment that it has.
-pub putty_is_written : (key : SshPublicKey) → is_hardware key.inner_key ≡ false
+pub putty_is_written : (key : SshPublicKey) → is_security_key key.inner_key ≡ false
     → carries_comment targets.PuttyPublic key.comment ≡ true → text_of_putty key ≡ putty_written key
 unfolding of_openssh putty_text
 putty_is_written key plain carries =

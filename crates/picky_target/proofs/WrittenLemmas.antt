@@ -13,7 +13,7 @@ use Rattle.picky_sshkey_blob.specs.declared.key.SshBasePrivateKey.{SshBasePrivat
 use Rattle.picky_ppk_parts.specs.declared.config.PpkEncryptionConfig.{PpkEncryptionConfig}
 use Rattle.picky_ppk_parts.specs.declared.error.PuttyError.TheVariants as putty
 use Rattle.picky_kv.specs.declared.PpkVersionKey.{PpkVersionKey}
-use Rattle.picky_ppk_file.specs.{PuttyPublic.{putty_public}, PuttyRefusal.{is_hardware}}
+use Rattle.picky_ppk_file.specs.{PuttyPublic.{putty_public}, PuttyRefusal.{is_security_key}}
 use Rattle.picky_key_text.specs.{declared.meaning.Key.{Key}, declared.meaning.Meaning.{Meaning}}
 use Rattle.picky_key_text.specs.Key.{private_meaning, public_key, public_part}
 use Rattle.picky_key_text.specs.declared.meaning.Key.TheVariants as keys
@@ -160,8 +160,8 @@ unfolding written judged_meaning
 putty_is_written m out target meaning key target_is key_is =
     let blob = blob_of (public_part meaning.key) in
     rw (target_is, key_is, putty_derives out.pass, putty_needs out.pass meaning.key, nothing_needed out.fresh)
-    (elim (cases_Bool (is_hardware (public_part meaning.key))) [
-      | inl hardware ↦ rw hardware refl
+    (elim (cases_Bool (is_security_key (public_part meaning.key))) [
+      | inl is_sk ↦ rw is_sk refl
       | inr plain ↦ rw plain (elim (cases_Bool (carries_comment targets.PuttyPublic meaning.comment)) [
         | inr bad ↦ rw bad refl
         | inl carries ↦ rw carries

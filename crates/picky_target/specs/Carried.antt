@@ -11,9 +11,9 @@ use Rattle.picky_keys.specs.Line.{line_of}
 use Rattle.picky_sshkey_blob.specs.declared.key.SshBasePrivateKey.{SshBasePrivateKey}
 use Rattle.picky_sshkey_blob.specs.Key.{public_part as public_part_of}
 use Rattle.picky_ppk_parts.specs.declared.config.PpkEncryptionConfig.{PpkEncryptionConfig}
-use Rattle.picky_ppk_file.specs.Written.{end_of, file_text}
+use Rattle.picky_ppk_file.specs.Written.{line_end_of, file_text}
 use Rattle.picky_ppk_file.specs.PuttyPublic.{putty_public}
-use Rattle.picky_ppk_file.specs.PuttyRefusal.{is_hardware}
+use Rattle.picky_ppk_file.specs.PuttyRefusal.{is_security_key}
 use Rattle.picky_key_text.specs.declared.meaning.Key.{Key}
 use Rattle.picky_key_text.specs.declared.meaning.Key.TheVariants as keys
 use Rattle.picky_key_text.specs.declared.meaning.Meaning.{Meaning}
@@ -57,9 +57,9 @@ HasNeededSecret targets.PuttyPublic key = Unit {0}
 
 abbrev pub HasKind : KeyTarget → Key → Type 0
 HasKind targets.OpenSsh key = Unit {0}
-HasKind (targets.Ppk version config) key = is_hardware (public_part key) ≡ false
+HasKind (targets.Ppk version config) key = is_security_key (public_part key) ≡ false
 HasKind targets.OpenSshPublic key = Unit {0}
-HasKind targets.PuttyPublic key = is_hardware (public_part key) ≡ false
+HasKind targets.PuttyPublic key = is_security_key (public_part key) ≡ false
 
 -- ---- the comment
 
@@ -72,7 +72,7 @@ pub record LineCarries (comment : List ℕ) : Type 0 where
 -- OpenSSH's private key drops white space at the comment's end, and PuTTY's lines end a comment
 abbrev pub CarriesComment : KeyTarget → List ℕ → Type 0
 CarriesComment targets.OpenSsh comment = trim_end comment ≡ comment
-CarriesComment (targets.Ppk version config) comment = IsLine (end_of version) comment
+CarriesComment (targets.Ppk version config) comment = IsLine (line_end_of version) comment
 CarriesComment targets.OpenSshPublic comment = LineCarries comment
 CarriesComment targets.PuttyPublic comment = HasNo 10 comment
 

@@ -17,7 +17,7 @@ use Rattle.picky_sshkey.specs.declared.private_key.SshPrivateKey.{SshPrivateKey}
 use Rattle.picky_sshkey.specs.Written.{envelope_of, plain_block, text_len}
 use Rattle.picky_ppk_parts.specs.declared.config.PpkEncryptionConfig.{PpkEncryptionConfig}
 use Rattle.picky_ppk_parts.specs.declared.error.PuttyError.TheVariants as putty
-use Rattle.picky_ppk_parts.specs.Unsupported.{no_hardware_keys}
+use Rattle.picky_ppk_parts.specs.Unsupported.{no_security_keys}
 use Rattle.picky_ppk_file.specs.declared.file.PpkFile.{PpkFile}
 use Rattle.picky_ppk_file.specs.declared.file.PpkSealing.{PpkSealing}
 use Rattle.picky_ppk_file.specs.declared.file.PpkSealing.TheVariants.{Unsealed}
@@ -25,7 +25,7 @@ use Rattle.picky_ppk_file.specs.Written.{file_text, fits_block}
 use Rattle.picky_ppk.specs.Fresh.{can_derive_by}
 use Rattle.picky_ppk.specs.Sealed.{sealing_under}
 use Rattle.picky_ppk_file.specs.PuttyPublic.{putty_public}
-use Rattle.picky_ppk_file.specs.PuttyRefusal.{is_hardware}
+use Rattle.picky_ppk_file.specs.PuttyRefusal.{is_security_key}
 use Rattle.picky_key_text.specs.declared.meaning.Key.{Key}
 use Rattle.picky_key_text.specs.declared.meaning.Key.TheVariants as keys
 use Rattle.picky_key_text.specs.declared.meaning.Meaning.{Meaning}
@@ -53,9 +53,9 @@ has_needed_secret targets.PuttyPublic key = true
 
 abbrev pub has_kind : KeyTarget → Key → Bool
 has_kind targets.OpenSsh key = true
-has_kind (targets.Ppk version config) key = not (is_hardware (public_part key))
+has_kind (targets.Ppk version config) key = not (is_security_key (public_part key))
 has_kind targets.OpenSshPublic key = true
-has_kind targets.PuttyPublic key = not (is_hardware (public_part key))
+has_kind targets.PuttyPublic key = not (is_security_key (public_part key))
 
 abbrev pub has_lf : List ℕ → Bool
 has_lf comment = list_any (λ b. b == 10) comment
@@ -155,7 +155,7 @@ not_derived target = errors.Putty putty.Argon2
 
 abbrev pub place_refusal : KeyTarget → Place → ConvertError
 place_refusal target PrivateKey = errors.NoPrivateKey
-place_refusal target Kind = errors.Putty no_hardware_keys
+place_refusal target Kind = errors.Putty no_security_keys
 place_refusal target Comment = errors.CommentNotCarried
 place_refusal target Derivation = not_derived target
 place_refusal target Fresh = errors.FreshTooShort

@@ -10,11 +10,11 @@ ghost use Rattle.picky_wire_base.specs.Gives.{Gives};
 ghost use Rattle.picky_sshkey_blob.specs.Key.{public_part};
 ghost use Rattle.picky_ppk_parts.specs.Secret.{secret_bytes};
 ghost use Rattle.picky_ppk_file.specs.File.{version_of};
-ghost use Rattle.picky_ppk_file.specs.PuttyRefusal.{is_hardware as is_hardware_of};
+ghost use Rattle.picky_ppk_file.specs.PuttyRefusal.{is_security_key as is_security_key_of};
 ghost use Rattle.picky_ppk.specs.Sealed.{file_to_seal, is_sealable, padding_len as missing_len};
 ghost use Rattle.picky_ppk.specs.Fresh.{salt_len as salt_len_of};
 ghost use Rattle.picky_target.specs.Drafts.{padding_len as padding_len_of, plain_file as plain_file_of};
-ghost use Rattle.picky_target.specs.inner.File.{drawn, measured, plain_drafted, plain_written, sealed_text as sealed_text_of};
+ghost use Rattle.picky_target.specs.inner.File.{salt_and_padding, measured, plain_drafted, plain_written, sealed_text as sealed_text_of};
 ghost use Rattle.picky_target.specs.inner.File.{sealed_written, sealed_asks, text_of_file as text_of_file_of, ppk_written, ppk_asks};
 
 use crate::comment::carries_comment;
@@ -50,7 +50,7 @@ pub fn write_file<S: Suite>(
         (ppk_asks (S.meanings suite.old) (record { pass = option_copied pass.entry; fresh = fresh.now }) version config key.now comment) result
         suite.old suite.new }
 {
-    if is_hardware(key) {
+    if is_security_key(key) {
         return Err(no_such_kind(alloc));
     }
     if !carries_comment(KeyTarget::Ppk(version, config), comment.as_str()) {
@@ -63,8 +63,8 @@ pub fn write_file<S: Suite>(
 }
 
 /// Whether a device keeps the key's secret.
-fn is_hardware(key: &SshBasePrivateKey) -> bool
-    ensures { result ≡ is_hardware_of (public_part key.now) }
+fn is_security_key(key: &SshBasePrivateKey) -> bool
+    ensures { result ≡ is_security_key_of (public_part key.now) }
 {
     match key {
         SshBasePrivateKey::Rsa { .. }
@@ -184,7 +184,7 @@ fn drawn_under<'a>(
     pass: &str,
     fresh: &'a [u8],
 ) -> Result<Drawn<'a>, ConvertError>
-    ensures gives { Gives ConvertError.NoMemory (λ d. (d.salt.now, d.padding.now)) result (drawn pass.now fresh.now version config key.now) }
+    ensures gives { Gives ConvertError.NoMemory (λ d. (d.salt.now, d.padding.now)) result (salt_and_padding pass.now fresh.now version config key.now) }
     ensures salt { IfOk result (λ d. length d.salt.now ≡ salt_len_of version config) }
     ensures padding { IfOk result (λ d. length d.padding.now ≡ padding_len_of key.now) }
 {

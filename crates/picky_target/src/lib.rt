@@ -1,4 +1,6 @@
 //! The texts that a key and a comment are written as, target by target.
+//!
+//! Read first: `specs/Carried.antt` and `specs/Texts.antt`; then `src/laws.rt` and `src/writing.rt`.
 #![tactic(auto)]
 
 mod comment;

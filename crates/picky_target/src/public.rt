@@ -2,7 +2,7 @@
 
 ghost use Rattle.std.specs.Prelude.{◌≡◌, ◌⊎◌};
 ghost use Rattle.picky_wire_base.specs.Gives.{Gives};
-ghost use Rattle.picky_ppk_parts.specs.Unsupported.{no_hardware_keys as no_hardware_keys_of};
+ghost use Rattle.picky_ppk_parts.specs.Unsupported.{no_security_keys as no_security_keys_of};
 ghost use Rattle.picky_target.specs.inner.Public.{line_written, putty_written, putty_refusal as putty_refusal_of, text_of_putty as text_of_putty_of};
 
 use crate::comment::carries_comment;
@@ -10,8 +10,8 @@ use crate::error::ConvertError;
 use crate::target::KeyTarget;
 use picky_keys::{SshPublicKey, SshPublicKeyError};
 use picky_ppk::{PuttyError, PuttyPublicKey};
-use picky_ppk_file::is_hardware;
-use picky_ppk_parts::no_hardware_keys;
+use picky_ppk_file::is_security_key;
+use picky_ppk_parts::no_security_keys;
 use picky_wire::Text;
 use std::alloc::Global;
 
@@ -42,7 +42,7 @@ pub fn write_line(alloc: Global, key: &SshPublicKey) -> Result<Text, ConvertErro
 pub fn write_putty(alloc: Global, key: SshPublicKey) -> Result<Text, ConvertError>
     ensures { Gives ConvertError.NoMemory (λ text. text) result (putty_written key) }
 {
-    if is_hardware(&key.inner_key) {
+    if is_security_key(&key.inner_key) {
         drop(key);
         return Err(no_such_kind(alloc));
     }
@@ -72,9 +72,9 @@ fn text_of_putty(alloc: Global, key: SshPublicKey) -> Result<Text, ConvertError>
 
 /// The refusal of a key whose secret a device keeps.
 pub fn no_such_kind(alloc: Global) -> ConvertError
-    ensures { (result ≡ ConvertError.Putty no_hardware_keys_of) ⊎ (result ≡ ConvertError.NoMemory) }
+    ensures { (result ≡ ConvertError.Putty no_security_keys_of) ⊎ (result ≡ ConvertError.NoMemory) }
 {
-    putty_refusal(no_hardware_keys(alloc))
+    putty_refusal(no_security_keys(alloc))
 }
 
 /// A refusal of PuTTY's key or file as the conversion's: what is too long, or has too many lines, is the text.

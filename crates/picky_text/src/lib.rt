@@ -1,4 +1,6 @@
 //! The rules of text that SSH and PuTTY files share: base64, rows, lines, words, quoting.
+//!
+//! Read first: `specs/Words.antt` and `specs/Base64.antt`; then `src/laws.rt`.
 #![tactic(auto)]
 
 mod base64_text;

@@ -1,4 +1,7 @@
 //! The wire of SSH: sources and sinks that may fail, and the fields that are read from one (RFC 4251, section 5).
+//!
+//! Read first: `specs/Takes.antt` and `specs/Puts.antt`, what reading and writing leave; then `src/source.rt` and
+//! `src/read.rt`.
 #![tactic(auto)]
 
 mod calls;

@@ -10,7 +10,7 @@ use Rattle.picky_wire_base.specs.Numbers.{IsBytes}
 use Rattle.picky_wire_base.proofs.Strings.{string_spells, string_exact}
 use Rattle.picky_wire_base.specs.Inside.{IsSubPiece}
 use Rattle.picky_wire_base.proofs.Inside.{sub_exact}
-use Rattle.picky_wire_base.specs.OrEmpty.{empty_or, or_empty}
+use Rattle.picky_wire_base.specs.OrEmpty.{empty_or, empty_or_within}
 
 -- No bytes are read as e.
 pub empty_reads_empty : {E A : Type 0} (e : A) (M : Narrowing E (List ℕ) A) (bytes : List ℕ)
@@ -26,19 +26,19 @@ empty_reads_more e M (b ∷ bytes) some = refl
 
 -- The empty string is a piece of e.
 pub or_empty_spells_empty : {E A : Type 0} (cut : Flaw → E) (e : A) (G : Grammar E A)
-    → (or_empty cut e G).piece e (string_of [])
+    → (empty_or_within cut e G).piece e (string_of [])
 or_empty_spells_empty cut e G = ([], string_spells [] (omega arith), refl)
 
 -- It is read back whatever follows.
 pub or_empty_reads_empty : {E A : Type 0} (cut : Flaw → E) (e : A) (G : Grammar E A)
-    (rest : List ℕ) → (or_empty cut e G).read (string_of [] ++ rest) ≡ Ok (e, rest)
+    (rest : List ℕ) → (empty_or_within cut e G).read (string_of [] ++ rest) ≡ Ok (e, rest)
 or_empty_reads_empty cut e G rest =
-    (or_empty cut e G).complete e (string_of []) rest (or_empty_spells_empty cut e G)
+    (empty_or_within cut e G).complete e (string_of []) rest (or_empty_spells_empty cut e G)
 
 -- The string of a piece that isn't empty is a piece, also where more bytes follow inside.
 pub or_empty_spells : {E A : Type 0} (cut : Flaw → E) (e : A) (G : Grammar E A) (v : A)
     (front rest : List ℕ) → 0 < length front → G.piece v front → length (front ++ rest) < 2 ^ 32
-    → (or_empty cut e G).piece v (string_of (front ++ rest))
+    → (empty_or_within cut e G).piece v (string_of (front ++ rest))
 or_empty_spells cut e G v [] rest some spells short = absurd (omega arith)
 or_empty_spells cut e G v (b ∷ front) rest some spells short =
     let block = b ∷ front ++ rest in
@@ -47,17 +47,17 @@ or_empty_spells cut e G v (b ∷ front) rest some spells short =
 -- The string of a piece that isn't empty is read back whatever follows.
 pub or_empty_reads_back : {E A : Type 0} (cut : Flaw → E) (e : A) (G : Grammar E A) (v : A)
     (front rest : List ℕ) → 0 < length front → G.piece v front → length front < 2 ^ 32
-    → (or_empty cut e G).read (string_of front ++ rest) ≡ Ok (v, rest)
+    → (empty_or_within cut e G).read (string_of front ++ rest) ≡ Ok (v, rest)
 or_empty_reads_back cut e G v front rest some spells short =
     let whole = append-nil front in
     let fits = subst (λ b. length b < 2 ^ 32) (sym whole) short in
     let piece = or_empty_spells cut e G v front [] some spells fits in
-    (or_empty cut e G).complete v (string_of front) rest
-    (subst (λ b. (or_empty cut e G).piece v (string_of b)) whole piece)
+    (empty_or_within cut e G).complete v (string_of front) rest
+    (subst (λ b. (empty_or_within cut e G).piece v (string_of b)) whole piece)
 
 -- Nothing else is a piece.
 pub or_empty_exact : {E A : Type 0} (cut : Flaw → E) (e : A) (G : Grammar E A) (v : A)
-    (bytes : List ℕ) → IsBytes bytes → (or_empty cut e G).piece v bytes
+    (bytes : List ℕ) → IsBytes bytes → (empty_or_within cut e G).piece v bytes
     → ((v ≡ e) × (bytes ≡ string_of [])) ⊎ IsSubPiece G.piece v bytes
 or_empty_exact cut e G v bytes each ([], spells, same) =
     inl (same, (string_exact [] bytes each spells).0)

@@ -17,5 +17,5 @@ empty_or e M = record {
 }
 
 -- the empty string as e, and any other as the layout inside it
-abbrev pub or_empty : {E A : Type 0} → (Flaw → E) → A → Grammar E A → Grammar E A
-or_empty cut e G = inside cut (empty_or e (begins G))
+abbrev pub empty_or_within : {E A : Type 0} → (Flaw → E) → A → Grammar E A → Grammar E A
+empty_or_within cut e G = inside cut (empty_or e (begins G))

@@ -1,5 +1,7 @@
 //! SSH's wire without streams: its layouts, as grammars that carry their laws, values, pieces of fields, and fields seen in a
 //! buffer (RFC 4251, section 5).
+//!
+//! Read first: `specs/Grammar.antt`, which says what a layout is, `specs/Wire.antt`, the fields, and `src/laws.rt`.
 #![tactic(auto)]
 
 mod bytes;

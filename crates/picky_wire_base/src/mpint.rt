@@ -6,6 +6,7 @@ ghost use Rattle.std.specs.Cmp.Lexicographic.{pointwise, nat_list_eq_equiv};
 ghost use Rattle.picky_wire_base.specs.Zeros.{without_zeros};
 ghost use Rattle.picky_wire_base.specs.Magnitude.{IsMagnitude};
 
+use crate::bytes::MAX_LEN;
 use crate::copy::TryClone;
 use crate::error::{NoMemory, SizeError};
 use std::alloc::Global;
@@ -36,7 +37,7 @@ impl Mpint {
             ↔ (2 ^ 32 - 1 ≤ length (without_zeros from.now)) }
     {
         let number = after_zeros(from);
-        if number.len() >= (1 << 32) - 1 {
+        if number.len() >= MAX_LEN {
             return Err(SizeError::TooLong);
         }
         match Vec::from_slice(alloc, number) {
@@ -54,7 +55,7 @@ impl Mpint {
         ensures no_other { IfErr result (λ e. e ≡ SizeError.TooLong) }
     {
         let kept = after_zeros(vec.as_slice()).len();
-        if kept >= (1 << 32) - 1 {
+        if kept >= MAX_LEN {
             return Err(SizeError::TooLong);
         }
         let mut vec = vec;

@@ -14,7 +14,7 @@ version 2 or 3 from standard input, and writes to standard output the same
 version, key and comment.
 
   --help     this text
-  --version  the version
+  --version  the version and the toolchain
 
 keyconv ppk2 and ppk3 write the secret of an Ed25519 key as a number, which
 PuTTY takes for another secret in about every second file. Here it is a string
@@ -31,7 +31,7 @@ written, with 4 a part or nothing, with the others nothing. Only 2 has a line
 on standard error.
 ";
 
-const VERSION: &str = "puttyppk 0.1.0\n";
+const VERSION: &str = "puttyppk 0.1.0 (rattle-kit-13f)\n";
 
 const USAGE_LINE: &str = "usage: puttyppk < PPK\n";
 

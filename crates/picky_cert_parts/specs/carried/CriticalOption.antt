@@ -21,7 +21,7 @@ use Rattle.picky_cert_parts.specs.carried.CertFromWire.{option_error_apart}
 use Rattle.picky_cert_parts.specs.CertNames.{option_name}
 use Rattle.picky_cert_parts.specs.CertNameTables.{option_types}
 use Rattle.picky_cert_parts.specs.CriticalOption.{option_type, option_payload, option_made}
-use Rattle.picky_cert_parts.specs.CriticalOption.{option_rest, critical_option, option_of, IsOption}
+use Rattle.picky_cert_parts.specs.CriticalOption.{option_rest, critical_option, option_of, IsCriticalOption}
 use Rattle.picky_wire_base.specs.Combine.{done}
 use Rattle.picky_cert_parts.specs.carried.Own.{Owns, field_owns, both_owns, narrow_owns, entry_owns}
 
@@ -37,7 +37,7 @@ unfolding option_type option_types
 option_type_spells t = named_spells 0 option_types t (option_name_good t)
 
 -- The one spelling that is written is a piece.
-pub option_spells : (o : SshCriticalOption) → IsOption o → critical_option.piece o (option_of o)
+pub option_spells : (o : SshCriticalOption) → IsCriticalOption o → critical_option.piece o (option_of o)
 unfolding critical_option option_payload option_of
 option_spells o is = (
   o.option_type,

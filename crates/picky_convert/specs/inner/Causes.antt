@@ -8,9 +8,9 @@ use Rattle.picky_target.specs.declared.error.ConvertError.{ConvertError}
 use Rattle.picky_target.specs.declared.error.ConvertError.TheVariants as errors
 use Rattle.picky_convert.specs.declared.error.Status.{Status}
 use Rattle.picky_convert.specs.declared.error.Status.TheVariants as statuses
-use Rattle.picky_conversion.specs.Certified.{Relation}
+use Rattle.picky_conversion.specs.Certified.{SignRelation}
 use Rattle.picky_convert.specs.declared.command.Command.{Command}
-use Rattle.picky_conversion.specs.Made.{Writes}
+use Rattle.picky_conversion.specs.Made.{WritesMade}
 use Rattle.picky_conversion.specs.Outside.{Outside}
 use Rattle.picky_input.specs.Extent.{Extent}
 use Rattle.picky_convert.specs.Run.{extent_for, outcome, Stops}
@@ -28,9 +28,9 @@ refusal_status (errors.Putty putty.SuiteFault) = statuses.OutsideFault
 refusal_status e = statuses.Refused e
 
 -- what is answered for bytes: the text, or a status with its cause
-abbrev pub Comes : {X : Type 0} → Relation → (X → List ℕ) → Outside → Command → (input : List ℕ)
+abbrev pub Comes : {X : Type 0} → SignRelation → (X → List ℕ) → Outside → Command → (input : List ℕ)
     → (read_rose suite_rose signer_rose : Type 0) → Result X Status → Type 0
-Comes signs view o command input read_rose suite_rose signer_rose (Ok text) = Writes signs (outcome o command input) (view text)
+Comes signs view o command input read_rose suite_rose signer_rose (Ok text) = WritesMade signs (outcome o command input) (view text)
 Comes signs view o command input read_rose suite_rose signer_rose (Err status) =
     Stops signs o command input read_rose suite_rose signer_rose status
 

@@ -19,9 +19,9 @@ unread_status n (errors.Putty putty.SuiteFault) = statuses.OutsideFault
 unread_status n e = statuses.Refused n e
 
 -- what is answered for a text: what the command writes; or want of memory, the suite's fault, or the text's own status
-abbrev pub Gives : Reader → Command → (text : List ℕ) (rose : Type 0) → Result (List ℕ) InventoryStatus → Type 0
-Gives r command text rose (Ok written) = answer r command text ≡ Ok written
-Gives r command text rose (Err status) =
+abbrev pub AnswersText : Reader → Command → (text : List ℕ) (rose : Type 0) → Result (List ℕ) InventoryStatus → Type 0
+AnswersText r command text rose (Ok written) = answer r command text ≡ Ok written
+AnswersText r command text rose (Err status) =
     (status ≡ statuses.NoMemory) ⊎ ((status ≡ statuses.OutsideFault) × IsFaultOf r command text rose)
     ⊎ (answer r command text ≡ Err status)
 

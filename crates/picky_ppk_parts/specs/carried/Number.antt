@@ -6,10 +6,10 @@ use Rattle.std.proofs.lemmas.List.{length-append, length-replicate}
 use Rattle.picky_wire_base.specs.carried.Outcome.{passed_ok}
 use Rattle.picky_wire_base.specs.Zeros.{without_zeros}
 use Rattle.picky_wire_base.specs.carried.Zeros.{zeros_are_dropped, all_is_kept, zeros_in_front, no_zero_begins}
-use Rattle.picky_ppk_parts.specs.Number.{IsNumberOf, padded, read_number}
+use Rattle.picky_ppk_parts.specs.Number.{IsNumberOf, padded_number, read_number}
 
 -- What is padded is as long as wanted.
-pub padded_len : (number : List ℕ) → length number ≤ 32 → length (padded number) ≡ 32
+pub padded_len : (number : List ℕ) → length number ≤ 32 → length (padded_number number) ≡ 32
 padded_len number short =
     let zeros = length-replicate {A = ℕ} (32 - length number) 0 in
     omega (arith, length-append (replicate (32 - length number) 0) number, zeros)
@@ -18,7 +18,7 @@ pub number_sound : {E : Type 0} (why : E) (bytes secret : List ℕ) → read_num
     → IsNumberOf bytes secret
 number_sound why bytes secret is =
     let number = without_zeros bytes in
-    let passed = passed_ok (nat_le (length number) 32) why (padded number) secret is in
+    let passed = passed_ok (nat_le (length number) 32) why (padded_number number) secret is in
     let short = leb-true (length number) 32 passed.0 in (
       ap length (sym passed.1) ∙ padded_len number short,
       sym (all_is_kept number (no_zero_begins bytes)) ∙ sym (zeros_are_dropped (32 - length number) number)
@@ -34,6 +34,6 @@ number_complete why bytes secret (len, same) =
     omega (arith, len, ap length front.1, length-append (replicate front.0 0) number, length-replicate {A = ℕ} front.0 0) in
     let short : nat_le (length number) 32 ≡ true = le-leb (length number) 32 (omega arith) in
     let zeros : 32 - length number ≡ front.0 = omega arith in
-    ap (λ v. if nat_le (length v) 32 then Ok (padded v) else Err why) same
-    ∙ ap (λ t. if t then Ok (padded number) else Err why) short
+    ap (λ v. if nat_le (length v) 32 then Ok (padded_number v) else Err why) same
+    ∙ ap (λ t. if t then Ok (padded_number number) else Err why) short
     ∙ ap (λ n. Ok (replicate n 0 ++ number)) zeros ∙ ap Ok (sym front.1)

@@ -2,7 +2,7 @@
 use Rattle.std.specs.Prelude.{List, ℕ}
 use Rattle.picky_wire_base.specs.Magnitude.{IsMagnitude}
 use Rattle.picky_wire_base.specs.declared.view.Part.{Part}
-use Rattle.picky_ppk_parts.specs.Number.{padded}
+use Rattle.picky_ppk_parts.specs.Number.{padded_number}
 use Rattle.picky_ppk_parts.specs.declared.secret.RsaParts.{RsaParts}
 use Rattle.picky_ppk_parts.specs.Secret.{RsaSecret}
 
@@ -13,7 +13,7 @@ rsa_seen parts =
 
 -- the secret whose number a part is
 abbrev pub ed_seen : Part → List ℕ
-ed_seen part = padded part.bytes.now
+ed_seen part = padded_number part.bytes.now
 
 -- each is a number
 pub record AreNumbers (secret : RsaSecret) : Type 0 where

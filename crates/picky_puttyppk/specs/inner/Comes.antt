@@ -4,7 +4,7 @@ use Rattle.picky_suite.specs.Meanings.{Meanings}
 use Rattle.picky_input.specs.Extent.{Extent, ToEnd}
 use Rattle.picky_puttyppk.specs.declared.status.PuttyPpkStatus.{PuttyPpkStatus}
 use Rattle.picky_puttyppk.specs.declared.status.PuttyPpkStatus.TheVariants as statuses
-use Rattle.picky_puttyppk.specs.Run.{Fails, IsTextFor, extent_of}
+use Rattle.picky_puttyppk.specs.Run.{Stops, IsTextFor, extent_of}
 
 -- a text, and no source or sink, may be refused so
 abbrev pub IsOfText : PuttyPpkStatus → Type 0
@@ -16,7 +16,7 @@ IsOfText status = ⊥
 -- the text for PuTTY of the bytes of a source, or why there is none
 abbrev pub Comes : Meanings → (input : List ℕ) (read_rose : Type 0) → Result (List ℕ) PuttyPpkStatus → Type 0
 Comes m input read_rose (Ok made) = IsTextFor m input made
-Comes m input read_rose (Err status) = Fails m input read_rose status
+Comes m input read_rose (Err status) = Stops m input read_rose status
 
 -- how far the source was read
 abbrev pub extent_for : Result (List ℕ) PuttyPpkStatus → Extent

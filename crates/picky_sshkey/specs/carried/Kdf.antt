@@ -20,8 +20,8 @@ use Rattle.picky_wire_base.proofs.PieceLemmas.{length-string_of}
 use Rattle.picky_wire.specs.Flaws.{wire_error}
 use Rattle.picky_wire.specs.carried.Flaws.{wire_own}
 use Rattle.picky_sshkey.specs.declared.kdf.KdfOption.{KdfOption}
-use Rattle.picky_sshkey.specs.Kdf.{HasRoom, is_no_option, kdf_fields, kdf_option, kdf_option_of, no_option, option_inside}
-use Rattle.picky_sshkey.specs.KdfLayout.{IsOption, kdf_layout, read_option, unwritten}
+use Rattle.picky_sshkey.specs.Kdf.{HasSaltRoom, is_no_option, kdf_fields, kdf_option, kdf_option_of, no_option, option_inside}
+use Rattle.picky_sshkey.specs.KdfLayout.{IsKdfOption, kdf_layout, read_option, unwritten}
 
 -- Options are refused for their length alone.
 pub unwritten_for_length : (option : KdfOption) → unwritten option ≡ Some errors.NoMemory → ⊥
@@ -66,7 +66,7 @@ pub option_used : (bytes : List ℕ) → string.used bytes ≡ kdf_layout.used b
 unfolding kdf_option
 option_used bytes = refl
 
-fields_spell : (option : KdfOption) → IsOption option → HasRoom option
+fields_spell : (option : KdfOption) → IsKdfOption option → HasSaltRoom option
     → kdf_fields.piece option (string_of option.salt ++ to_be_bytes w32 option.rounds)
 unfolding kdf_fields
 fields_spell option keeps room = (
@@ -85,10 +85,10 @@ fields_spell option keeps room = (
   refl,
 )
 
-has_room : (option : KdfOption) → unwritten option ≡ None → HasRoom option
+has_room : (option : KdfOption) → unwritten option ≡ None → HasSaltRoom option
 has_room option written = go (nat_lt (length option.salt) (2 ^ 32 - 8)) refl
   where
-    go : (short : Bool) → nat_lt (length option.salt) (2 ^ 32 - 8) ≡ short → HasRoom option
+    go : (short : Bool) → nat_lt (length option.salt) (2 ^ 32 - 8) ≡ short → HasSaltRoom option
     go true is = ltb-true _ _ is
     go false is = absurd (cc (is, written))
 
@@ -109,7 +109,7 @@ is_none option none =
     ap (λ bytes. record { salt = bytes; rounds = option.rounds }) salt ∙ ap (λ n. record { salt = []; rounds = n }) rounds
 
 -- What is written is a piece.
-pub option_spells : (option : KdfOption) → IsOption option → unwritten option ≡ None
+pub option_spells : (option : KdfOption) → IsKdfOption option → unwritten option ≡ None
     → kdf_layout.piece option (kdf_option_of option)
 unfolding kdf_option kdf_option_of
 option_spells option keeps written = go (is_no_option option) refl

@@ -4,7 +4,7 @@ use Rattle.picky_keys.specs.Blob.{blob_of}
 use Rattle.picky_sshkey_blob.specs.Key.{public_part}
 use Rattle.picky_sshkey.specs.declared.private_key.SshPrivateKey.{SshPrivateKey}
 use Rattle.picky_sshkey.specs.declared.draft.PrivateKeyDraft.{PrivateKeyDraft}
-use Rattle.picky_sshkey.specs.Kdf.{HasRoom}
+use Rattle.picky_sshkey.specs.Kdf.{HasSaltRoom}
 use Rattle.picky_sshkey.specs.Kept.{IsSshPrivateKey}
 use Rattle.picky_sshkey.specs.Written.{envelope_of, may_derive, plain_block, written_option}
 
@@ -16,4 +16,4 @@ pub record IsDraft (key : SshPrivateKey) (draft : PrivateKeyDraft) : Type 0 wher
   pub block_short : length (plain_block key) < 2 ^ 32
   pub len : draft.len ≡ length (envelope_of key (plain_block key))
   pub short : draft.len < 2 ^ 32
-  pub room : HasRoom (written_option key.passphrase key.kdf.option)
+  pub room : HasSaltRoom (written_option key.passphrase key.kdf.option)

@@ -5,7 +5,7 @@ use Rattle.picky_wire_base.specs.Numbers.{IsBytes}
 use Rattle.picky_wire_base.proofs.Numbers.{front_bytes}
 use Rattle.picky_suite.specs.declared.flavour.Flavour.{Flavour}
 use Rattle.picky_suite.specs.Ranges.{IsBcryptLen}
-use Rattle.picky_suite.specs.Toy.{derived_block, derived, toy_bcrypt, toy_argon2}
+use Rattle.picky_suite.specs.Toy.{derived_block, toy_derived, toy_bcrypt, toy_argon2}
 use Rattle.picky_suite.specs.carried.Bytes.{joined_bytes, digest_len, digest_bytes}
 
 block_len : (pass salt numbers : List ℕ) (i : ℕ) → length (derived_block pass salt numbers i) ≡ 64
@@ -16,8 +16,8 @@ block_bytes : (pass salt numbers : List ℕ) (i : ℕ) → IsBytes (derived_bloc
 unfolding derived_block
 block_bytes pass salt numbers i = digest_bytes _
 
-derived_len : (n : ℕ) (pass salt numbers : List ℕ) → n ≤ 128 → length (derived n pass salt numbers) ≡ n
-unfolding derived
+derived_len : (n : ℕ) (pass salt numbers : List ℕ) → n ≤ 128 → length (toy_derived n pass salt numbers) ≡ n
+unfolding toy_derived
 derived_len n pass salt numbers fits =
     let zeroth = derived_block pass salt numbers 0 in
     let first = derived_block pass salt numbers 1 in
@@ -29,8 +29,8 @@ derived_len n pass salt numbers fits =
     ) in
     length-take-le n (zeroth ++ first) joined
 
-derived_bytes : (n : ℕ) (pass salt numbers : List ℕ) → IsBytes (derived n pass salt numbers)
-unfolding derived
+derived_bytes : (n : ℕ) (pass salt numbers : List ℕ) → IsBytes (toy_derived n pass salt numbers)
+unfolding toy_derived
 derived_bytes n pass salt numbers =
     front_bytes n _ (joined_bytes _ _ (block_bytes pass salt numbers 0) (block_bytes pass salt numbers 1))
 

@@ -33,8 +33,8 @@ abbrev pub made : Option (List ℕ) → SshBasePrivateKey → (comment salt : Li
 made pass key comment salt = map_err envelope_refusal (key_made key pass comment salt)
 
 -- OpenSSH's key, where it carries the comment, and bcrypt can be run with the passphrase and has fresh bytes enough
-abbrev pub drafted : Output → SshBasePrivateKey → (comment : List ℕ) → Result SshPrivateKey ConvertError
-drafted out key comment =
+abbrev pub envelope_drafted : Output → SshBasePrivateKey → (comment : List ℕ) → Result SshPrivateKey ConvertError
+envelope_drafted out key comment =
     if carries_comment targets.OpenSsh comment
     then and_then (salt_judged out.pass out.fresh) (λ _. made out.pass key comment (take 16 out.fresh))
     else Err errors.CommentNotCarried
@@ -44,7 +44,7 @@ abbrev pub text_of_key : Meanings → SshPrivateKey → Result (List ℕ) Conver
 text_of_key m key = map_err envelope_refusal (key_text m key)
 
 abbrev pub envelope_written : Meanings → Output → SshBasePrivateKey → (comment : List ℕ) → Result (List ℕ) ConvertError
-envelope_written m out key comment = and_then (drafted out key comment) (text_of_key m)
+envelope_written m out key comment = and_then (envelope_drafted out key comment) (text_of_key m)
 
 -- the suite is asked
 abbrev pub draft_asks : Result SshPrivateKey ConvertError → Bool
@@ -52,4 +52,4 @@ draft_asks (Ok key) = text_writing_asks key
 draft_asks (Err e) = false
 
 abbrev pub envelope_asks : Output → SshBasePrivateKey → (comment : List ℕ) → Bool
-envelope_asks out key comment = draft_asks (drafted out key comment)
+envelope_asks out key comment = draft_asks (envelope_drafted out key comment)

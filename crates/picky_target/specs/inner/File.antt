@@ -9,11 +9,11 @@ use Rattle.picky_sshkey_blob.specs.declared.key.SshBasePrivateKey.{SshBasePrivat
 use Rattle.picky_sshkey_blob.specs.Key.{public_part}
 use Rattle.picky_ppk_parts.specs.declared.config.PpkEncryptionConfig.{PpkEncryptionConfig}
 use Rattle.picky_ppk_parts.specs.declared.error.PuttyError.TheVariants as putty
-use Rattle.picky_ppk_parts.specs.Unsupported.{no_hardware_keys}
+use Rattle.picky_ppk_parts.specs.Unsupported.{no_security_keys}
 use Rattle.picky_ppk_file.specs.declared.file.PpkFile.{PpkFile}
 use Rattle.picky_ppk_file.specs.File.{version_of}
-use Rattle.picky_ppk_file.specs.Written.{file_text, fits_block, written as file_written}
-use Rattle.picky_ppk_file.specs.PuttyRefusal.{is_hardware}
+use Rattle.picky_ppk_file.specs.Written.{file_text, fits_block, file_spelled as file_written}
+use Rattle.picky_ppk_file.specs.PuttyRefusal.{is_security_key}
 use Rattle.picky_ppk.specs.Changed.{of_base_key}
 use Rattle.picky_ppk.specs.Sealed.{encrypted, file_to_seal}
 use Rattle.picky_target.specs.declared.error.ConvertError.{ConvertError}
@@ -37,9 +37,9 @@ abbrev pub plain_written : Meanings → PpkVersionKey → SshBasePrivateKey → 
 plain_written m version key comment = and_then (plain_of m version key comment) text_of_file
 
 -- the salt and the padding that sealing takes
-abbrev pub drawn : (pass fresh : List ℕ) → PpkVersionKey → PpkEncryptionConfig → SshBasePrivateKey
+abbrev pub salt_and_padding : (pass fresh : List ℕ) → PpkVersionKey → PpkEncryptionConfig → SshBasePrivateKey
     → Result (List ℕ × List ℕ) ConvertError
-drawn pass fresh version config key =
+salt_and_padding pass fresh version config key =
     if derives_under (targets.Ppk version config) pass
     then (if nat_le (salt_len version config + padding_len key) (length fresh)
     then Ok (take (salt_len version config) fresh, take (padding_len key) (drop (salt_len version config) fresh))
@@ -73,7 +73,7 @@ pub record Sealable : Type 0 where
 abbrev pub sealable : Meanings → (pass fresh : List ℕ) → PpkVersionKey → PpkEncryptionConfig → SshBasePrivateKey
     → (comment : List ℕ) → Result Sealable ConvertError
 sealable m pass fresh version config key comment =
-    and_then (drawn pass fresh version config key) (λ d.
+    and_then (salt_and_padding pass fresh version config key) (λ d.
     and_then (plain_drafted m version config key comment d.0 d.1) (λ f.
     Ok (record { salt = d.0; padding = d.1; plain = f })))
 
@@ -106,11 +106,11 @@ asks_under m (Some pass) fresh version config key comment = sealed_asks m pass f
 abbrev pub ppk_written : Meanings → Output → PpkVersionKey → PpkEncryptionConfig → SshBasePrivateKey → (comment : List ℕ)
     → Result (List ℕ) ConvertError
 ppk_written m out version config key comment =
-    if is_hardware (public_part key) then Err (errors.Putty no_hardware_keys)
+    if is_security_key (public_part key) then Err (errors.Putty no_security_keys)
     else if carries_comment (targets.Ppk version config) comment
     then text_under m out.pass out.fresh version config key comment else Err errors.CommentNotCarried
 
 abbrev pub ppk_asks : Meanings → Output → PpkVersionKey → PpkEncryptionConfig → SshBasePrivateKey → (comment : List ℕ) → Bool
 ppk_asks m out version config key comment =
-    not (is_hardware (public_part key)) && carries_comment (targets.Ppk version config) comment
+    not (is_security_key (public_part key)) && carries_comment (targets.Ppk version config) comment
     && asks_under m out.pass out.fresh version config key comment

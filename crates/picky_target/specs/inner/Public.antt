@@ -7,9 +7,9 @@ use Rattle.picky_keys.specs.Line.{line_of}
 use Rattle.picky_keys.specs.LineRefusal.{is_short}
 use Rattle.picky_ppk_parts.specs.declared.error.PuttyError.{PuttyError}
 use Rattle.picky_ppk_parts.specs.declared.error.PuttyError.TheVariants as putty
-use Rattle.picky_ppk_parts.specs.Unsupported.{no_hardware_keys}
+use Rattle.picky_ppk_parts.specs.Unsupported.{no_security_keys}
 use Rattle.picky_ppk_file.specs.PuttyPublic.{putty_public}
-use Rattle.picky_ppk_file.specs.PuttyRefusal.{is_hardware, of_openssh, putty_text}
+use Rattle.picky_ppk_file.specs.PuttyRefusal.{is_security_key, of_openssh, putty_text}
 use Rattle.picky_target.specs.declared.error.ConvertError.{ConvertError}
 use Rattle.picky_target.specs.declared.error.ConvertError.TheVariants as errors
 use Rattle.picky_target.specs.declared.target.KeyTarget.TheVariants as targets
@@ -23,7 +23,7 @@ line_written key =
 
 abbrev pub putty_written : SshPublicKey → Result (List ℕ) ConvertError
 putty_written key =
-    if is_hardware key.inner_key then Err (errors.Putty no_hardware_keys)
+    if is_security_key key.inner_key then Err (errors.Putty no_security_keys)
     else if carries_comment targets.PuttyPublic key.comment
     then (if is_short (blob_of key.inner_key) && is_short (putty_public (blob_of key.inner_key) key.comment)
     then Ok (putty_public (blob_of key.inner_key) key.comment) else Err errors.TooLong)

@@ -3,7 +3,7 @@ use Rattle.picky_conversion.proofs.AnswerLemmas.{refused_leaves, refuses_input}
 use Rattle.picky_conversion.proofs.CertifyLemmas.{certification_refused, certified_gives, certified_leaves, certified_signer}
 use Rattle.picky_conversion.proofs.CertifyLemmas.{input_refused, refused_made, still}
 use Rattle.picky_wire.specs.Count.{Rose}
-use Rattle.picky_conversion.specs.Certify.{IsReadFault, certification}
+use Rattle.picky_conversion.specs.Certify.{IsInputFault, certification}
 use Rattle.picky_conversion.specs.Made.{ToSign}
 use Rattle.picky_conversion.specs.Outside.{outside}
 use Rattle.picky_conversion.specs.Refusal.{input_refusal}
@@ -32,7 +32,7 @@ returns-in-Err-clause-gives g c =
     let o = outside (g.S.Suite.meanings c.args.suite.now) c.args.given in
     let rose = Rose (g.S.Suite.faults c.args.suite.now) (g.S.Suite.faults c.read_text.new.suite) in
     rw c.input_refusal.ensures
-    (refused_made (g.G.Signer.signs c.args.signer.now) (λ text. text) ToSign (certification o c.args.request c.args.input.now) (λ e. IsReadFault o c.args.input.now e rose) _ (input_refusal c.in-Err.e)
+    (refused_made (g.G.Signer.signs c.args.signer.now) (λ text. text) ToSign (certification o c.args.request c.args.input.now) (λ e. IsInputFault o c.args.input.now e rose) _ (input_refusal c.in-Err.e)
     (input_refused o c.args.input.now c.in-Err.e rose (certification o c.args.request c.args.input.now) c.in-Err.ensures.gives
     (certification_refused o c.args.request c.args.input.now c.in-Err.e)))
 

@@ -2,7 +2,7 @@
 use Rattle.std.proofs.Common.{Global, refl}
 use Rattle.std.specs.Prelude.{string_bytes}
 use Rattle.picky_wire.specs.Count.{Rose}
-use Rattle.picky_conversion.specs.Certify.{IsReadFault}
+use Rattle.picky_conversion.specs.Certify.{IsInputFault}
 use Rattle.picky_convert.specs.Command.{fingerprints}
 use Rattle.picky_conversion.specs.Issue.{IsIssuingFault, issued_bytes}
 use Rattle.picky_conversion.specs.Made.{Whole}
@@ -53,7 +53,7 @@ returns-in-Fingerprint-clause-gives g c =
     let rose = Rose (g.S.Suite.faults c.args.suite.now) (g.S.Suite.faults c.fingerprint.new.suite) in
     rw c.in-Fingerprint.is
     (plain_made (g.G.Signer.signs c.args.signer.now) (string_bytes {Z = Global}) (fingerprints o c.args.text.now)
-    (λ e. IsReadFault o c.args.text.now e rose) _ c.fingerprint.result c.fingerprint.ensures.gives)
+    (λ e. IsInputFault o c.args.text.now e rose) _ c.fingerprint.result c.fingerprint.ensures.gives)
 
 pub returns-in-Ok-sample-clause-gives : goal.returns-in-Ok-sample-clause-gives
 returns-in-Ok-sample-clause-gives g c =

@@ -2,7 +2,7 @@
 use Rattle.std.proofs.Common.{◌≡◌, ℕ, List, [], Some, None, sym, ◌∙◌, ap, arith, rules}
 use Rattle.std.proofs.lemmas.Str.Pattern.{split_parts}
 use Rattle.picky_text.proofs.UnquoteLemmas.{none_from_places}
-use Rattle.picky_issuing.specs.Parts.{mark_word, issuer_of, key_text_of_cut, cut}
+use Rattle.picky_issuing.specs.Parts.{mark_word, issuer_text_of, key_text_of_cut, cut}
 use Rattle.picky_issuing.proofs.PartsLemmas.{read_more, is_word, is_other, cut_of_read, uncut_of_read}
 use Rattle.picky_issuing.proofs.PartsLemmas.{cut_at_end, cut_at_word, cut_at_word_cr}
 use Rattle.picky_issuing.proofs.parts.parts_of.Goals as goal
@@ -20,7 +20,7 @@ returns-then-eq c =
     ] in
     let whole = cut_of_read c.args.text.now rest after c.lines.invariant.1 here in
     record {
-      issuer = ap Some c.split_at.ensures.front ∙ sym (ap issuer_of whole);
+      issuer = ap Some c.split_at.ensures.front ∙ sym (ap issuer_text_of whole);
       key = sym (ap (key_text_of_cut c.args.text.now) whole);
     }
 
@@ -40,7 +40,7 @@ returns-then-eq-3 c =
     let whole =
     cut_of_read c.args.text.now rest [] c.lines.invariant.1 (cut_at_end rest (is_word rest mark_word c.if-eq-3.ensures)) in
     record {
-      issuer = ap Some c.split_at-then-eq-3.ensures.front ∙ sym (ap issuer_of whole);
+      issuer = ap Some c.split_at-then-eq-3.ensures.front ∙ sym (ap issuer_text_of whole);
       key = sym (ap (key_text_of_cut c.args.text.now) whole);
     }
 
@@ -51,6 +51,6 @@ returns c =
     let whole =
     uncut_of_read c.args.text.now rest c.lines.invariant.1 none (is_other rest mark_word c.if-eq-3.ensures) in
     record {
-      issuer = sym (ap issuer_of whole);
+      issuer = sym (ap issuer_text_of whole);
       key = sym (ap (key_text_of_cut c.args.text.now) whole);
     }

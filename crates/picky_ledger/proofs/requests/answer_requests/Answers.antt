@@ -3,7 +3,7 @@ use Rattle.std.proofs.Common.{◌≡◌, ◌∙◌, ◌==◌, List, ◌∷◌, �
 use Rattle.std.proofs.lemmas.Bool.Decides.{nat_tests}
 use Rattle.picky_ledger.specs.Apply.{judged_request_line}
 use Rattle.picky_ledger.specs.Run.{filled_lines, requests_in}
-use Rattle.picky_ledger.specs.Runs.{NoneAsks}
+use Rattle.picky_ledger.specs.Runs.{NoneSigns}
 use Rattle.picky_ledger.proofs.RequestLemmas.{Answered, answered_more, applies_for, filled_more, none_more}
 use Rattle.picky_ledger.proofs.requests.answer_requests.Goals as goal
 
@@ -42,6 +42,6 @@ lines-preserved-in-Ok g c =
           let before = c.lines.invariant.unasked none in
           none_more (g.G.Signer.signs c.lines.signer) issuer c.lines.ledger c.answer_request.new.ledger rest nonce
           c.split_at.result.1.now line left reply c.args.signer.now c.lines.signer c.answer_request.new.signer
-          (subst (λ ls. NoneAsks issuer c.lines.ledger rest ls) is before.1)
+          (subst (λ ls. NoneSigns issuer c.lines.ledger rest ls) is before.1)
           c.split_at.ensures.front c.split_at.ensures.back applies c.in-Ok.ensures.signer.unasked before.0;
     }

@@ -4,7 +4,7 @@ use Rattle.std.specs.Prelude.{◌↔◌, ℕ, List}
 use Rattle.picky_keys.specs.declared.public_key.PublicKey.{PublicKey}
 use Rattle.picky_keys.specs.declared.algorithm.SignatureAlgorithm.{SignatureAlgorithm}
 use Rattle.picky_ledger.specs.Run.{filled_lines, requests_in}
-use Rattle.picky_ledger.specs.Runs.{NoneAsks, nonce_len}
+use Rattle.picky_ledger.specs.Runs.{NoneSigns, nonce_len}
 use Rattle.picky_ledger.proofs.RequestLemmas.{Answered}
 use Rattle.picky_ledger.proofs.requests.answer_requests.Given as goal
 
@@ -16,8 +16,8 @@ invariant-lines g l = record {
   signs : (k : PublicKey) (a : SignatureAlgorithm) (m s : List ℕ)
       → g.G.Signer.signs l.signer k a m s ↔ g.G.Signer.signs l.initial.signer k a m s;
   calm : g.G.Signer.faults l.signer ≡ g.G.Signer.faults l.initial.signer;
-  unasked : NoneAsks l.issuer.inner_key l.initial.ledger l.fresh (requests_in l.requests)
-      → (l.signer ≡ l.initial.signer) × NoneAsks l.issuer.inner_key l.ledger l.rest (filled_lines l.lines);
+  unasked : NoneSigns l.issuer.inner_key l.initial.ledger l.fresh (requests_in l.requests)
+      → (l.signer ≡ l.initial.signer) × NoneSigns l.issuer.inner_key l.ledger l.rest (filled_lines l.lines);
 }
 
 abbrev pub decreases-lines : goal.decreases-lines

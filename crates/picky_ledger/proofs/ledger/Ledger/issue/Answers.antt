@@ -4,7 +4,7 @@ use Rattle.picky_wire.specs.Count.{Rose}
 use Rattle.picky_cert_builder.specs.Built.{IsBuilt}
 use Rattle.picky_cert_builder.specs.Draft.{requested}
 use Rattle.picky_request.specs.Builder.{asked_of}
-use Rattle.picky_ledger.specs.Apply.{last_next, Terms}
+use Rattle.picky_ledger.specs.Apply.{last_next, IssuerTerms}
 use Rattle.picky_ledger.specs.Entry.{IsEntry, entry_of}
 use Rattle.picky_ledger.specs.State.{IsNew, State}
 use Rattle.picky_ledger.proofs.ApplyLemmas.{added_applies, new_fault_applies}
@@ -27,7 +27,7 @@ returns-in-Ok-clause-applies g c =
     let old = c.args.self.now in
     let made = c.in-Ok.certificate in
     let signs = g.G.Signer.signs c.args.signer.now in
-    let t : Terms = record { issuer = c.args.issuer.now.inner_key; nonce = c.args.nonce.now } in
+    let t : IssuerTerms = record { issuer = c.args.issuer.now.inner_key; nonce = c.args.nonce.now } in
     let next : c.self.inside.next ≡ old.next = ap (λ (s : State). s.next) c.self.view_is in
     let room : old.next ≢ last_next = λ last. c.if-self.false (next ∙ last) in
     let rose = Rose (g.G.Signer.faults c.args.signer.now) (g.G.Signer.faults c.certificate_for.new.signer) in
@@ -41,7 +41,7 @@ pub returns-in-Err-SignatureError-clause-applies : goal.returns-in-Err-Signature
 returns-in-Err-SignatureError-clause-applies g c =
     let old = c.args.self.now in
     let signs = g.G.Signer.signs c.args.signer.now in
-    let t : Terms = record { issuer = c.args.issuer.now.inner_key; nonce = c.args.nonce.now } in
+    let t : IssuerTerms = record { issuer = c.args.issuer.now.inner_key; nonce = c.args.nonce.now } in
     let next : c.self.inside.next ≡ old.next = ap (λ (s : State). s.next) c.self.view_is in
     let room : old.next ≢ last_next = λ last. c.if-self.false (next ∙ last) in
     let rose = Rose (g.G.Signer.faults c.args.signer.now) (g.G.Signer.faults c.certificate_for.new.signer) in
