@@ -19,7 +19,7 @@ returns-clause-ok c =
 pub returns-clause-mpint : goal.returns-clause-mpint
 returns-clause-mpint c =
     rest_is_mpint c.args.vec.items _ (returns-clause-ok c)
-    (omega (arith, c.if-kept.false, ap length (returns-clause-ok c), ap length c.after_zeros-kept.ensures, ap (λ l. length (without_zeros l)) c.as_slice.ensures.value))
+    (omega (arith, c.if-kept-ge-MAX_LEN.false, ap length (returns-clause-ok c), ap length c.after_zeros-kept.ensures, ap (λ l. length (without_zeros l)) c.as_slice.ensures.value))
 
 pub invariant_of-result : goal.invariant_of-result
 invariant_of-result c = returns-clause-mpint c
