@@ -36,7 +36,8 @@
  *     memset and memcmp, and no other function of the C library.
  *   - The stack has room: 64 KiB were enough for all that check/c tries. A call isn't made in a signal handler, nor in a forked
  *     child of a process with threads.
- *   - This header fits the library. It is written by hand; check/c holds its numbers, names and sizes against the code.
+ *   - This header fits the library. It is written by hand; check/header, in the gate, holds its calls, structs and numbers against
+ *     the code.
  *
  * Not proved: how long a call takes and how much memory; that what is handed out is wiped from memory that was freed (it
  * isn't); and what PROVED.md lists under "What is neither proved nor tested".
