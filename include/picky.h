@@ -1,8 +1,11 @@
 /*
- * picky from C: SSH keys converted, fingerprinted and taken apart. Every call is proved. Link libpicky.a, which ./install puts into lib/.
+ * picky from C: SSH keys converted, fingerprinted and taken apart. Every call is proved. ./install PREFIX puts this header and the
+ * library there:
+ *
+ *     cc -IPREFIX/include program.c PREFIX/lib/libpicky.a
  *
  * A key text is UTF-8, in one of five forms, told by how it begins: an OpenSSH private key, a PuTTY private key file, a PuTTY
- * public key, a certificate's line or a public key line (docs/FORMATS.md, "Key text"). A call reads it and hands out bytes:
+ * public key, a certificate's line or a public key line (docs/FORMATS.md, "Key text"). A call reads it and hands out bytes, in C11:
  *
  *     char out[64];
  *     picky_answer answer = picky_fingerprint((picky_bytes){line, strlen(line)}, out, sizeof out);
@@ -36,7 +39,8 @@
  *     memset and memcmp, and no other function of the C library.
  *   - The stack has room: 64 KiB were enough for all that check/c tries. A call isn't made in a signal handler, nor in a forked
  *     child of a process with threads.
- *   - This header fits the library. It is written by hand; check/c holds its numbers, names and sizes against the code.
+ *   - This header fits the library. It is written by hand; check/header, in the gate, holds its calls, structs and numbers against
+ *     the code.
  *
  * Not proved: how long a call takes and how much memory; that what is handed out is wiped from memory that was freed (it
  * isn't); and what PROVED.md lists under "What is neither proved nor tested".
@@ -121,7 +125,8 @@ picky_answer picky_read_public(picky_bytes text, uint32_t part, void *out, size_
 /*
  * The name of an error, as "BufferTooSmall" or "input.putty.MacValidation"; of a number that isn't listed here, "". A refusal
  * has the name that keyconv prints behind "refused: ". It is handed out by value: `picky_error_name(error).text` lives as long as
- * the expression that it stands in, so keep the picky_name, not a pointer into it.
+ * the expression that it stands in, so keep the picky_name, not a pointer into it. That holds in C11 and C++; in C99 copy it into
+ * a variable first.
  */
 picky_name picky_error_name(uint32_t error);
 
@@ -144,12 +149,12 @@ enum {
 
 /* The hundreds of errors. A number in one of them is the sum of the hundred and of an error of its kind, below. */
 enum {
-    PICKY_INPUT_PRIVATE = 100,  /* as an OpenSSH private key, the text means none: and one of PICKY_PRIVATE_.. */
-    PICKY_INPUT_PUBLIC = 200,   /* as a public key line, the text means none: PICKY_PUBLIC_.. */
-    PICKY_INPUT_CERT = 300,     /* as a certificate's line, the text means none: PICKY_CERT_.. */
-    PICKY_INPUT_PUTTY = 400,    /* as PuTTY's private or public key, the text means none: PICKY_PUTTY_.. */
-    PICKY_OUTPUT_PRIVATE = 500, /* the key can't be encrypted as an OpenSSH private key: PICKY_PRIVATE_.. */
-    PICKY_OUTPUT_PUTTY = 600    /* PuTTY has no such key, or it can't be encrypted as its file: PICKY_PUTTY_.. */
+    PICKY_INPUT_PRIVATE = 100,  /* read as an OpenSSH private key, the text means no key; plus PICKY_PRIVATE_.. */
+    PICKY_INPUT_PUBLIC = 200,   /* read as a public key line, the text means no key; plus PICKY_PUBLIC_.. */
+    PICKY_INPUT_CERT = 300,     /* read as a certificate's line, the text means no key; plus PICKY_CERT_.. */
+    PICKY_INPUT_PUTTY = 400,    /* read as PuTTY's private or public key, the text means no key; plus PICKY_PUTTY_.. */
+    PICKY_OUTPUT_PRIVATE = 500, /* the key can't be encrypted as an OpenSSH private key; plus PICKY_PRIVATE_.. */
+    PICKY_OUTPUT_PUTTY = 600    /* PuTTY has no such key, or it can't be encrypted as its file; plus PICKY_PUTTY_.. */
 };
 
 /* Of OpenSSH private keys. */
