@@ -2,22 +2,22 @@
 #![tactic(auto)]
 
 #[cfg(test)]
-mod calls;
+mod asked;
 #[cfg(test)]
-mod contents;
+mod calls;
 #[cfg(test)]
 mod devices;
 #[cfg(test)]
-mod frames;
+mod frame;
 #[cfg(test)]
-mod identities;
+mod keyring;
 #[cfg(test)]
 mod keys;
 #[cfg(test)]
 mod locks;
 #[cfg(test)]
-mod signatures;
+mod serving;
+#[cfg(test)]
+mod signing;
 #[cfg(test)]
 mod talks;
-#[cfg(test)]
-mod turns;

@@ -4,14 +4,14 @@
 #[cfg(test)]
 mod calls;
 #[cfg(test)]
+mod content;
+#[cfg(test)]
+mod content_refusals;
+#[cfg(test)]
 mod entry_texts;
 #[cfg(test)]
-mod keys_with_options;
-#[cfg(test)]
-mod lines;
-#[cfg(test)]
-mod misfits;
+mod keys;
 #[cfg(test)]
 mod options;
 #[cfg(test)]
-mod unread_keys;
+mod options_refusals;

@@ -1,8 +1,8 @@
 //! Of two faults in a certificate the one that is tried first, and why a line is refused whatever its bytes.
 
 use crate::answers::ends_in;
-use crate::cert_conversions::converted;
-use crate::cert_refusals::{is_fault, is_refused, is_unread};
+use crate::conversion::converted;
+use crate::refusal::{is_fault, is_refused, is_unread};
 use picky_cert::CertPart;
 use picky_cert_rows::CertFault;
 use picky_key_text::ReadError;

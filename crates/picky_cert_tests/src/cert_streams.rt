@@ -1,7 +1,7 @@
 //! Certificates from a source and to a sink, which may fail, and copies of them.
 
 use crate::answers::{ends_in, gives};
-use crate::cert_fields::cert_of;
+use crate::certificate_and_view::cert_of;
 use picky_cert::{SshCertificate, SshCertificateError};
 use picky_cert_rows::{ROW_COUNT, ZERO_LINE, cert_row};
 use picky_wire::{

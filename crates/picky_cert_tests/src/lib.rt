@@ -4,22 +4,22 @@
 #[cfg(test)]
 mod answers;
 #[cfg(test)]
-mod cert_conversions;
+mod builder;
 #[cfg(test)]
 mod cert_faults;
 #[cfg(test)]
-mod cert_fields;
-#[cfg(test)]
-mod cert_lines;
-#[cfg(test)]
-mod cert_names;
-#[cfg(test)]
 mod cert_parts;
-#[cfg(test)]
-mod cert_refusals;
 #[cfg(test)]
 mod cert_streams;
 #[cfg(test)]
-mod issued;
+mod certificate_and_view;
+#[cfg(test)]
+mod conversion;
+#[cfg(test)]
+mod line;
+#[cfg(test)]
+mod refusal;
+#[cfg(test)]
+mod written;
 #[cfg(test)]
 mod zero_cert;

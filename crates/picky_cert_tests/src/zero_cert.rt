@@ -1,6 +1,6 @@
 //! A certificate whose keys, nonce and signature are zero bytes: where its parts stand, and at which a cut is stuck.
 
-use crate::cert_fields::{blob_of, cert_of, prints};
+use crate::certificate_and_view::{blob_of, cert_of, prints};
 use picky_cert::{CertPart, CertView, SshCertType, SshCertificate};
 use picky_cert_rows::ZERO_LINE;
 use picky_keys::PublicView;

@@ -2,15 +2,17 @@
 #![tactic(auto)]
 
 #[cfg(test)]
-mod conversions;
+mod conversion;
 #[cfg(test)]
-mod fingerprints;
+mod fingerprint;
 #[cfg(test)]
-mod key_lines;
+mod line_and_source_line;
 #[cfg(test)]
 mod ppk_limits;
 #[cfg(test)]
 mod private_conversions;
+#[cfg(test)]
+mod program_and_reports;
 #[cfg(test)]
 mod real_files;
 #[cfg(test)]
@@ -18,8 +20,6 @@ mod refused_inputs;
 #[cfg(test)]
 mod runs;
 #[cfg(test)]
-mod samples;
-#[cfg(test)]
 mod sealed_conversions;
 #[cfg(test)]
-mod statuses;
+mod summary;

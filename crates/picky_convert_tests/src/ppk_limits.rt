@@ -10,13 +10,17 @@ use std::alloc::{AllocError, Global};
 use std::mem::ManuallyDrop;
 use std::test::Fail;
 
-// 65,535 lines of 64 characters, 4 for 3 bytes: 65535 * 64 // 4 * 3
+// The bytes of 65,535 lines of 64 characters, as long as puttygen 0.78 makes each line of a block but the last:
+//     python3 -c 'from base64 import b64decode; print(len(b64decode("A" * 64 * 65535)))'
 const MOST: u32 = 3_145_680;
 
 /// More than the text of such a file has.
 const ROOM: usize = 5_000_000;
 
-// The lines up to the blob.
+// puttygen 0.78 writes these lines for any RSA key without a comment, but for the count:
+//     ssh-keygen -q -t rsa -N '' -C '' -f key; puttygen key -O private -o key.ppk --ppk-param version=3; head -4 key.ppk
+// MOST bytes make 65535 lines, and one byte more makes 65536:
+//     python3 -c 'from base64 import b64encode; print([-(-len(b64encode(bytes(n))) // 64) for n in (3145680, 3145681)])'
 const HEAD: &str =
     "PuTTY-User-Key-File-3: ssh-rsa\nEncryption: none\nComment: \nPublic-Lines: 65535\n";
 
@@ -118,7 +122,10 @@ fn is_not_converted(alloc: Global) -> Result<bool, Fail> {
     Ok(ended(&ran, end))
 }
 
-// The blob's name, e and the length of n take 11, 7 and 4 bytes.
+// The blob's name, e and the length of n take 22 bytes:
+//     python3 -c 'from struct import pack; print(len(pack(">I7sI3sI", 7, b"ssh-rsa", 3, b"\1\0\1", 0)))'
+// So ssh-keygen's blob of a modulus of 2048 bits, which is 257 bytes with the zero in front, has 279:
+//     ssh-keygen -q -t rsa -b 2048 -N '' -f key; cut -d' ' -f2 key.pub | base64 -d | wc -c
 #[test]
 fn converts_to_65535_lines_and_no_more(rt: HostRuntime) -> Result<(), Fail> {
     assert!(rt; is_converted(rt.alloc())?);

@@ -6,16 +6,16 @@ mod bad_lines;
 #[cfg(test)]
 mod calls;
 #[cfg(test)]
-mod listed_parts;
+mod listing;
 #[cfg(test)]
-mod merged_lines;
+mod listing_refusals;
 #[cfg(test)]
-mod refused_parts;
+mod merging;
 #[cfg(test)]
 mod row_texts;
+#[cfg(test)]
+mod run_and_status;
 #[cfg(test)]
 mod runs;
 #[cfg(test)]
 mod sealed_parts;
-#[cfg(test)]
-mod statuses;

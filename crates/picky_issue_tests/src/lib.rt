@@ -6,14 +6,14 @@ mod devices;
 #[cfg(test)]
 mod issued;
 #[cfg(test)]
-mod issuers;
+mod issuer;
 #[cfg(test)]
 mod openssh;
+#[cfg(test)]
+mod parts;
 #[cfg(test)]
 mod refused_requests;
 #[cfg(test)]
 mod runs;
-#[cfg(test)]
-mod sources;
 #[cfg(test)]
 mod zero_lines;

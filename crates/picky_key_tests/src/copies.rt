@@ -1,6 +1,6 @@
 //! A copy is made where there is memory, and is equal to its value.
 
-use crate::private_keys::private_rows;
+use crate::reading_and_writing::private_rows;
 use picky_key_rows::{unsealed, zero_key};
 use picky_key_text::Key;
 use picky_keys::{EcCurve, PublicKey, SshBasePublicKey};

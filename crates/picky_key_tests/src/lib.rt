@@ -3,20 +3,20 @@
 #![tactic(auto)]
 
 #[cfg(test)]
-mod blobs;
+mod blob;
 #[cfg(test)]
 mod copies;
 #[cfg(test)]
-mod fingerprints;
+mod fingerprint;
 #[cfg(test)]
-mod private_block_refusals;
+mod key_of_block_refusals;
 #[cfg(test)]
-mod private_key_refusals;
+mod reading_and_writing;
 #[cfg(test)]
-mod private_keys;
+mod reading_refusals;
 #[cfg(test)]
-mod private_views;
+mod sealing;
 #[cfg(test)]
-mod sealed_key_refusals;
+mod sealing_refusals;
 #[cfg(test)]
-mod sealed_keys;
+mod view;

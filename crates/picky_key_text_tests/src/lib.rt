@@ -2,9 +2,11 @@
 #![tactic(auto)]
 
 #[cfg(test)]
-mod key_texts;
+mod form_and_reading;
 #[cfg(test)]
-mod meanings;
+mod line_refusals;
+#[cfg(test)]
+mod meaning;
 #[cfg(test)]
 mod ppk_fields;
 #[cfg(test)]
@@ -12,6 +14,4 @@ mod printed_cert_errors;
 #[cfg(test)]
 mod printed_errors;
 #[cfg(test)]
-mod refused_lines;
-#[cfg(test)]
-mod target_texts;
+mod writing;

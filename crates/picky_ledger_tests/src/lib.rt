@@ -2,26 +2,26 @@
 #![tactic(auto)]
 
 #[cfg(test)]
-mod broken_texts;
+mod answer_and_status;
+#[cfg(test)]
+mod apply;
+#[cfg(test)]
+mod asked;
 #[cfg(test)]
 mod calls;
 #[cfg(test)]
 mod devices;
 #[cfg(test)]
-mod drafts;
-#[cfg(test)]
-mod ledger_texts;
+mod ledger;
 #[cfg(test)]
 mod openssh;
 #[cfg(test)]
-mod replies;
+mod reading_refusals;
 #[cfg(test)]
-mod requests;
+mod request;
+#[cfg(test)]
+mod requests_and_replies;
 #[cfg(test)]
 mod row_texts;
 #[cfg(test)]
 mod runs;
-#[cfg(test)]
-mod statuses;
-#[cfg(test)]
-mod talks;

@@ -1,6 +1,6 @@
 //! Certificates of `ssh-keygen`: with their nonces and signatures the same are issued, and kept.
 
-use crate::ledger_texts::ledger_of;
+use crate::ledger::ledger_of;
 use picky_cert::{SshCertificate, SshSignatureBlob};
 use picky_keys::SshPublicKey;
 use picky_ledger::{Entry, Ledger, LedgerError, Reply};

@@ -4,13 +4,13 @@
 #[cfg(test)]
 mod calls;
 #[cfg(test)]
-mod critical_options;
-#[cfg(test)]
-mod deciding_lines;
-#[cfg(test)]
 mod decisions;
 #[cfg(test)]
-mod offers;
+mod demands;
+#[cfg(test)]
+mod key_line;
+#[cfg(test)]
+mod offer;
 #[cfg(test)]
 mod openssh;
 #[cfg(test)]
@@ -20,9 +20,9 @@ mod row_texts;
 #[cfg(test)]
 mod rules;
 #[cfg(test)]
-mod runs;
+mod run_and_status;
 #[cfg(test)]
-mod statuses;
+mod runs;
 #[cfg(test)]
 mod terms;
 #[cfg(test)]

@@ -5,30 +5,30 @@
 #[cfg(test)]
 mod answers;
 #[cfg(test)]
-mod ppk_comments;
+mod changing_comments;
 #[cfg(test)]
-mod ppk_files;
+mod openssh_refusals;
 #[cfg(test)]
-mod ppk_key_refusals;
+mod ppk;
+#[cfg(test)]
+mod ppk_and_openssh;
 #[cfg(test)]
 mod ppk_parts;
 #[cfg(test)]
-mod ppk_refusals;
-#[cfg(test)]
-mod ppk_sealed;
-#[cfg(test)]
-mod ppk_sealing_refusals;
-#[cfg(test)]
-mod ppk_secrets;
-#[cfg(test)]
-mod ppk_views;
-#[cfg(test)]
-mod ppk_wrappers;
-#[cfg(test)]
-mod putty_comments;
-#[cfg(test)]
 mod putty_public;
 #[cfg(test)]
-mod putty_refusals;
+mod putty_public_comments;
 #[cfg(test)]
-mod puttyppk_runs;
+mod putty_public_refusals;
+#[cfg(test)]
+mod reading;
+#[cfg(test)]
+mod run_and_status;
+#[cfg(test)]
+mod sealing_and_opening;
+#[cfg(test)]
+mod sealing_and_opening_refusals;
+#[cfg(test)]
+mod secret_and_for_putty;
+#[cfg(test)]
+mod wrappers;

@@ -2,7 +2,7 @@
 //! counted strings are, and what a MAC covers.
 
 use crate::answers::{gives, kept};
-use crate::ppk_sealed::is_hex;
+use crate::sealing_and_opening::is_hex;
 use picky_key_rows::{
     PPK_ROWS, PRIVATE_ROWS, PpkRow, PrivateRow, SEALED_V3, VERSIONS, text_of, unsealed,
 };

@@ -1,7 +1,7 @@
 //! PuTTY's public keys: texts of PuTTYgen, and other spellings of a key.
 
 use crate::answers::{gives, is_text, kept};
-use crate::ppk_refusals::is_named;
+use crate::reading::is_named;
 use picky_key_rows::KEY_ROWS;
 use picky_keys::{PublicKey, PublicKeyRef, SshPublicKey};
 use picky_ppk::PuttyPublicKey;

@@ -2,8 +2,8 @@
 
 use crate::fakes::Asked;
 use crate::keys::{KEY_ROWS, key_of};
+use crate::read_and_write::{is_wanted, read_value, write_value};
 use crate::wire_rows::{READ_ROWS, ReadRow, WRITE_ROWS, WriteRow};
-use crate::wire_values::{is_wanted, read_value, write_value};
 use picky_keys::{SshBasePublicKey, SshPublicKey, SshPublicKeyError};
 use picky_wire::{
     FailingCalls, IoKind, MemorySink, MemorySource, NoMemory, SliceSource, SshComplexTypeDecode,

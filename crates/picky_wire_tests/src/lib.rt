@@ -3,38 +3,38 @@
 #![tactic(auto)]
 
 #[cfg(test)]
-mod adapters;
+mod base64_text_and_rows;
 #[cfg(test)]
-mod base64_and_rows;
+mod block_and_joined;
 #[cfg(test)]
 mod failing_streams;
 #[cfg(test)]
 mod fakes;
 #[cfg(test)]
-mod fields;
+mod fields_and_pieces;
 #[cfg(test)]
 mod given;
 #[cfg(test)]
-mod issuers;
+mod hmac;
+#[cfg(test)]
+mod input_and_source_text;
 #[cfg(test)]
 mod keys;
 #[cfg(test)]
-mod lists;
+mod lists_and_elements;
 #[cfg(test)]
-mod macs;
+mod private_key;
 #[cfg(test)]
-mod ppk_blocks;
+mod read_and_write;
 #[cfg(test)]
-mod ppk_lines;
+mod reader_and_writer;
 #[cfg(test)]
-mod source_texts;
+mod std_io;
 #[cfg(test)]
 mod suites;
 #[cfg(test)]
-mod views;
+mod view;
 #[cfg(test)]
 mod wire_rows;
 #[cfg(test)]
-mod wire_values;
-#[cfg(test)]
-mod words_and_quotes;
+mod words_quotes_and_lines;

@@ -1,6 +1,6 @@
 //! The keys that a line means, part by part.
 
-use crate::key_texts::meaning_of;
+use crate::form_and_reading::meaning_of;
 use picky_key_text::{Key, Meaning};
 use picky_keys::{EcCurve, SshBasePublicKey};
 use picky_wire::{Bytes, Mpint, Text, TryClone};

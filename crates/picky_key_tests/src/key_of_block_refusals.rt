@@ -1,6 +1,6 @@
 //! Why the block of an OpenSSH private key is refused: each reason, and of two in one block the one that is tried first.
 
-use crate::private_key_refusals::{Field, MAGIC, NONE, NOTHING, is_refused, put};
+use crate::reading_refusals::{Field, MAGIC, NONE, NOTHING, is_refused, put};
 use picky_suite::MemorySuite;
 use std::alloc::Global;
 use std::mem::ManuallyDrop;

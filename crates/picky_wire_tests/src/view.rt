@@ -1,6 +1,6 @@
 //! Fields and keys, seen in a buffer at their places.
 
-use crate::fields::FIELDS;
+use crate::fields_and_pieces::FIELDS;
 use crate::keys::{KEY_ROWS, key_of};
 use picky_keys::{PublicView, SshBasePublicKey};
 use picky_wire::{Part, Stuck, mpint_at, sized_at, string_at, text_at, uint32_at, word_at};

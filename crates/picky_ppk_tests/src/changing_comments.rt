@@ -1,7 +1,7 @@
 //! Comments of PuTTY's private key files: changed as PuTTYgen does, taken along with the public key, and with CR at the end.
 
 use crate::answers::{is_text, kept, refuses};
-use crate::ppk_files::{p256_ppk, ppk_of};
+use crate::ppk_and_openssh::{p256_ppk, ppk_of};
 use picky_key_rows::{ENDS_IN_CR, P256_BODY, PUBLIC, text_with_macs};
 use picky_ppk::{Ppk, PpkVersion, PuttyError};
 use picky_suite::PlainSuite;

@@ -2,7 +2,7 @@
 //! first byte of 128 or more, and as the 32 bytes that PuTTY writes.
 
 use crate::answers::{is_text, kept, refuses};
-use crate::ppk_files::{gives_back, is_kept, is_made_in, is_written_in, ppk_of};
+use crate::ppk_and_openssh::{gives_back, is_kept, is_made_in, is_written_in, ppk_of};
 use picky_key_rows::{
     HIGH, LOW, PPK_ROWS, PpkRow, SEALED_V2, SEALED_V3, SECRET_ROWS, SecretRow, VERSIONS, ZERO_TEXT,
     ZEROS, secret_text_of, text_of,

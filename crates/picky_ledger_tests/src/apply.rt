@@ -1,6 +1,6 @@
 //! What a ledger replies to one request, and what it is then.
 
-use crate::ledger_texts::{is_written, ledger_of};
+use crate::ledger::{is_written, ledger_of};
 use crate::row_texts::row_text;
 use crate::runs::zero_signer;
 use picky_keys::SshPublicKey;

@@ -18,7 +18,7 @@ struct RefusedRow {
 }
 
 // RFC 4251, section 5, has strings, and RFC 8709, section 4, the 32 bytes. printf of a blob of
-// picky_key_tests::blobs, or of another cut by hand, | base64 -w0.
+// picky_key_tests::blob, or of another cut by hand, | base64 -w0.
 static REFUSED_LINES: [RefusedRow; 17] = [
     RefusedRow {
         name: "no text",

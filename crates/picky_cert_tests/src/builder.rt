@@ -1,7 +1,7 @@
 //! Certificates that are issued: those of `ssh-keygen` made again from what they say, and a device that fails.
 
 use crate::answers::{ends_in, gives};
-use crate::cert_fields::{blob_of, cert_of};
+use crate::certificate_and_view::{blob_of, cert_of};
 use picky_cert::{
     SshCertKeyType, SshCertType, SshCertificate, SshSignature, SshSignatureBlob, SshSignatureFormat,
 };

@@ -1,7 +1,7 @@
 //! What is seen of a PuTTY private key file that isn't sealed: its fields, its public key, copies, and which are equal.
 
 use crate::answers::{gives, kept};
-use crate::ppk_files::{p256_ppk, ppk_of, row_ppk};
+use crate::ppk_and_openssh::{p256_ppk, ppk_of, row_ppk};
 use crate::putty_public::shown;
 use picky_key_rows::{PPK_ROWS, PRIVATE_ROWS, PpkRow, SEALED_V3, VERSIONS};
 use picky_keys::SshPublicKey;

@@ -1,6 +1,6 @@
 //! OpenSSH private keys without a passphrase: texts of other programs, read and written.
 
-use crate::blobs::key_of;
+use crate::blob::key_of;
 use picky_key_rows::{PRIVATE_ROWS, PrivateRow, V2, ZERO_KEY, unsealed, zero_key};
 use picky_keys::PrivateKey;
 use picky_sshkey::{Kdf, KdfOption, PrivateKeyRef, SshPrivateKey, parse_pem};

@@ -1,7 +1,7 @@
 //! Sealed PuTTY private key files: PuTTYgen's, read and written, and those of the suite for tests, whose cipher is a toy.
 
 use crate::answers::{gives, is_text, kept};
-use crate::ppk_files::{is_kept, p256_ppk, ppk_of, row_ppk};
+use crate::ppk_and_openssh::{is_kept, p256_ppk, ppk_of, row_ppk};
 use picky_key_rows::{
     CONFIG, PASS, PPK_ROWS, PpkRow, SEALED_V2, SEALED_V3, TOY_V2, TOY_V3, hex_of,
 };

@@ -1,6 +1,6 @@
 //! Certificates in other spellings, and what is written for them.
 
-use crate::cert_fields::{blob_of, cert_of, prints};
+use crate::certificate_and_view::{blob_of, cert_of, prints};
 use picky_cert::CertView;
 use picky_wire::Bytes;
 use std::alloc::Global;

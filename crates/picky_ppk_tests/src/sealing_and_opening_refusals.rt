@@ -2,9 +2,9 @@
 //! is tried first, and whether the suite was asked.
 
 use crate::answers::{kept, refuses};
-use crate::ppk_files::{p256_ppk, ppk_of};
-use crate::ppk_refusals::is_named;
-use crate::ppk_sealed::{PADDING, SALT};
+use crate::ppk_and_openssh::{p256_ppk, ppk_of};
+use crate::reading::is_named;
+use crate::sealing_and_opening::{PADDING, SALT};
 use picky_key_rows::{CONFIG, PASS, SEALED_V2, SEALED_V3, TOY_V2, TOY_V3};
 use picky_ppk::{Ppk, PpkEncryptionConfig, PpkVersion, PuttyError};
 use picky_suite::{MemorySuite, PlainSuite};

@@ -1,7 +1,7 @@
 //! Why PuTTY's private key files and the keys in them are refused: of two faults in one text the one that is tried first.
 
 use crate::answers::{gives, kept};
-use crate::ppk_files::ppk_of;
+use crate::ppk_and_openssh::ppk_of;
 use picky_key_rows::ZERO_TEXT;
 use picky_ppk::PuttyError;
 use std::alloc::{AllocError, Global};

@@ -1,7 +1,7 @@
 //! Why a certificate is refused: each reason, and the part at which its bytes are stuck.
 
-use crate::cert_conversions::converted;
-use crate::cert_fields::blob_of;
+use crate::certificate_and_view::blob_of;
+use crate::conversion::converted;
 use picky_cert::{CertPart, CertView, SshCertificate, SshCertificateError};
 use picky_cert_rows::{CertFault, FAULTS, ZERO_LINE};
 use picky_key_text::ReadError;

@@ -11,17 +11,18 @@ use std::alloc::Global;
 use std::mem::ManuallyDrop;
 use std::test::Fail;
 
+// date -u -d 2026-12-01 +%s; and of the day before, which is less: date -u -d 2026-11-30 +%s
 #[test]
 fn lists_keep_their_order(rt: HostRuntime) -> Result<(), Fail> {
     let alloc = rt.alloc();
-    let moment = Timestamp::from(258).try_clone(alloc)?;
-    assert!(rt; moment.secs() == 258);
-    assert!(rt; Timestamp(257) < moment);
+    let moment = Timestamp::from(1796083200).try_clone(alloc)?;
+    assert!(rt; moment.secs() == 1796083200);
+    assert!(rt; Timestamp(1795996800) < moment);
     let mut moments = List::new(alloc);
     assert!(rt; moments.push(moment).is_ok());
     let copy = List::from_vec(moments.try_clone(alloc)?.into_vec());
     assert!(rt; copy == moments);
-    assert!(rt; copy.as_slice() == [Timestamp(258)].as_slice());
+    assert!(rt; copy.as_slice() == [Timestamp(1796083200)].as_slice());
     Ok(())
 }
 
@@ -45,6 +46,8 @@ fn is_read_back<T: SshElement + PartialEq>(
     }
 }
 
+// The bytes of a uint64 and of a string (RFC 4251, section 5):
+//     python3 -c 'from struct import pack; print(len(pack(">Q", 258)), len(pack(">I2s", 2, b"ab")))'
 #[test]
 fn elements_are_read_back(rt: HostRuntime) -> Result<(), Fail> {
     let alloc = rt.alloc();

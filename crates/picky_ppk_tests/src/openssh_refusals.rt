@@ -2,8 +2,8 @@
 //! first.
 
 use crate::answers::kept;
-use crate::ppk_files::{made_of, ppk_of};
-use crate::ppk_refusals::is_named;
+use crate::ppk_and_openssh::{made_of, ppk_of};
+use crate::reading::is_named;
 use picky_key_rows::{PRIVATE_ROWS, unsealed};
 use picky_ppk::Ppk;
 use std::alloc::{AllocError, Global};

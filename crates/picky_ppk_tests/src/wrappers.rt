@@ -1,7 +1,7 @@
 //! PuTTY's keys without a file: made of OpenSSH's keys, with the parts of PuTTYgen's files, and back.
 
 use crate::answers::{gives, kept};
-use crate::ppk_files::{is_of_key, is_same_key, row_ppk};
+use crate::ppk_and_openssh::{is_of_key, is_same_key, row_ppk};
 use crate::putty_public::shown;
 use picky_key_rows::{PPK_ROWS, PRIVATE_ROWS, PpkRow, PrivateRow, unsealed};
 use picky_keys::SshPublicKey;

@@ -1,6 +1,6 @@
 //! Why a sealed OpenSSH private key isn't opened: each reason, and of two in one envelope the one that is tried first.
 
-use crate::private_key_refusals::{Field, MAGIC, NOTHING, is_refused};
+use crate::reading_refusals::{Field, MAGIC, NOTHING, is_refused};
 use picky_suite::MemorySuite;
 use std::alloc::Global;
 use std::mem::ManuallyDrop;
@@ -26,7 +26,7 @@ const NO_ROUNDS: &[u8] = b"\0\0\0\x04salt\0\0\0\0";
 
 // The order is: the cipher, the derivation, the passphrase, what is derived, whole blocks of cbc, the suite, the block.
 //
-// Of the last row, with s, n32 and sha512 as in crate::sealed_keys:
+// Of the last row, with s, n32 and sha512 as in crate::sealing:
 // d = b"".join(sha512(s(b"pass") + s(b"salt") + n32(16) + bytes([i])).digest() for i in (0, 1))
 // print(*(int.from_bytes(d[i:i + 4], "big") ^ int.from_bytes(d[i + 32:i + 36], "big") for i in (0, 4)))
 static SEALED_ROWS: [SealedRow; 12] = [

@@ -1,7 +1,7 @@
 //! Runs of puttyppk over streams in memory: how they end, and what devices that fail make of them.
 
 use crate::answers::kept;
-use crate::ppk_secrets::OTHER_SPELLINGS;
+use crate::secret_and_for_putty::OTHER_SPELLINGS;
 use picky_key_rows::{SEALED_V3, ZERO_TEXT, secret_text_of};
 use picky_ppk::{PpkVersion, PuttyError};
 use picky_puttyppk::{PuttyPpkStatus, run_puttyppk};

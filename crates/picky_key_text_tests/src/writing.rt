@@ -1,6 +1,6 @@
 //! Keys and comments written for each target: the texts of other programs, those of the suite for tests, and refusals.
 
-use crate::key_texts::{ed_meaning, meaning_of, means, opened};
+use crate::form_and_reading::{ed_meaning, meaning_of, means, opened};
 use picky_key_rows::{
     CONFIG, PASS, PPK_ROWS, PRIVATE_ROWS, PUBLIC, PpkRow, PrivateRow, SECRET_ROWS, TOY_V2, TOY_V3,
     VERSIONS, ZERO_KEY, ZERO_TEXT, secret_text_of as zero_text_of, text_of,

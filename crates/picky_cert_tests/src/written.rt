@@ -1,8 +1,8 @@
 //! How a certificate is written and read under other fields.
 
 use crate::answers::gives;
-use crate::cert_fields::{blob_of, cert_of, prints};
 use crate::cert_parts::extension_of;
+use crate::certificate_and_view::{blob_of, cert_of, prints};
 use picky_cert::{CertView, SshCertType, SshCertificate, SshExtension};
 use picky_cert_rows::ZERO_LINE;
 use picky_wire::{List, Text};
