@@ -23,5 +23,5 @@ pub use picky_cert_parts::{
     SshExtensionError, SshExtensionType, SshSignature, SshSignatureBlob, SshSignatureError,
     SshSignatureFormat, names,
 };
-pub use ranges::certificate_keeps_its_ranges;
+pub use ranges::{certificate_keeps_its_ranges, items_keep_their_ranges};
 pub use view::CertView;

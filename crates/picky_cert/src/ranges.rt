@@ -96,11 +96,11 @@ fn list_keeps<T: SshComplexTypeEncode>(list: &List<T>) -> bool
     ensures always { result ≡ true }
     ensures keeps { All T.keeps list.now }
 {
-    items_keep(list.as_slice())
+    items_keep_their_ranges(list.as_slice())
 }
 
-/// Whether the items of a slice do: always.
-fn items_keep<T: SshComplexTypeEncode>(items: &[T]) -> bool
+/// Answers whether each item of a slice keeps what its type says: always. Only a `prove!` asks it, which is to run nothing of it.
+pub fn items_keep_their_ranges<T: SshComplexTypeEncode>(items: &[T]) -> bool
     ensures always { result ≡ true }
     ensures keeps { All T.keeps items.now }
 {

@@ -50,33 +50,29 @@ pub fn convert<S: Suite, G: Signer>(
     pass_out: Option<&str>,
     fresh: &[u8],
 ) -> Result<Text, ConvertError>
-    ensures gives { AnswersMade (G.signs signer.old) (λ text. text)
-        (converted (outside_of (S.meanings suite.old) pass_in.entry pass_out.entry fresh.now) (way_to target) input.now)
-        (λ e. IsFaultTo (outside_of (S.meanings suite.old) pass_in.entry pass_out.entry fresh.now) (way_to target) input.now e (Rose (S.faults suite.old) (S.faults suite.new)))
+    ensures gives { let o = outside_of (S.meanings suite.old) pass_in.entry pass_out.entry fresh.now in
+        AnswersMade (G.signs signer.old) (λ text. text) (converted o (way_to target) input.now)
+        (λ e. IsFaultTo o (way_to target) input.now e (Rose (S.faults suite.old) (S.faults suite.new)))
         (Rose (G.faults signer.old) (G.faults signer.new)) result }
-    ensures suite { LeavesAskedSuite S.meanings S.faults
-        (asks_to (outside_of (S.meanings suite.old) pass_in.entry pass_out.entry fresh.now) (way_to target) input.now)
-        result suite.old suite.new }
-    ensures signer { LeavesAskedSigner G.signs G.faults
-        (is_signed (converted (outside_of (S.meanings suite.old) pass_in.entry pass_out.entry fresh.now) (way_to target) input.now))
-        result signer.old signer.new }
+    ensures suite { let o = outside_of (S.meanings suite.old) pass_in.entry pass_out.entry fresh.now in
+        LeavesAskedSuite S.meanings S.faults (asks_to o (way_to target) input.now) result suite.old suite.new }
+    ensures signer { let o = outside_of (S.meanings suite.old) pass_in.entry pass_out.entry fresh.now in
+        LeavesAskedSigner G.signs G.faults (is_signed (converted o (way_to target) input.now)) result signer.old signer.new }
 
     // A text is of the one meaning, and is read back; and where no device signs it, it is the one spelling.
-    ensures converts { IfOk result (λ text. IsConverted (G.signs signer.old)
-        (outside_of (S.meanings suite.old) pass_in.entry pass_out.entry fresh.now) (way_to target) input.now text) }
+    ensures converts { let o = outside_of (S.meanings suite.old) pass_in.entry pass_out.entry fresh.now in
+        IfOk result (λ text. IsConverted (G.signs signer.old) o (way_to target) input.now text) }
 
     // It equals another conversion's text exactly where the target keeps the same of both.
-    ensures binds { IfOk result (BindsTo
-        (outside_of (S.meanings suite.old) pass_in.entry pass_out.entry fresh.now) (way_to target) input.now) }
+    ensures binds { let o = outside_of (S.meanings suite.old) pass_in.entry pass_out.entry fresh.now in
+        IfOk result (BindsTo o (way_to target) input.now) }
 
     // What has a text for the target is answered so.
-    ensures complete { (meaning : Meant)
-        → Reads (reader (outside_of (S.meanings suite.old) pass_in.entry pass_out.entry fresh.now)) input.now meaning
-        → CanConvert (outside_of (S.meanings suite.old) pass_in.entry pass_out.entry fresh.now) (way_to target) meaning
+    ensures complete { let o = outside_of (S.meanings suite.old) pass_in.entry pass_out.entry fresh.now in
+        (meaning : Meant) → Reads (reader o) input.now meaning → CanConvert o (way_to target) meaning
         → IsOk result ⊎ (result ≡ Err ConvertError.NoMemory) ⊎ ((e : ConvertError) × (result ≡ Err e)
-        × (IsFaultTo (outside_of (S.meanings suite.old) pass_in.entry pass_out.entry fresh.now) (way_to target) input.now e (Rose (S.faults suite.old) (S.faults suite.new))
-        ⊎ IsLeft (G.signs signer.old) (converted (outside_of (S.meanings suite.old) pass_in.entry pass_out.entry fresh.now) (way_to target) input.now)
-        (Rose (G.faults signer.old) (G.faults signer.new)) e)) }
+        × (IsFaultTo o (way_to target) input.now e (Rose (S.faults suite.old) (S.faults suite.new))
+        ⊎ IsLeft (G.signs signer.old) (converted o (way_to target) input.now) (Rose (G.faults signer.old) (G.faults signer.new)) e)) }
 {
     is_given(pass_in, pass_out, fresh);
     is_target(&target);

@@ -41,19 +41,19 @@ pub fn run<S: Suite, G: Signer, I: Source, O: Sink, E: Sink>(
     err: &mut E,
 ) -> Status
     // What Done means.
-    ensures done { (c : Command) → Names words.now c → result ≡ Status.Done → I.tells source.old → O.tells out.old
-        → WritesAnswer (G.signs signer.old) (outside_of (S.meanings suite.old) pass_in.entry pass_out.entry fresh.now) c
-        (input_for c (I.left source.old)) (O.written out.old) (O.written out.new) }
+    ensures done { let o = outside_of (S.meanings suite.old) pass_in.entry pass_out.entry fresh.now in
+        (c : Command) → Names words.now c → result ≡ Status.Done → I.tells source.old → O.tells out.old
+        → WritesAnswer (G.signs signer.old) o c (input_for c (I.left source.old)) (O.written out.old) (O.written out.new) }
 
     // What each status says: of the bytes that the source tells, and of some, whether or not it tells them.
-    ensures ends { (c : Command) → Names words.now c → I.tells source.old
-        → Ends (G.signs signer.old) (outside_of (S.meanings suite.old) pass_in.entry pass_out.entry fresh.now) c
-        (input_for c (I.left source.old)) (O.tells out.old)
+    ensures ends { let o = outside_of (S.meanings suite.old) pass_in.entry pass_out.entry fresh.now in
+        (c : Command) → Names words.now c → I.tells source.old
+        → Ends (G.signs signer.old) o c (input_for c (I.left source.old)) (O.tells out.old)
         (moment (O.written out.old) (I.faults source.old) (O.faults out.old) (S.faults suite.old) (G.faults signer.old))
         (moment (O.written out.new) (I.faults source.new) (O.faults out.new) (S.faults suite.new) (G.faults signer.new)) result }
-    ensures ends_for_some { (c : Command) → Names words.now c → (left : List ℕ)
-        × Ends (G.signs signer.old) (outside_of (S.meanings suite.old) pass_in.entry pass_out.entry fresh.now) c
-        (input_for c left) (O.tells out.old)
+    ensures ends_for_some { let o = outside_of (S.meanings suite.old) pass_in.entry pass_out.entry fresh.now in
+        (c : Command) → Names words.now c → (left : List ℕ)
+        × Ends (G.signs signer.old) o c (input_for c left) (O.tells out.old)
         (moment (O.written out.old) (I.faults source.old) (O.faults out.old) (S.faults suite.old) (G.faults signer.old))
         (moment (O.written out.new) (I.faults source.new) (O.faults out.new) (S.faults suite.new) (G.faults signer.new)) result }
     ensures usage { ((c : Command) → Names words.now c → ⊥) → (result ≡ Status.Usage) ⊎ (result ≡ Status.NoMemory) }
