@@ -1,6 +1,6 @@
 //! A file as it is sealed, while its private bytes are still open.
 
-ghost use Rattle.std.specs.Prelude.{◌≡◌, ◌<◌, ◌^◌, ◌+◌, ◌++◌, true, [], length, IfOk};
+ghost use Rattle.std.specs.Prelude.{◌≡◌, ◌++◌, true, length, IfOk};
 ghost use Rattle.picky_kv.specs.declared.PpkVersionKey.TheVariants.{V3};
 ghost use Rattle.picky_keys.specs.LineRefusal.{is_short};
 ghost use Rattle.picky_ppk_file.specs.File.{version_of};
@@ -8,39 +8,51 @@ ghost use Rattle.picky_ppk.specs.Sealed.{file_to_seal, sealing_under as sealing_
 
 use picky_ppk_file::{PpkFile, PpkSealing};
 use picky_ppk_parts::{Argon2Params, PpkEncryptionConfig, PpkVersion};
-use picky_wire::{Bytes, NoMemory, TryClone, both};
-use std::alloc::{AllocError, Global};
+use picky_wire::{Bytes, NoMemory};
+use std::alloc::Global;
 
-/// The file as `Ppk::encrypt` seals it, with its private bytes and padding still open, and no MAC. Refuses: `NoMemory`.
+/// The file as `Ppk::into_encrypted` seals it, with its private bytes and padding still open, and the MAC that it had.
+/// Refuses: `NoMemory`.
 pub fn file_draft(
     alloc: Global,
-    file: &PpkFile,
+    file: PpkFile,
     config: PpkEncryptionConfig,
     salt: &[u8],
     padding: &[u8],
 ) -> Result<PpkFile, NoMemory>
-    requires salt { version_of file.now.sealing ≡ V3 → length salt.now ≡ config.argon2_salt_size }
-    requires short { is_short (file.now.private_bytes ++ padding.now) ≡ true }
-    ensures { IfOk result (λ draft. draft ≡ record (file_to_seal config salt.now padding.now file.now) { mac = [] }) }
+    requires salt { version_of file.sealing ≡ V3 → length salt.now ≡ config.argon2_salt_size }
+    requires short { is_short (file.private_bytes ++ padding.now) ≡ true }
+    ensures { IfOk result (λ draft. draft ≡ file_to_seal config salt.now padding.now file) }
 {
-    let sealing = sealing_under(alloc, file.sealing.version(), config, salt);
-    let texts = both(
-        file.comment.try_clone(alloc),
-        file.public_key.try_clone(alloc),
-    );
-    let private_bytes = joined(alloc, file.private_bytes.as_slice(), padding);
-    let ((sealing, (comment, public_key)), private_bytes) = both(
-        both(sealing, texts),
-        private_bytes,
-    )?;
-    Ok(PpkFile {
-        sealing,
-        algorithm: file.algorithm,
+    let sealing = match sealing_under(alloc, file.sealing.version(), config, salt) {
+        Ok(sealing) => sealing,
+        Err(NoMemory) => {
+            drop(file);
+            return Err(NoMemory);
+        }
+    };
+    let PpkFile {
+        algorithm,
         comment,
         public_key,
         private_bytes,
-        mac: Bytes::from_vec(Vec::new(alloc)),
-    })
+        mac,
+        ..
+    } = file;
+    match padded(private_bytes, padding) {
+        Ok(private_bytes) => Ok(PpkFile {
+            sealing,
+            algorithm,
+            comment,
+            public_key,
+            private_bytes,
+            mac,
+        }),
+        Err(NoMemory) => {
+            drop(sealing);
+            Err(NoMemory)
+        }
+    }
 }
 
 /// What seals a file.
@@ -68,23 +80,14 @@ fn sealing_under(
     }
 }
 
-/// The front and then the back. Refuses: `NoMemory`.
-pub fn joined(alloc: Global, front: &[u8], back: &[u8]) -> Result<Bytes, NoMemory>
-    requires { is_short (front.now ++ back.now) ≡ true }
-    ensures { IfOk result (λ bytes. bytes ≡ front.now ++ back.now) }
+/// The bytes with the padding behind them. Refuses: `NoMemory`.
+fn padded(bytes: Bytes, padding: &[u8]) -> Result<Bytes, NoMemory>
+    requires { is_short (bytes ++ padding.now) ≡ true }
+    ensures { IfOk result (λ padded. padded ≡ bytes ++ padding.now) }
 {
-    match joined_bytes(alloc, front, back) {
-        Ok(bytes) => Ok(Bytes::from_vec(bytes)),
+    let mut bytes = bytes.into_vec();
+    match bytes.extend_from_slice(padding) {
+        Ok(()) => Ok(Bytes::from_vec(bytes)),
         Err(_) => Err(NoMemory),
     }
-}
-
-fn joined_bytes(alloc: Global, front: &[u8], back: &[u8]) -> Result<Vec<u8>, AllocError>
-    requires { length front.now + length back.now < 2 ^ 32 }
-    ensures { IfOk result (λ bytes. bytes.items ≡ front.now ++ back.now) }
-{
-    let mut bytes = Vec::with_capacity(alloc, front.len() + back.len())?;
-    bytes.extend_from_slice(front)?;
-    bytes.extend_from_slice(back)?;
-    Ok(bytes)
 }

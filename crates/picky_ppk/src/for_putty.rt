@@ -1,6 +1,7 @@
 //! A file as PuTTY's own programs read and write it.
 
-ghost use Rattle.std.specs.Prelude.{◌≡◌, IfOk};
+ghost use Rattle.std.specs.Prelude.{◌≡◌, ◌<◌, ◌^◌, ◌+◌, ◌++◌, true, length, IfOk};
+ghost use Rattle.picky_keys.specs.LineRefusal.{is_short};
 ghost use Rattle.picky_wire_base.specs.Gives.{Gives};
 ghost use Rattle.picky_wire_base.specs.Wire.{string_of};
 ghost use Rattle.picky_ppk.specs.Mac.{CarriesMac};
@@ -9,14 +10,13 @@ ghost use Rattle.picky_ppk.specs.ForPutty.{HasPuttySecret, for_putty as for_putt
 ghost use Rattle.picky_ppk.specs.ForPutty.{putty_fields, with_putty_secret as with_putty_secret_of};
 
 use crate::changing::remade;
-use crate::draft::joined;
 use crate::ppk::Ppk;
 use picky_ppk_file::PpkFile;
 use picky_ppk_parts::{PpkKeyAlgorithm, PuttyError};
 use picky_sshkey::SshBasePrivateKey;
 use picky_suite::Suite;
 use picky_wire::{Bytes, NoMemory, TryClone, both};
-use std::alloc::Global;
+use std::alloc::{AllocError, Global};
 use std::mem::replace;
 
 impl Ppk {
@@ -116,4 +116,25 @@ fn secret_string(alloc: Global, secret: &[u8; 32]) -> Result<Bytes, NoMemory>
     ensures { IfOk result (λ bytes. bytes ≡ string_of secret.now) }
 {
     joined(alloc, &32u32.to_be_bytes(), secret)
+}
+
+/// The front and then the back. Refuses: `NoMemory`.
+fn joined(alloc: Global, front: &[u8], back: &[u8]) -> Result<Bytes, NoMemory>
+    requires { is_short (front.now ++ back.now) ≡ true }
+    ensures { IfOk result (λ bytes. bytes ≡ front.now ++ back.now) }
+{
+    match joined_bytes(alloc, front, back) {
+        Ok(bytes) => Ok(Bytes::from_vec(bytes)),
+        Err(_) => Err(NoMemory),
+    }
+}
+
+fn joined_bytes(alloc: Global, front: &[u8], back: &[u8]) -> Result<Vec<u8>, AllocError>
+    requires { length front.now + length back.now < 2 ^ 32 }
+    ensures { IfOk result (λ bytes. bytes.items ≡ front.now ++ back.now) }
+{
+    let mut bytes = Vec::with_capacity(alloc, front.len() + back.len())?;
+    bytes.extend_from_slice(front)?;
+    bytes.extend_from_slice(back)?;
+    Ok(bytes)
 }

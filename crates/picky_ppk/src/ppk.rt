@@ -121,6 +121,13 @@ impl Ppk {
     {
         &self.file
     }
+
+    /// The file's fields, without a copy.
+    pub(crate) fn into_file(self) -> PpkFile
+        ensures { result ≡ self }
+    {
+        self.file
+    }
 }
 
 impl TryClone for Ppk {

@@ -21,7 +21,7 @@ use picky_ppk_file::PpkFile;
 use picky_ppk_parts::aes::encrypt;
 use picky_ppk_parts::{PpkEncryptionConfig, PpkVersion, PuttyError};
 use picky_suite::{Suite, argon2_ok};
-use picky_wire::{Bytes, MAX_LEN, NoMemory};
+use picky_wire::{Bytes, MAX_LEN, NoMemory, TryClone};
 use rand_core::Rng;
 use std::alloc::Global;
 
@@ -53,10 +53,44 @@ impl Ppk {
     {
         match sealable(self.file(), passphrase, config, salt, padding) {
             Ok(()) => {
-                let draft = file_draft(alloc, self.file(), config, salt, padding)?;
+                let file = self.file().try_clone(alloc)?;
+                let draft = file_draft(alloc, file, config, salt, padding)?;
                 sealed(alloc, suite, draft, passphrase)
             }
             Err(e) => Err(e),
+        }
+    }
+
+    /// The same of a file that is moved: its comment and blob aren't copied. Refuses as `encrypt`.
+    #[tactic(auto, unfolding(crate::specs::Sealed::encrypted))]
+    pub fn into_encrypted<S: Suite>(
+        self,
+        alloc: Global,
+        suite: &mut S,
+        passphrase: &str,
+        config: PpkEncryptionConfig,
+        salt: &[u8],
+        padding: &[u8],
+    ) -> Result<Ppk, PuttyError>
+        requires padding { length padding.now ≡ padding_len self }
+        requires salt { version_of self.sealing ≡ V3 → length salt.now ≡ config.argon2_salt_size }
+        ensures gives { GivesAsked PuttyError.NoMemory PuttyError.SuiteFault (λ ppk. ppk) result
+            (encrypted (S.meanings suite.old) passphrase.now config salt.now padding.now self)
+            (is_sealable passphrase.now self (file_to_seal config salt.now padding.now self))
+            (Rose (S.faults suite.old) (S.faults suite.new)) }
+        ensures suite { LeavesSuite S.meanings S.faults PuttyError.SuiteFault
+            (is_sealable passphrase.now self (file_to_seal config salt.now padding.now self)) result
+            suite.old suite.new }
+    {
+        match sealable(self.file(), passphrase, config, salt, padding) {
+            Ok(()) => {
+                let draft = file_draft(alloc, self.into_file(), config, salt, padding)?;
+                sealed(alloc, suite, draft, passphrase)
+            }
+            Err(e) => {
+                drop(self);
+                Err(e)
+            }
         }
     }
 
