@@ -1,4 +1,4 @@
-//! The fields of a certificate, copied from what is asked for, with a default where nothing is.
+//! The fields of a certificate, moved from what is asked for, with a default where nothing is.
 
 ghost use Rattle.std.specs.Prelude.{◌≡◌, IfOk};
 ghost use Rattle.picky_cert_parts.specs.ExtensionType.{extension_name};
@@ -10,7 +10,7 @@ use crate::builder::SshCertificateBuilder;
 use crate::permits::default_permits;
 use crate::sort::{Named, sorted_by_name};
 use picky_cert_parts::{SshCertType, SshCriticalOption, SshExtension};
-use picky_wire::{List, NoMemory, Text, TryClone};
+use picky_wire::{List, NoMemory, Text, both};
 use std::alloc::Global;
 
 /// The number, or 0.
@@ -23,26 +23,23 @@ pub fn or_zero(number: Option<u64>) -> u64
     }
 }
 
-/// A copy of the text, or the empty one. Refuses: `NoMemory`.
-pub fn text_or_empty(alloc: Global, text: &Option<Text>) -> Result<Text, NoMemory>
-    ensures { IfOk result (λ copy. copy ≡ or_empty text.now) }
+/// The text, or the empty one.
+fn text_or_empty(alloc: Global, text: Option<Text>) -> Text
+    ensures { result ≡ or_empty text }
 {
     match text {
-        Some(text) => text.try_clone(alloc),
-        None => Ok(Text::from_string(String::new(alloc))),
+        Some(text) => text,
+        None => Text::from_string(String::new(alloc)),
     }
 }
 
-/// A copy of the list, or the empty one. Refuses: `NoMemory`.
-fn list_or_empty<T: TryClone + Drop>(
-    alloc: Global,
-    list: &Option<List<T>>,
-) -> Result<List<T>, NoMemory>
-    ensures { IfOk result (λ copy. copy ≡ or_empty list.now) }
+/// The list, or the empty one.
+fn list_or_empty<T>(alloc: Global, list: Option<List<T>>) -> List<T>
+    ensures { result ≡ or_empty list }
 {
     match list {
-        Some(list) => list.try_clone(alloc),
-        None => Ok(List::new(alloc)),
+        Some(list) => list,
+        None => List::new(alloc),
     }
 }
 
@@ -66,46 +63,76 @@ impl Named for SshExtension {
     }
 }
 
-/// The principals, and the critical options and the extensions by name. Refuses: `NoMemory`.
-pub fn grants(
+/// The key id, the principals, the critical options and the extensions by name, and the comment; what else is there is dropped.
+///
+/// Refuses: `NoMemory`.
+pub fn fields(
     alloc: Global,
-    builder: &SshCertificateBuilder,
+    builder: SshCertificateBuilder,
     cert_type: SshCertType,
-) -> Result<(List<Text>, List<SshCriticalOption>, List<SshExtension>), NoMemory>
-    ensures { IfOk result (λ grants. grants ≡ (
-      or_empty builder.now.valid_principals,
-      by_name (λ o. option_name o.option_type) (or_empty builder.now.critical_options),
-      by_name (λ x. extension_name x.extension_type) (or_permits cert_type (or_empty builder.now.extensions)),
+) -> Result<
+    (
+        Text,
+        List<Text>,
+        List<SshCriticalOption>,
+        List<SshExtension>,
+        Text,
+    ),
+    NoMemory,
+>
+    ensures { IfOk result (λ fields. fields ≡ (
+      or_empty builder.key_id,
+      or_empty builder.valid_principals,
+      by_name (λ o. option_name o.option_type) (or_empty builder.critical_options),
+      by_name (λ x. extension_name x.extension_type) (or_permits cert_type (or_empty builder.extensions)),
+      or_empty builder.comment,
     )) }
 {
-    let valid_principals = list_or_empty(alloc, &builder.valid_principals)?;
-    let critical_options = options_by_name(alloc, &builder.critical_options)?;
-    let extensions = extensions_by_name(alloc, cert_type, &builder.extensions)?;
-    Ok((valid_principals, critical_options, extensions))
+    let SshCertificateBuilder {
+        public_key,
+        key_id,
+        valid_principals,
+        critical_options,
+        extensions,
+        issuer,
+        comment,
+        ..
+    } = builder;
+    drop(public_key);
+    drop(issuer);
+    let options = sorted_by_name(list_or_empty(alloc, critical_options));
+    match both(options, extensions_by_name(alloc, cert_type, extensions)) {
+        Ok((critical_options, extensions)) => {
+            let key_id = text_or_empty(alloc, key_id);
+            let valid_principals = list_or_empty(alloc, valid_principals);
+            let comment = text_or_empty(alloc, comment);
+            Ok((
+                key_id,
+                valid_principals,
+                critical_options,
+                extensions,
+                comment,
+            ))
+        }
+        Err(NoMemory) => {
+            drop(key_id);
+            drop(valid_principals);
+            drop(comment);
+            Err(NoMemory)
+        }
+    }
 }
 
-/// A copy of the critical options, by name. Refuses: `NoMemory`.
-fn options_by_name(
-    alloc: Global,
-    options: &Option<List<SshCriticalOption>>,
-) -> Result<List<SshCriticalOption>, NoMemory>
-    ensures { IfOk result (λ copy. copy ≡ by_name (λ o. option_name o.option_type) (or_empty options.now)) }
-{
-    let copy = list_or_empty(alloc, options)?;
-    sorted_by_name(copy)
-}
-
-/// A copy of the extensions, or the permits of a user who asks for none, by name. Refuses: `NoMemory`.
+/// The extensions, or the permits of a user who asks for none, by name. Refuses: `NoMemory`.
 fn extensions_by_name(
     alloc: Global,
     cert_type: SshCertType,
-    extensions: &Option<List<SshExtension>>,
+    extensions: Option<List<SshExtension>>,
 ) -> Result<List<SshExtension>, NoMemory>
-    ensures { IfOk result (λ copy.
-        copy ≡ by_name (λ x. extension_name x.extension_type) (or_permits cert_type (or_empty extensions.now))) }
+    ensures { IfOk result (λ sorted.
+        sorted ≡ by_name (λ x. extension_name x.extension_type) (or_permits cert_type (or_empty extensions))) }
 {
-    let copy = list_or_empty(alloc, extensions)?;
-    let granted = or_default(alloc, cert_type, copy)?;
+    let granted = or_default(alloc, cert_type, list_or_empty(alloc, extensions))?;
     sorted_by_name(granted)
 }
 

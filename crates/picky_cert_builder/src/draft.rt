@@ -9,15 +9,17 @@ ghost use Rattle.picky_cert.specs.Spelled.{signed_of};
 ghost use Rattle.picky_cert_builder.specs.Draft.{certificate_of, if_short, requested};
 ghost use Rattle.picky_cert_builder.specs.Drafted.{IsWholeDraft, draft_shown};
 ghost use Rattle.picky_cert_builder.specs.Issuer.{issuer_of, issuer_part};
+ghost use Rattle.picky_cert_builder.specs.Request.{terms_of};
+ghost use Rattle.picky_cert_builder.specs.Terms.{judged_terms};
 
 use crate::builder::SshCertificateBuilder;
-use crate::defaults::{grants, or_zero, text_or_empty};
+use crate::defaults::{fields, or_zero};
 use crate::error::SshCertificateGenerationError;
 use crate::issuer::IssuerKey;
 use crate::terms::FitTerms;
 use picky_cert::{SshCertificate, SshCertificateError, SshSignature, SshSignatureBlob};
 use picky_keys::{Issuer, SignatureAlgorithm, SshBasePublicKey, SshPublicKey};
-use picky_wire::{Bytes, NoMemory, Text, TryClone};
+use picky_wire::{Bytes, NoMemory, Text, TryClone, both};
 use std::alloc::Global;
 
 /// A certificate with an empty signature, who is to sign it and by which algorithm, and the bytes that are signed.
@@ -49,8 +51,30 @@ impl CertificateDraft {
 impl SshCertificateBuilder {
     /// The certificate that is asked for, and what a device signs of it (OpenSSH's PROTOCOL.certkeys).
     ///
+    /// Each field is moved into it; of the issuer, whose public key stands in the certificate too, that is copied.
+    ///
     /// Refuses, in order: as `RequestTerms::judge`; `TooLong`, where 2^32 bytes or more would be signed.
-    #[tactic(auto, unfolding(crate::specs::Draft::requested), using(crate::proofs::FitLaws::judged_fits))]
+    #[tactic(auto, unfolding(crate::specs::Draft::requested))]
+    pub fn into_draft(
+        self,
+        alloc: Global,
+        nonce: &[u8; 32],
+    ) -> Result<CertificateDraft, SshCertificateGenerationError>
+        ensures gives { Gives SshCertificateGenerationError.NoMemory draft_shown result (requested self nonce.now) }
+        ensures whole { IfOk result IsWholeDraft }
+        ensures issuer { IfOk result (λ draft. IfSome self.issuer (λ issuer. draft.issuer ≡ issuer_of issuer)) }
+    {
+        match self.terms().judge() {
+            Ok(fit) => fit_draft(alloc, self, &fit, nonce),
+            Err(e) => {
+                drop(self);
+                Err(e)
+            }
+        }
+    }
+
+    /// The same of a copy, which is made once the terms are judged. Refuses, in order: as `into_draft`.
+    #[tactic(auto, unfolding(crate::specs::Draft::requested))]
     pub fn draft(
         &self,
         alloc: Global,
@@ -61,14 +85,42 @@ impl SshCertificateBuilder {
         ensures issuer { IfOk result (λ draft. IfSome self.now.issuer (λ issuer. draft.issuer ≡ issuer_of issuer)) }
     {
         match self.terms().judge() {
-            Ok(fit) => match &self.public_key {
-                Some(key) => match &self.issuer {
-                    Some(issuer) => certificate_draft(alloc, self, &fit, key, issuer, nonce),
-                    None => Err(SshCertificateGenerationError::MissingSignatureKey),
-                },
-                None => Err(SshCertificateGenerationError::MissingPublicKey),
-            },
+            Ok(fit) => {
+                let copy = self.try_clone(alloc)?;
+                fit_draft(alloc, copy, &fit, nonce)
+            }
             Err(e) => Err(e),
+        }
+    }
+}
+
+/// The certificate of a request whose terms are judged to be these.
+///
+/// Refuses: `TooLong`, where 2^32 bytes or more would be signed.
+#[tactic(auto, unfolding(crate::specs::Draft::requested), using(crate::proofs::FitLaws::judged_fits))]
+fn fit_draft(
+    alloc: Global,
+    mut builder: SshCertificateBuilder,
+    fit: &FitTerms,
+    nonce: &[u8; 32],
+) -> Result<CertificateDraft, SshCertificateGenerationError>
+    requires { judged_terms (terms_of builder) ≡ Ok fit.now }
+    ensures gives { Gives SshCertificateGenerationError.NoMemory draft_shown result (requested builder nonce.now) }
+    ensures whole { IfOk result IsWholeDraft }
+    ensures issuer { IfOk result (λ draft. IfSome builder.issuer (λ issuer. draft.issuer ≡ issuer_of issuer)) }
+{
+    match builder.public_key.take() {
+        Some(key) => match builder.issuer.take() {
+            Some(issuer) => certificate_draft(alloc, builder, fit, key, issuer, nonce),
+            None => {
+                drop(key);
+                drop(builder);
+                Err(SshCertificateGenerationError::MissingSignatureKey)
+            }
+        },
+        None => {
+            drop(builder);
+            Err(SshCertificateGenerationError::MissingPublicKey)
         }
     }
 }
@@ -78,20 +130,25 @@ impl SshCertificateBuilder {
 /// Refuses: `TooLong`, where 2^32 bytes or more would be signed.
 fn certificate_draft(
     alloc: Global,
-    builder: &SshCertificateBuilder,
+    builder: SshCertificateBuilder,
     fit: &FitTerms,
-    key: &SshPublicKey,
-    issuer: &IssuerKey,
+    key: SshPublicKey,
+    issuer: IssuerKey,
     nonce: &[u8; 32],
 ) -> Result<CertificateDraft, SshCertificateGenerationError>
-    requires { fits_subject fit.now.cert_key_type key.now.inner_key ≡ true }
+    requires { fits_subject fit.now.cert_key_type key.inner_key ≡ true }
     ensures gives { Gives SshCertificateGenerationError.NoMemory draft_shown result
-        (if_short (certificate_of builder.now fit.now key.now issuer.now nonce.now) fit.now.signature_algo) }
+        (if_short (certificate_of builder fit.now key issuer nonce.now) fit.now.signature_algo) }
     ensures whole { IfOk result IsWholeDraft }
-    ensures issuer { IfOk result (λ draft. draft.issuer ≡ issuer_of issuer.now) }
+    ensures issuer { IfOk result (λ draft. draft.issuer ≡ issuer_of issuer) }
 {
-    let certificate = unsigned_certificate(alloc, builder, fit, key, issuer, nonce)?;
-    draft_by(alloc, certificate, fit.signature_algo, issuer)
+    match unsigned_certificate(alloc, builder, fit, key, &issuer, nonce) {
+        Ok(certificate) => draft_by(alloc, certificate, fit.signature_algo, issuer),
+        Err(NoMemory) => {
+            drop(issuer);
+            Err(SshCertificateGenerationError::NoMemory)
+        }
+    }
 }
 
 /// The certificate, for this issuer to sign. Refuses: as `certificate_draft`.
@@ -100,42 +157,27 @@ fn draft_by(
     alloc: Global,
     certificate: SshCertificate,
     algorithm: SignatureAlgorithm,
-    issuer: &IssuerKey,
+    issuer: IssuerKey,
 ) -> Result<CertificateDraft, SshCertificateGenerationError>
     requires fits { fits_subject certificate.cert_key_type certificate.public_key.inner_key ≡ true }
-    requires issuer { certificate.signature_key.inner_key ≡ issuer_part issuer.now }
+    requires issuer { certificate.signature_key.inner_key ≡ issuer_part issuer }
     ensures gives { Gives SshCertificateGenerationError.NoMemory draft_shown result (if_short certificate algorithm) }
     ensures whole { IfOk result IsWholeDraft }
-    ensures issuer { IfOk result (λ draft. draft.issuer ≡ issuer_of issuer.now) }
+    ensures issuer { IfOk result (λ draft. draft.issuer ≡ issuer_of issuer) }
 {
-    match issuer_and_message(alloc, issuer, &certificate) {
-        Ok((issuer, message)) => Ok(CertificateDraft {
+    match message_of(alloc, &certificate) {
+        Ok(message) => Ok(CertificateDraft {
             certificate,
-            issuer,
+            issuer: issuer.into_issuer(),
             algorithm,
             message,
         }),
         Err(e) => {
             drop(certificate);
+            drop(issuer);
             Err(e)
         }
     }
-}
-
-/// Who is to sign the certificate, and the bytes that are signed. Refuses: as `certificate_draft`.
-fn issuer_and_message(
-    alloc: Global,
-    issuer: &IssuerKey,
-    certificate: &SshCertificate,
-) -> Result<(Issuer, Bytes), SshCertificateGenerationError>
-    requires { fits_subject certificate.now.cert_key_type certificate.now.public_key.inner_key ≡ true }
-    ensures { Gives SshCertificateGenerationError.NoMemory (λ made. made) result
-        (if is_short (signed_of certificate.now) then Ok (issuer_of issuer.now, signed_of certificate.now)
-        else Err SshCertificateGenerationError.TooLong) }
-{
-    let message = message_of(alloc, certificate)?;
-    let issuer = issuer.issuer_for_signer(alloc)?;
-    Ok((issuer, message))
 }
 
 /// The bytes that are signed. Refuses: as `certificate_draft`.
@@ -167,23 +209,24 @@ fn message_of(
 /// The certificate of these terms, subject and issuer, with an empty signature. Refuses: `NoMemory`.
 fn unsigned_certificate(
     alloc: Global,
-    builder: &SshCertificateBuilder,
+    builder: SshCertificateBuilder,
     fit: &FitTerms,
-    key: &SshPublicKey,
+    key: SshPublicKey,
     issuer: &IssuerKey,
     nonce: &[u8; 32],
 ) -> Result<SshCertificate, NoMemory>
-    ensures { IfOk result (λ c. c ≡ certificate_of builder.now fit.now key.now issuer.now nonce.now) }
+    ensures { IfOk result (λ c. c ≡ certificate_of builder fit.now key issuer.now nonce.now) }
 {
-    let key_id = text_or_empty(alloc, &builder.key_id)?;
-    let comment = text_or_empty(alloc, &builder.comment)?;
-    let (valid_principals, critical_options, extensions) = grants(alloc, builder, fit.cert_type)?;
-    let (nonce, inner_key, public_key) = keys(alloc, key, issuer, nonce)?;
+    let serial = or_zero(builder.serial);
+    let keys = keys(alloc, key, issuer, nonce);
+    let fields = fields(alloc, builder, fit.cert_type);
+    let ((nonce, inner_key, public_key), fields) = both(keys, fields)?;
+    let (key_id, valid_principals, critical_options, extensions, comment) = fields;
     Ok(SshCertificate {
         cert_key_type: fit.cert_key_type,
         public_key,
         nonce,
-        serial: or_zero(builder.serial),
+        serial,
         cert_type: fit.cert_type,
         key_id,
         valid_principals,
@@ -206,18 +249,16 @@ fn unsigned_certificate(
 /// The nonce, the issuer's key and the subject's. Refuses: `NoMemory`.
 fn keys(
     alloc: Global,
-    key: &SshPublicKey,
+    key: SshPublicKey,
     issuer: &IssuerKey,
     nonce: &[u8; 32],
 ) -> Result<(Bytes, SshBasePublicKey, SshPublicKey), NoMemory>
-    ensures { IfOk result (λ keys. keys ≡ (nonce.now, issuer_part issuer.now, key.now)) }
+    ensures { IfOk result (λ keys. keys ≡ (nonce.now, issuer_part issuer.now, key)) }
 {
-    let nonce = nonce_bytes(alloc, nonce)?;
-    let inner_key = issuer.public_part(alloc)?;
-    match key.try_clone(alloc) {
-        Ok(public_key) => Ok((nonce, inner_key, public_key)),
+    match both(nonce_bytes(alloc, nonce), issuer.public_part(alloc)) {
+        Ok((nonce, inner_key)) => Ok((nonce, inner_key, key)),
         Err(NoMemory) => {
-            drop(inner_key);
+            drop(key);
             Err(NoMemory)
         }
     }

@@ -42,9 +42,17 @@ impl IssuerKey {
     pub fn issuer_for_signer(&self, alloc: Global) -> Result<Issuer, NoMemory>
         ensures { IfOk result (λ issuer. issuer ≡ issuer_of self.now) }
     {
+        let key = self.try_clone(alloc)?;
+        Ok(key.into_issuer())
+    }
+
+    /// The same issuer, into which the key is moved.
+    pub fn into_issuer(self) -> Issuer
+        ensures { result ≡ issuer_of self }
+    {
         match self {
-            IssuerKey::Private(key) => private_issuer(alloc, key),
-            IssuerKey::Public(key) => public_issuer(alloc, key),
+            IssuerKey::Private(key) => issuer_from_private(key),
+            IssuerKey::Public(key) => issuer_from_public(key),
         }
     }
 }
@@ -69,6 +77,14 @@ impl TryClone for IssuerKey {
 pub fn private_issuer(alloc: Global, key: &SshBasePrivateKey) -> Result<Issuer, NoMemory>
     ensures { IfOk result (λ issuer. issuer ≡ private_issuer_of key.now) }
 {
+    let key = key.try_clone(alloc)?;
+    Ok(issuer_from_private(key))
+}
+
+/// A private key as an issuer: with its secret; a security key by its public key.
+fn issuer_from_private(key: SshBasePrivateKey) -> Issuer
+    ensures { result ≡ private_issuer_of key }
+{
     match key {
         SshBasePrivateKey::Rsa {
             n,
@@ -77,77 +93,70 @@ pub fn private_issuer(alloc: Global, key: &SshBasePrivateKey) -> Result<Issuer, 
             iqmp,
             p,
             q,
-        } => {
-            let n = n.try_clone(alloc)?;
-            let e = e.try_clone(alloc)?;
-            let d = d.try_clone(alloc)?;
-            let iqmp = iqmp.try_clone(alloc)?;
-            let p = p.try_clone(alloc)?;
-            let q = q.try_clone(alloc)?;
-            Ok(Issuer::Private(PrivateKey::Rsa {
-                n,
-                e,
-                d,
-                iqmp,
-                p,
-                q,
-            }))
-        }
+        } => Issuer::Private(PrivateKey::Rsa {
+            n,
+            e,
+            d,
+            iqmp,
+            p,
+            q,
+        }),
         SshBasePrivateKey::Ec {
             curve,
             point,
             secret,
-        } => {
-            let point = point.try_clone(alloc)?;
-            let secret = secret.try_clone(alloc)?;
-            Ok(Issuer::Private(PrivateKey::Ec {
-                curve: *curve,
-                point,
-                secret,
-            }))
+        } => Issuer::Private(PrivateKey::Ec {
+            curve,
+            point,
+            secret,
+        }),
+        SshBasePrivateKey::Ed { secret, public } => {
+            Issuer::Private(PrivateKey::Ed { secret, public })
         }
-        SshBasePrivateKey::Ed { secret, public } => Ok(Issuer::Private(PrivateKey::Ed {
-            secret: *secret,
-            public: *public,
-        })),
-        SshBasePrivateKey::SkEcdsaSha2NistP256 { point, .. } => {
-            let point = point.try_clone(alloc)?;
-            Ok(Issuer::Public(PublicKey::Ec {
+        SshBasePrivateKey::SkEcdsaSha2NistP256 {
+            point,
+            application,
+            handle,
+            ..
+        } => {
+            drop(application);
+            drop(handle);
+            Issuer::Public(PublicKey::Ec {
                 curve: EcCurve::NistP256,
                 point,
-            }))
+            })
         }
-        SshBasePrivateKey::SkEd25519 { key, .. } => {
-            Ok(Issuer::Public(PublicKey::Ed { key: *key }))
+        SshBasePrivateKey::SkEd25519 {
+            key,
+            application,
+            handle,
+            ..
+        } => {
+            drop(application);
+            drop(handle);
+            Issuer::Public(PublicKey::Ed { key })
         }
     }
 }
 
 /// A public key as an issuer.
-fn public_issuer(alloc: Global, key: &SshBasePublicKey) -> Result<Issuer, NoMemory>
-    ensures { IfOk result (λ issuer. issuer ≡ asked.Public (public_key_of key.now)) }
+fn issuer_from_public(key: SshBasePublicKey) -> Issuer
+    ensures { result ≡ asked.Public (public_key_of key) }
 {
     match key {
-        SshBasePublicKey::Rsa { e, n } => {
-            let e = e.try_clone(alloc)?;
-            let n = n.try_clone(alloc)?;
-            Ok(Issuer::Public(PublicKey::Rsa { e, n }))
-        }
-        SshBasePublicKey::Ec { curve, point } => {
-            let point = point.try_clone(alloc)?;
-            Ok(Issuer::Public(PublicKey::Ec {
-                curve: *curve,
-                point,
-            }))
-        }
-        SshBasePublicKey::Ed { key } => Ok(Issuer::Public(PublicKey::Ed { key: *key })),
-        SshBasePublicKey::SkEcdsaSha2NistP256 { point, .. } => {
-            let point = point.try_clone(alloc)?;
-            Ok(Issuer::Public(PublicKey::Ec {
+        SshBasePublicKey::Rsa { e, n } => Issuer::Public(PublicKey::Rsa { e, n }),
+        SshBasePublicKey::Ec { curve, point } => Issuer::Public(PublicKey::Ec { curve, point }),
+        SshBasePublicKey::Ed { key } => Issuer::Public(PublicKey::Ed { key }),
+        SshBasePublicKey::SkEcdsaSha2NistP256 { point, application } => {
+            drop(application);
+            Issuer::Public(PublicKey::Ec {
                 curve: EcCurve::NistP256,
                 point,
-            }))
+            })
         }
-        SshBasePublicKey::SkEd25519 { key, .. } => Ok(Issuer::Public(PublicKey::Ed { key: *key })),
+        SshBasePublicKey::SkEd25519 { key, application } => {
+            drop(application);
+            Issuer::Public(PublicKey::Ed { key })
+        }
     }
 }
