@@ -4,8 +4,6 @@ ghost use Rattle.std.specs.Prelude.{◌≡◌, ◌∷◌, ◌++◌, [], ◌^◌,
 ghost use Rattle.std.specs.Int.{w32, to_be_bytes};
 ghost use Rattle.std.specs.List.{concat};
 ghost use Rattle.picky_wire_base.specs.Wire.{string_of};
-ghost use Rattle.picky_keys.specs.Blob.{blob_of};
-ghost use Rattle.picky_sshkey_blob.specs.Key.{public_part};
 ghost use Rattle.picky_agent_state.specs.Reply.{entry, failure as failure_reply, fitted, signed_reply, success as success_reply};
 ghost use Rattle.picky_agent_state.specs.Rows.{most_identities};
 ghost use Rattle.picky_agent_state.specs.inner.Entry.{HasEntry};
@@ -13,8 +11,7 @@ ghost use Rattle.picky_agent_state.specs.inner.Entry.{HasEntry};
 use crate::identity::Identity;
 use crate::message_type;
 use picky_cert_parts::SshSignatureFormat;
-use picky_keys::bytes_of;
-use picky_sshkey_blob::SshBasePrivateKey;
+use picky_sshkey_blob::public_bytes;
 use picky_wire::{Bytes, NoMemory, Piece, Text, push_pieces};
 use std::alloc::Global;
 
@@ -83,16 +80,8 @@ pub(crate) fn entry_of(alloc: Global, identity: &Identity) -> Result<Bytes, NoMe
     requires { HasEntry identity.now }
     ensures { IfOk result (λ bytes. bytes ≡ entry identity.now) }
 {
-    let blob = blob_in(alloc, &identity.key)?;
+    let blob = public_bytes(alloc, &identity.key)?;
     strings_of(alloc, blob.as_slice(), &identity.comment)
-}
-
-/// The blob of the public key in a private one. Refuses: `NoMemory`.
-fn blob_in(alloc: Global, key: &SshBasePrivateKey) -> Result<Vec<u8>, NoMemory>
-    ensures { IfOk result (λ blob. blob.items ≡ blob_of (public_part key.now)) }
-{
-    let public = key.base_public_key(alloc)?;
-    bytes_of(alloc, &public)
 }
 
 /// A blob and a comment, each as a string. Refuses: `NoMemory`.

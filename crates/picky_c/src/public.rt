@@ -14,7 +14,6 @@ use picky_conversion::input_refusal;
 use picky_key_text::{Meaning, ReadError, public_key, read_text};
 use picky_keys::SshPublicKey;
 use picky_suite::PlainSuite;
-use picky_wire::NoMemory;
 use std::alloc::{AllocError, Global};
 
 /// The SHA-256 fingerprint of the key that a text means, as `ssh-keygen -l` prints it.
@@ -80,10 +79,7 @@ fn public_key_of_text(alloc: Global, text: &[u8]) -> Result<SshPublicKey, PickyE
     };
     let mut suite = PlainSuite::new();
     match read_text(alloc, &mut suite, text, None) {
-        Ok(meaning) => match public_key(alloc, meaning) {
-            Ok(key) => Ok(key),
-            Err(NoMemory) => Err(PickyError::NoMemory),
-        },
+        Ok(meaning) => Ok(public_key(meaning)),
         Err(e) => Err(refusal(input_refusal(e))),
     }
 }

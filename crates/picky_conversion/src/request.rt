@@ -69,7 +69,7 @@ pub fn builder_of(
 fn subject_of(alloc: Global, meaning: Meaning) -> Result<(SshPublicKey, Text), NoMemory>
     ensures { IfOk result (λ both. both ≡ (public_key_of meaning, meaning.comment)) }
 {
-    let key = public_key(alloc, meaning)?;
+    let key = public_key(meaning);
     match key.comment.try_clone(alloc) {
         Ok(comment) => Ok((key, comment)),
         Err(NoMemory) => {

@@ -282,17 +282,15 @@ fn fingerprint<S: Suite>(
     ensures suite { LeavesAskedSuite S.meanings S.faults (asks (option_copied given.entry.pass_in) text.now) result suite.old suite.new }
 {
     match read_text(alloc, suite, text, given.pass_in) {
-        Ok(meaning) => match public_key(alloc, meaning) {
-            Ok(key) => {
-                let text = fingerprint_text(alloc, &key);
-                drop(key);
-                match text {
-                    Ok(text) => Ok(text),
-                    Err(_) => Err(ConvertError::NoMemory),
-                }
+        Ok(meaning) => {
+            let key = public_key(meaning);
+            let text = fingerprint_text(alloc, &key);
+            drop(key);
+            match text {
+                Ok(text) => Ok(text),
+                Err(_) => Err(ConvertError::NoMemory),
             }
-            Err(NoMemory) => Err(ConvertError::NoMemory),
-        },
+        }
         Err(e) => Err(input_refusal(e)),
     }
 }

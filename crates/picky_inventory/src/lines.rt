@@ -8,6 +8,7 @@ ghost use Rattle.picky_inventory.specs.Items.{is_blank as is_blank_part, item_li
 
 use picky_key_text::{Key, Meaning};
 use picky_keys::bytes_of;
+use picky_sshkey_blob::public_bytes;
 use picky_text::encode;
 use picky_wire::NoMemory;
 use std::alloc::Global;
@@ -48,10 +49,7 @@ fn public_blob(alloc: Global, key: &Key) -> Result<Vec<u8>, NoMemory>
     ensures { IfOk result (λ blob. blob.items ≡ blob_of (public_part key.now)) }
 {
     match key {
-        Key::Private(key) => {
-            let public_key = key.base_public_key(alloc)?;
-            bytes_of(alloc, &public_key)
-        }
+        Key::Private(key) => public_bytes(alloc, key),
         Key::Public(key) => bytes_of(alloc, key),
     }
 }

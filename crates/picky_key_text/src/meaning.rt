@@ -1,6 +1,6 @@
 //! A key and its comment.
 
-ghost use Rattle.std.specs.Prelude.{◌≡◌, IfOk};
+ghost use Rattle.std.specs.Prelude.{◌≡◌};
 ghost use Rattle.picky_key_text.specs.Key.{public_key as public_key_of};
 
 use picky_keys::{SshBasePublicKey, SshPublicKey};
@@ -44,20 +44,14 @@ impl TryClone for Meaning {
     }
 }
 
-/// The public part of the key, with the comment. Refuses: `NoMemory`.
-pub fn public_key(alloc: Global, meaning: Meaning) -> Result<SshPublicKey, NoMemory>
-    ensures { IfOk result (λ key. key ≡ public_key_of meaning) }
+/// The public part of the key, with the comment.
+pub fn public_key(meaning: Meaning) -> SshPublicKey
+    ensures { result ≡ public_key_of meaning }
 {
     let Meaning { key, comment } = meaning;
-    match key {
-        Key::Private(key) => {
-            let public_part = key.base_public_key(alloc);
-            drop(key);
-            match public_part {
-                Ok(inner_key) => Ok(SshPublicKey { inner_key, comment }),
-                Err(NoMemory) => Err(NoMemory),
-            }
-        }
-        Key::Public(inner_key) => Ok(SshPublicKey { inner_key, comment }),
-    }
+    let inner_key = match key {
+        Key::Private(key) => key.into_public(),
+        Key::Public(key) => key,
+    };
+    SshPublicKey { inner_key, comment }
 }

@@ -2,6 +2,8 @@
 
 ghost use Rattle.std.specs.Prelude.{◌≡◌, IfOk};
 ghost use Rattle.picky_wire_base.specs.Gives.{Gives};
+ghost use Rattle.picky_keys.specs.declared.key.SshBasePublicKey.{SshBasePublicKey as PublicKey};
+ghost use Rattle.picky_keys.specs.LineRefusal.{blob_bytes};
 ghost use Rattle.picky_sshkey_blob.specs.Key.{public_part};
 ghost use Rattle.picky_ppk_parts.specs.Secret.{secret_bytes as secret_bytes_of};
 ghost use Rattle.picky_ppk_parts.specs.KeyParts.{private_algorithm as private_algorithm_of};
@@ -94,18 +96,23 @@ fn parts_under(
 fn public_blob(alloc: Global, key: &SshBasePrivateKey) -> Result<Bytes, PuttyError>
     ensures { Gives PuttyError.NoMemory (λ blob. blob) result (blob_within (public_part key.now)) }
 {
-    let public = key.base_public_key(alloc)?;
-    let blob = blob_of_public(alloc, &public);
-    drop(public);
-    blob
+    within(key.public_blob(alloc))
 }
 
 /// The one blob of a public key. Refuses, in order: `TooLong`, where it has 2^32 bytes or more.
-#[tactic(auto, using(crate::proofs::BlobLemmas::blobs_within))]
 pub fn blob_of_public(alloc: Global, public: &SshBasePublicKey) -> Result<Bytes, PuttyError>
     ensures { Gives PuttyError.NoMemory (λ blob. blob) result (blob_within public.now) }
 {
-    match public.to_blob(alloc) {
+    within(public.to_blob(alloc))
+}
+
+/// The blob, or why there is none, in PuTTY's errors.
+#[tactic(auto, using(crate::proofs::BlobLemmas::blobs_within))]
+fn within(blob: Result<Bytes, SshPublicKeyError>) -> Result<Bytes, PuttyError>
+    ensures { (public : PublicKey) → Gives SshPublicKeyError.NoMemory (λ bytes. bytes) blob (blob_bytes public)
+        → Gives PuttyError.NoMemory (λ blob. blob) result (blob_within public) }
+{
+    match blob {
         Ok(blob) => Ok(blob),
         Err(e) => match e {
             SshPublicKeyError::TooLong => {

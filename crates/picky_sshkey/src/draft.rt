@@ -12,7 +12,7 @@ use crate::private_key::SshPrivateKey;
 use picky_keys::SshPublicKeyError;
 use picky_sshkey_blob::{SshBasePrivateKey, SshPrivateKeyError, secret_pieces};
 use picky_suite::bcrypt_ok;
-use picky_wire::{Bytes, MAX_LEN, NoMemory, Piece, push_pieces};
+use picky_wire::{Bytes, MAX_LEN, Piece, push_pieces};
 use std::alloc::{AllocError, Global};
 
 /// The padding of an aligned block, where it is sealed.
@@ -82,25 +82,18 @@ fn outer_of(alloc: Global, base: &SshBasePrivateKey) -> Result<Bytes, SshPrivate
     ensures err { IfErr result (λ e. (e ≡ SshPrivateKeyError.NoMemory)
         ⊎ ((e ≡ SshPrivateKeyError.TooLong) × (2 ^ 32 ≤ length (blob_of (public_part base.now))))) }
 {
-    match base.base_public_key(alloc) {
-        Ok(key) => {
-            let blob = key.to_blob(alloc);
-            drop(key);
-            match blob {
-                Ok(blob) => Ok(blob),
-                Err(e) => match e {
-                    SshPublicKeyError::TooLong => {
-                        drop(e);
-                        Err(SshPrivateKeyError::TooLong)
-                    }
-                    e => {
-                        drop(e);
-                        Err(SshPrivateKeyError::NoMemory)
-                    }
-                },
+    match base.public_blob(alloc) {
+        Ok(blob) => Ok(blob),
+        Err(e) => match e {
+            SshPublicKeyError::TooLong => {
+                drop(e);
+                Err(SshPrivateKeyError::TooLong)
             }
-        }
-        Err(NoMemory) => Err(SshPrivateKeyError::NoMemory),
+            e => {
+                drop(e);
+                Err(SshPrivateKeyError::NoMemory)
+            }
+        },
     }
 }
 

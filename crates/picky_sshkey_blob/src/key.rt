@@ -100,6 +100,23 @@ impl SshBasePrivateKey {
             }
         }
     }
+
+    /// Its public key, of the parts that it has; the secret ones are dropped.
+    pub fn into_public(self) -> SshBasePublicKey
+        ensures { result ≡ public_part self }
+    {
+        match self {
+            SshBasePrivateKey::Rsa { n, e, .. } => SshBasePublicKey::Rsa { e, n },
+            SshBasePrivateKey::Ec { curve, point, .. } => SshBasePublicKey::Ec { curve, point },
+            SshBasePrivateKey::Ed { public, .. } => SshBasePublicKey::Ed { key: public },
+            SshBasePrivateKey::SkEcdsaSha2NistP256 {
+                point, application, ..
+            } => SshBasePublicKey::SkEcdsaSha2NistP256 { point, application },
+            SshBasePrivateKey::SkEd25519 {
+                key, application, ..
+            } => SshBasePublicKey::SkEd25519 { key, application },
+        }
+    }
 }
 
 impl TryClone for SshBasePrivateKey {

@@ -68,17 +68,7 @@ pub fn write_text<S: Suite>(
                 }
             }
         }
-        KeyTarget::OpenSshPublic => match public_key(alloc, meaning) {
-            Ok(key) => {
-                let line = write_line(alloc, &key);
-                drop(key);
-                line
-            }
-            Err(NoMemory) => Err(ConvertError::NoMemory),
-        },
-        KeyTarget::PuttyPublic => match public_key(alloc, meaning) {
-            Ok(key) => write_putty(alloc, key),
-            Err(NoMemory) => Err(ConvertError::NoMemory),
-        },
+        KeyTarget::OpenSshPublic => write_line(alloc, &public_key(meaning)),
+        KeyTarget::PuttyPublic => write_putty(alloc, public_key(meaning)),
     }
 }
