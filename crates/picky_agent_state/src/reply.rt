@@ -12,11 +12,8 @@ use crate::identity::Identity;
 use crate::message_type;
 use picky_cert_parts::SshSignatureFormat;
 use picky_sshkey_blob::public_bytes;
-use picky_wire::{Bytes, NoMemory, Piece, Text, push_pieces};
+use picky_wire::{Bytes, MAX_LEN, NoMemory, Piece, Text, push_pieces};
 use std::alloc::Global;
-
-/// How many bytes a reply doesn't reach.
-const REPLY_LIMIT: usize = 1 << 32;
 
 /// The failure. Refuses: `NoMemory`.
 pub(crate) fn failure(alloc: Global) -> Result<Bytes, NoMemory>
@@ -46,7 +43,7 @@ fn of_type(alloc: Global, kind: u8) -> Result<Bytes, NoMemory>
 fn fit(alloc: Global, reply: Vec<u8>) -> Result<Bytes, NoMemory>
     ensures { IfOk result (λ bytes. bytes ≡ fitted reply.items) }
 {
-    if reply.len() >= REPLY_LIMIT {
+    if reply.len() > MAX_LEN {
         return failure(alloc);
     }
     Ok(Bytes::from_vec(reply))
@@ -111,7 +108,7 @@ pub(crate) fn signed_of(
 {
     let name = format.as_str();
     let len = name.len() + signature.as_slice().len() + 8;
-    if len >= REPLY_LIMIT {
+    if len > MAX_LEN {
         return failure(alloc);
     }
     let mut reply = Vec::new(alloc);

@@ -6,7 +6,7 @@ ghost use Rattle.picky_cert_parts.specs.ExtensionType.{extension_named};
 ghost use Rattle.picky_issuing.specs.NamedPayload.{requested_critical_option, requested_extension, if_short, name_in, payload_in};
 
 use picky_cert_parts::{SshCriticalOption, SshCriticalOptionType, SshExtension, SshExtensionType};
-use picky_wire::{Bytes, NoMemory, Piece, push_pieces};
+use picky_wire::{Bytes, MAX_LEN, NoMemory, Piece, push_pieces};
 use std::alloc::Global;
 
 /// The critical option that a value asks for, where it names one and its payload is short enough. Refuses: `NoMemory`.
@@ -78,7 +78,7 @@ fn payload_of(alloc: Global, value: &str) -> Result<Option<Bytes>, NoMemory>
 fn string_payload(alloc: Global, text: &str) -> Result<Option<Bytes>, NoMemory>
     ensures { IfOk result (λ payload. payload ≡ if_short (string_of text.now)) }
 {
-    if text.len() >= (1 << 32) - 4 {
+    if text.len() > MAX_LEN - 4 {
         return Ok(None);
     }
     let mut bytes = Vec::new(alloc);

@@ -110,10 +110,14 @@ impl SshBasePrivateKey {
             SshBasePrivateKey::Ec { curve, point, .. } => SshBasePublicKey::Ec { curve, point },
             SshBasePrivateKey::Ed { public, .. } => SshBasePublicKey::Ed { key: public },
             SshBasePrivateKey::SkEcdsaSha2NistP256 {
-                point, application, ..
+                point,
+                application,
+                ..
             } => SshBasePublicKey::SkEcdsaSha2NistP256 { point, application },
             SshBasePrivateKey::SkEd25519 {
-                key, application, ..
+                key,
+                application,
+                ..
             } => SshBasePublicKey::SkEd25519 { key, application },
         }
     }

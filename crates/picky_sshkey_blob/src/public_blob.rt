@@ -60,7 +60,9 @@ fn public_pieces(key: &SshBasePrivateKey) -> [Piece<'_>; 4]
             [name, Piece::string(public), Piece::none(), Piece::none()]
         }
         SshBasePrivateKey::SkEcdsaSha2NistP256 {
-            point, application, ..
+            point,
+            application,
+            ..
         } => {
             let identifier = EcCurve::NistP256.to_ecdsa_ssh_key_identifier();
             [
@@ -71,7 +73,9 @@ fn public_pieces(key: &SshBasePrivateKey) -> [Piece<'_>; 4]
             ]
         }
         SshBasePrivateKey::SkEd25519 {
-            key, application, ..
+            key,
+            application,
+            ..
         } => [
             name,
             Piece::string(key),

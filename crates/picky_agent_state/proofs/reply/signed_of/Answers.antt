@@ -7,10 +7,10 @@ use Rattle.picky_agent_state.specs.Reply.{fitted}
 use Rattle.picky_agent_state.proofs.ReplyLemmas.{long_signature_fails, signed_bytes}
 use Rattle.picky_agent_state.proofs.reply.signed_of.Goals as goal
 
-pub returns-then-len-ge-REPLY_LIMIT : goal.returns-then-len-ge-REPLY_LIMIT
-returns-then-len-ge-REPLY_LIMIT c =
+pub returns-then-len-gt-MAX_LEN : goal.returns-then-len-gt-MAX_LEN
+returns-then-len-gt-MAX_LEN c =
     let long : 4294967296 ≤ length (format_name c.args.format) + length c.args.signature.now + 8 =
-    omega (arith, ap length c.as_str-name.ensures.name, ap length c.as_slice.ensures.bytes, c.if-len-ge-REPLY_LIMIT.true) in
+    omega (arith, ap length c.as_str-name.ensures.name, ap length c.as_slice.ensures.bytes, c.if-len-gt-MAX_LEN.true) in
     subst (λ (f : List ℕ). IfOk c.failure.result (λ (r : List ℕ). r ≡ f))
     (sym (long_signature_fails c.args.format c.args.signature.now long)) c.failure.ensures
 
