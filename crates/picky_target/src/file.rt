@@ -128,37 +128,33 @@ fn write_sealed<S: Suite>(
         Err(e) => return Err(e),
     };
     match plain_file(alloc, suite, version, config, key, comment, &fresh) {
-        Ok(ppk) => {
-            let text = sealed_text(alloc, suite, &ppk, config, pass, &fresh);
-            drop(ppk);
-            text
-        }
+        Ok(ppk) => sealed_text(alloc, suite, ppk, config, pass, &fresh),
         Err(e) => Err(e),
     }
 }
 
-/// The text of a file that is sealed.
+/// The text of the file sealed.
 #[tactic(auto, using(crate::proofs::FaultLemmas::text_no_fault))]
 fn sealed_text<S: Suite>(
     alloc: Global,
     suite: &mut S,
-    ppk: &Ppk,
+    ppk: Ppk,
     config: PpkEncryptionConfig,
     pass: &str,
     fresh: &Drawn<'_>,
 ) -> Result<Text, ConvertError>
-    requires padding { length fresh.now.padding.now ≡ missing_len ppk.now }
-    requires salt { version_of ppk.now.sealing ≡ V3 → length fresh.now.salt.now ≡ config.argon2_salt_size }
+    requires padding { length fresh.now.padding.now ≡ missing_len ppk }
+    requires salt { version_of ppk.sealing ≡ V3 → length fresh.now.salt.now ≡ config.argon2_salt_size }
     ensures gives { GivesAsked ConvertError.NoMemory (ConvertError.Putty PuttyError.SuiteFault) (λ text. text) result
         (sealed_text_of (S.meanings suite.old) pass.now config
-        (record { salt = fresh.now.salt.now; padding = fresh.now.padding.now; plain = ppk.now }))
-        (is_sealable pass.now ppk.now (file_to_seal config fresh.now.salt.now fresh.now.padding.now ppk.now))
+        (record { salt = fresh.now.salt.now; padding = fresh.now.padding.now; plain = ppk }))
+        (is_sealable pass.now ppk (file_to_seal config fresh.now.salt.now fresh.now.padding.now ppk))
         (Rose (S.faults suite.old) (S.faults suite.new)) }
     ensures suite { LeavesSuite S.meanings S.faults (ConvertError.Putty PuttyError.SuiteFault)
-        (is_sealable pass.now ppk.now (file_to_seal config fresh.now.salt.now fresh.now.padding.now ppk.now)) result
+        (is_sealable pass.now ppk (file_to_seal config fresh.now.salt.now fresh.now.padding.now ppk)) result
         suite.old suite.new }
 {
-    match ppk.encrypt(alloc, suite, pass, config, fresh.salt, fresh.padding) {
+    match ppk.into_encrypted(alloc, suite, pass, config, fresh.salt, fresh.padding) {
         Ok(sealed) => {
             let text = text_of_file(alloc, &sealed);
             drop(sealed);
