@@ -1,10 +1,13 @@
 -- How long the text of PuTTY's private key file is.
-use Rattle.std.proofs.Common.{◌≡◌, ◌∙◌, ℕ, ◌+◌, ◌*◌, ◌^◌, ◌<◌, ◌≤◌, List, [], ◌∷◌, ◌++◌, length, codes, ap, refl, sym, arith}
+use Rattle.std.proofs.Common.{◌≡◌, ◌∙◌, ℕ, zero, suc, ◌+◌, ◌*◌, ◌^◌, ◌<◌, ◌≤◌, List, [], ◌∷◌, ◌++◌, length, codes, slice_index}
+use Rattle.std.proofs.Common.{ap, refl, sym, arith}
 use Rattle.std.proofs.lemmas.Fmt.{decimal_step, decimal_digit, length-decimal-le}
 use Rattle.std.proofs.lemmas.List.{length-append, length-replicate}
 use Rattle.std.specs.{Fmt.{decimal}, Int.{div_ceil}, List.{concat}}
 use Rattle.hex.specs.Hex.{encode_lower}
 use Rattle.hex.proofs.HexLemmas.{length-encode_with}
+use Rattle.picky_wire_base.specs.{Mpint.{mpint_of}, Zeros.{without_zeros}}
+use Rattle.picky_wire_base.proofs.{MpintLaws.{mpint_of_high, mpint_of_low}, PieceLemmas.{length-string_of}}
 use Rattle.picky_text.specs.{Base64.{base64_of}, Lines.{text_of, end_bytes}, Rows.{rows_of}}
 use Rattle.picky_text.specs.{declared.lines.LineEnd.{LineEnd}, declared.lines.LineEnd.TheVariants.{Lf, CrLf}}
 use Rattle.picky_text.proofs.{Base64Laws.{length_base64}, RowLaws.{rows_of_are_rows}}
@@ -67,6 +70,21 @@ unfolding flavour_field
 flavour_short flavours.Argon2d = omega arith
 flavour_short flavours.Argon2i = omega arith
 flavour_short flavours.Argon2id = omega arith
+
+-- ---- the fields of numbers
+
+pub high_len : (v : List ℕ) → 128 ≤ slice_index v 0 → length (mpint_of v) ≡ length v + 5
+high_len v high = ap length (mpint_of_high v high) ∙ omega (arith, length-string_of (0 ∷ v))
+
+pub low_len : (v : List ℕ) → slice_index v 0 < 128 → length (mpint_of v) ≡ length v + 4
+low_len v low = ap length (mpint_of_low v low) ∙ length-string_of v
+
+pub without_zeros_within : (v : List ℕ) → length (without_zeros v) ≤ length v
+without_zeros_within [] = omega arith
+without_zeros_within (zero ∷ v) = omega (arith, without_zeros_within v)
+without_zeros_within (suc b ∷ v) = omega arith
+
+pub ruleset number_fields = (high_len, low_len, without_zeros_within)
 
 -- ---- lines
 

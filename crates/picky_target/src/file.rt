@@ -3,6 +3,7 @@
 ghost use Rattle.std.specs.Prelude.{◌≡◌, ◌<◌, ◌^◌, IfOk, length};
 ghost use Rattle.std.specs.Option.{option_copied};
 ghost use Rattle.picky_wire_base.specs.Mpint.{mpint_of};
+ghost use Rattle.picky_wire_base.specs.Zeros.{without_zeros};
 ghost use Rattle.picky_kv.specs.declared.PpkVersionKey.TheVariants.{V3};
 ghost use Rattle.picky_suite.specs.Asked.{GivesAsked, LeavesSuite};
 ghost use Rattle.picky_wire.specs.Count.{Rose};
@@ -27,7 +28,7 @@ use picky_ppk::{Ppk, PpkEncryptionConfig, PpkVersion, PuttyError, can_derive_by,
 use picky_ppk_file::MAX_BLOCK_LEN;
 use picky_sshkey::SshBasePrivateKey;
 use picky_suite::Suite;
-use picky_wire::{MAX_LEN, Mpint, NoMemory, Piece, Text};
+use picky_wire::{MAX_LEN, Mpint, Text};
 use std::alloc::Global;
 
 /// PuTTY's file of a key and a comment in a version, sealed where there is a passphrase.
@@ -123,42 +124,38 @@ fn write_sealed<S: Suite>(
     ensures suite { LeavesSuite S.meanings S.faults (ConvertError.Putty PuttyError.SuiteFault)
         (sealed_asks (S.meanings suite.old) pass.now fresh.now version config key.now comment) result suite.old suite.new }
 {
-    let fresh = match drawn_under(alloc, version, config, key, pass, fresh) {
+    let fresh = match drawn_under(version, config, key, pass, fresh) {
         Ok(fresh) => fresh,
         Err(e) => return Err(e),
     };
     match plain_file(alloc, suite, version, config, key, comment, &fresh) {
-        Ok(ppk) => {
-            let text = sealed_text(alloc, suite, &ppk, config, pass, &fresh);
-            drop(ppk);
-            text
-        }
+        Ok(ppk) => sealed_text(alloc, suite, ppk, config, pass, &fresh),
         Err(e) => Err(e),
     }
 }
 
-/// The text of a file that is sealed.
+/// The text of the file sealed.
 #[tactic(auto, using(crate::proofs::FaultLemmas::text_no_fault))]
 fn sealed_text<S: Suite>(
     alloc: Global,
     suite: &mut S,
-    ppk: &Ppk,
+    ppk: Ppk,
     config: PpkEncryptionConfig,
     pass: &str,
     fresh: &Drawn<'_>,
 ) -> Result<Text, ConvertError>
-    requires padding { length fresh.now.padding.now ≡ missing_len ppk.now }
-    requires salt { version_of ppk.now.sealing ≡ V3 → length fresh.now.salt.now ≡ config.argon2_salt_size }
+    requires padding { length fresh.now.padding.now ≡ missing_len ppk }
+    requires salt { version_of ppk.sealing ≡ V3 → length fresh.now.salt.now ≡ config.argon2_salt_size }
     ensures gives { GivesAsked ConvertError.NoMemory (ConvertError.Putty PuttyError.SuiteFault) (λ text. text) result
         (sealed_text_of (S.meanings suite.old) pass.now config
-        (record { salt = fresh.now.salt.now; padding = fresh.now.padding.now; plain = ppk.now }))
-        (is_sealable pass.now ppk.now (file_to_seal config fresh.now.salt.now fresh.now.padding.now ppk.now))
+        (record { salt = fresh.now.salt.now; padding = fresh.now.padding.now; plain = ppk }))
+        (is_sealable pass.now ppk (file_to_seal config fresh.now.salt.now fresh.now.padding.now ppk))
         (Rose (S.faults suite.old) (S.faults suite.new)) }
     ensures suite { LeavesSuite S.meanings S.faults (ConvertError.Putty PuttyError.SuiteFault)
-        (is_sealable pass.now ppk.now (file_to_seal config fresh.now.salt.now fresh.now.padding.now ppk.now)) result
+        (is_sealable pass.now ppk (file_to_seal config fresh.now.salt.now fresh.now.padding.now ppk)) result
         suite.old suite.new }
 {
-    match ppk.encrypt(alloc, suite, pass, config, fresh.salt, fresh.padding) {
+    match ppk.into_encrypted(alloc, suite, pass, config, fresh.salt, fresh.padding) {
         Ok(sealed) => {
             let text = text_of_file(alloc, &sealed);
             drop(sealed);
@@ -177,7 +174,6 @@ struct Drawn<'a> {
 
 /// The salt and the padding. Refuses, in order: `Putty(Argon2)`, `FreshTooShort`.
 fn drawn_under<'a>(
-    alloc: Global,
     version: PpkVersion,
     config: PpkEncryptionConfig,
     key: &SshBasePrivateKey,
@@ -191,10 +187,7 @@ fn drawn_under<'a>(
     if !can_derive_by(version, pass, config) {
         return Err(ConvertError::Putty(PuttyError::Argon2));
     }
-    let padding_len = match padding_len(alloc, key) {
-        Ok(len) => len,
-        Err(NoMemory) => return Err(ConvertError::NoMemory),
-    };
+    let padding_len = padding_len(key);
     let salt_len = salt_len(version, config);
     if fresh.len() < salt_len + padding_len {
         return Err(ConvertError::FreshTooShort);
@@ -205,31 +198,25 @@ fn drawn_under<'a>(
 }
 
 /// How many fresh bytes the padding takes.
-fn padding_len(alloc: Global, key: &SshBasePrivateKey) -> Result<usize, NoMemory>
-    ensures len { IfOk result (λ n. n ≡ padding_len_of key.now) }
-    ensures few { IfOk result (λ n. n < 16) }
+fn padding_len(key: &SshBasePrivateKey) -> usize
+    ensures len { result ≡ padding_len_of key.now }
+    ensures few { result < 16 }
 {
-    let len = secret_len(alloc, key)?;
-    Ok(lacking_len(len))
+    lacking_len(secret_len(key))
 }
 
 /// How many bytes the private bytes have without padding.
 #[tactic(auto, unfolding(picky_ppk_parts::specs::Secret::secret_bytes))]
-fn secret_len(alloc: Global, key: &SshBasePrivateKey) -> Result<usize, NoMemory>
-    ensures { IfOk result (λ n. n ≡ length (secret_bytes key.now)) }
+fn secret_len(key: &SshBasePrivateKey) -> usize
+    ensures { result ≡ length (secret_bytes key.now) }
 {
     match key {
         SshBasePrivateKey::Rsa { d, p, q, iqmp, .. } => {
-            Ok(mpint_len(d) + mpint_len(p) + mpint_len(q) + mpint_len(iqmp))
+            mpint_len(d) + mpint_len(p) + mpint_len(q) + mpint_len(iqmp)
         }
-        SshBasePrivateKey::Ec { secret, .. } => Ok(mpint_len(secret)),
-        SshBasePrivateKey::Ed { secret, .. } => match Mpint::from_be(alloc, secret) {
-            Ok(number) => Ok(mpint_len(&number)),
-            Err(_) => Err(NoMemory),
-        },
-        SshBasePrivateKey::SkEcdsaSha2NistP256 { .. } | SshBasePrivateKey::SkEd25519 { .. } => {
-            Ok(0)
-        }
+        SshBasePrivateKey::Ec { secret, .. } => mpint_len(secret),
+        SshBasePrivateKey::Ed { secret, .. } => number_len(secret),
+        SshBasePrivateKey::SkEcdsaSha2NistP256 { .. } | SshBasePrivateKey::SkEd25519 { .. } => 0,
     }
 }
 
@@ -238,9 +225,32 @@ fn mpint_len(number: &Mpint) -> usize
     ensures len { result ≡ length (mpint_of number.now) }
     ensures short { result < 2 ^ 33 }
 {
-    let piece = Piece::mpint(number);
-    let (head, body) = piece.parts();
-    head.len() + body.len()
+    number_len(number.bytes())
+}
+
+/// How many bytes the field of the number has that follows the zeros of these bytes.
+#[tactic(auto, using(crate::proofs::LengthLemmas::number_fields))]
+fn number_len(bytes: &[u8]) -> usize
+    requires { length bytes.now < 2 ^ 32 }
+    ensures len { result ≡ length (mpint_of (without_zeros bytes.now)) }
+    ensures short { result < 2 ^ 33 }
+{
+    let number = after_zeros(bytes);
+    match number.first() {
+        Some(128..) => number.len() + 5,
+        Some(_) | None => number.len() + 4,
+    }
+}
+
+/// The bytes from the first that isn't zero.
+fn after_zeros(bytes: &[u8]) -> &[u8]
+    ensures { result.now ≡ without_zeros bytes.now }
+{
+    let mut rest = bytes;
+    'zeros: while let Some((0, more)) = rest.split_first() {
+        rest = more;
+    }
+    rest
 }
 
 /// The file before it is sealed, where the sealed one isn't too long, or has too many lines.
