@@ -19,7 +19,8 @@ use Rattle.picky_target.specs.Judged.{mac_len}
 use Rattle.picky_target.specs.ReadBack.{IsConfig}
 use Rattle.picky_target.proofs.FileWritten.{plain_len}
 use Rattle.picky_convert.specs.SampleKeys.{comment_at, key_at, kind_at, meaning_at}
-use Rattle.picky_convert.specs.SampleTexts.{is_security_key_kind, unsealed_output}
+use Rattle.picky_keys.specs.Key.{is_security_key_kind}
+use Rattle.picky_convert.specs.SampleTexts.{unsealed_output}
 use Rattle.picky_convert.proofs.CommentLemmas.{comment_has_no_cr, comment_has_no_lf, comment_is_trimmed, comment_size}
 use Rattle.picky_convert.proofs.FileSizes.{file_size, line_size, putty_size}
 use Rattle.picky_convert.proofs.KeyLemmas.{key_is_of_kind, key_is_small}

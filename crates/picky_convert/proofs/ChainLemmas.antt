@@ -20,7 +20,8 @@ use Rattle.picky_conversion.specs.Outside.{reader}
 use Rattle.picky_conversion.proofs.ConvertLemmas.{conversion_of}
 use Rattle.picky_convert.specs.SampleChain.{AreConverted, AreSix, AreTwo, without_passphrase}
 use Rattle.picky_convert.specs.SampleKeys.{kind_at, meaning_at}
-use Rattle.picky_convert.specs.SampleTexts.{is_security_key_kind, ppk2, ppk3, six_targets, text_at, texts_at, two_targets, unsealed_output}
+use Rattle.picky_keys.specs.Key.{is_security_key_kind}
+use Rattle.picky_convert.specs.SampleTexts.{ppk2, ppk3, six_targets, text_at, texts_at, two_targets, unsealed_output}
 use Rattle.picky_convert.proofs.CarriedLemmas.{default_is_config, envelope_carries, file_carries, line_carries, putty_carries}
 use Rattle.picky_convert.proofs.KeyLemmas.{meaning_is_kept}
 

@@ -8,7 +8,7 @@ use Rattle.picky_sshkey_blob.specs.Key.{IsPrivateKey, public_part}
 use Rattle.picky_ppk_file.specs.PuttyRefusal.{is_security_key}
 use Rattle.picky_key_text.specs.Kept.{IsKeptMeaning}
 use Rattle.picky_convert.specs.SampleKeys.{drawn_key, kind_at, meaning_at, numbers_len, secret_len}
-use Rattle.picky_convert.specs.SampleTexts.{is_security_key_kind}
+use Rattle.picky_keys.specs.Key.{is_security_key_kind}
 use Rattle.picky_convert.proofs.CommentLemmas.{comment_is_text}
 use Rattle.picky_convert.proofs.PartLemmas.{application_is, application_size, ed_is, exponent_is, field_is, field_size}
 use Rattle.picky_convert.proofs.PartLemmas.{number_is, number_size, point_is, point_size}

@@ -1,8 +1,8 @@
 -- The texts of a sample key: the one text that each target has for it, where nothing is sealed.
-use Rattle.std.specs.Prelude.{List, [], ◌∷◌, ℕ, Bool, true, false, map, None, if◌then◌else◌}
+use Rattle.std.specs.Prelude.{List, [], ◌∷◌, ℕ, map, None, if◌then◌else◌}
 use Rattle.picky_kv.specs.declared.PpkVersionKey.TheVariants.{V2, V3}
 use Rattle.picky_keys.specs.declared.kind.KeyKind.{KeyKind}
-use Rattle.picky_keys.specs.declared.kind.KeyKind.TheVariants as kinds
+use Rattle.picky_keys.specs.Key.{is_security_key_kind}
 use Rattle.picky_ppk_parts.specs.Config.{default_config}
 use Rattle.picky_suite.specs.Meanings.{Meanings}
 use Rattle.picky_target.specs.declared.target.KeyTarget.{KeyTarget}
@@ -31,13 +31,6 @@ six_targets = targets.OpenSsh ∷ five_targets
 
 abbrev pub two_targets : List KeyTarget
 two_targets = targets.OpenSsh ∷ targets.OpenSshPublic ∷ []
-
-abbrev pub is_security_key_kind : KeyKind → Bool
-is_security_key_kind kinds.Rsa = false
-is_security_key_kind (kinds.Ec curve) = false
-is_security_key_kind (kinds.Ed algorithm) = false
-is_security_key_kind kinds.SkEcdsaSha2NistP256 = true
-is_security_key_kind kinds.SkEd25519 = true
 
 abbrev pub targets_of : KeyKind → List KeyTarget
 targets_of kind = if is_security_key_kind kind then two_targets else six_targets

@@ -2,17 +2,17 @@
 
 ghost use Rattle.std.specs.Prelude.{◌≡◌, ◌≤◌, IfOk, IsOk, OnOk, Ok, false, length, map};
 ghost use Rattle.std.specs.List.{concat};
+ghost use Rattle.picky_keys.specs.Key.{is_security_key_kind};
 ghost use Rattle.picky_target.specs.declared.target.KeyTarget.{KeyTarget as To};
 ghost use Rattle.picky_conversion.specs.Convert.{conversion};
 ghost use Rattle.picky_convert.specs.SampleChain.{without_passphrase};
 ghost use Rattle.picky_convert.specs.SampleKeys.{kind_at};
-ghost use Rattle.picky_convert.specs.SampleTexts.{five_targets, is_security_key_kind as is_security_key_kind_of, text_at, texts_at};
+ghost use Rattle.picky_convert.specs.SampleTexts.{five_targets, text_at, texts_at};
 ghost use Rattle.picky_convert.specs.inner.Fed.{Feeds};
 
 use crate::command::file_of;
 use crate::keys::{kind_of, meaning_of};
 use picky_conversion::{Target, convert};
-use picky_keys::KeyKind;
 use picky_ppk::PpkVersion;
 use picky_suite::{HandedSigner, Signer, Suite};
 use picky_target::{ConvertError, KeyTarget, write_text};
@@ -33,7 +33,7 @@ pub fn feed_texts<S: Suite>(
     ensures suite { suite.new ≡ suite.old }
 {
     let envelope = first(alloc, suite, hasher, number)?;
-    if is_security_key_kind(kind_of(number)) {
+    if kind_of(number).is_security_key() {
         let _line = next(
             alloc,
             suite,
@@ -57,7 +57,7 @@ fn feed_five<S: Suite>(
     envelope: &Text,
 ) -> Result<(), NoMemory>
     requires envelope { envelope.now ≡ text_at (S.meanings suite.old) number To.OpenSsh }
-    requires plain { is_security_key_kind_of (kind_at number) ≡ false }
+    requires plain { is_security_key_kind (kind_at number) ≡ false }
     ensures fed { OnOk result (Feeds hasher.old hasher.new (concat (map (text_at (S.meanings suite.old) number) five_targets))) }
     ensures suite { suite.new ≡ suite.old }
 {
@@ -194,14 +194,4 @@ fn want_of(e: ConvertError) -> NoMemory
 {
     drop(e);
     NoMemory
-}
-
-/// A device keeps the secret of keys of this kind.
-fn is_security_key_kind(kind: KeyKind) -> bool
-    ensures { result ≡ is_security_key_kind_of kind }
-{
-    match kind {
-        KeyKind::Rsa | KeyKind::Ec(_) | KeyKind::Ed(_) => false,
-        KeyKind::SkEcdsaSha2NistP256 | KeyKind::SkEd25519 => true,
-    }
 }

@@ -9,4 +9,5 @@ pub mod ReadingLaws
 pub mod UnaskedLaws
 pub mod KeptLaws
 mod SubjectLemmas
+mod FileKeyLemmas
 mod EnvelopeLemmas

@@ -34,7 +34,8 @@ use Rattle.picky_ppk_file.specs.PuttyRefusal.{of_lines, of_blob, of_parts, after
 use Rattle.picky_ppk_file.specs.PuttyRefusal.{putty_meaning, to_openssh}
 use Rattle.picky_ppk_file.specs.declared.putty_public.PuttyPublicKey.{PuttyPublicKey}
 use Rattle.picky_ppk_file.specs.{declared.file.PpkFile.{PpkFile}, File.{is_sealed}}
-use Rattle.picky_ppk.specs.{Changed.{open_file}, Checked.{ppk_meaning}, Keyed.{can_derive}, KeyOf.{base_key_of}}
+use Rattle.picky_ppk.specs.{Changed.{open_file}, Checked.{ppk_meaning}, Keyed.{can_derive}}
+use Rattle.picky_ppk.specs.KeyOf.{base_key_of, base_key_and_comment_of}
 use Rattle.picky_ppk.specs.Opened.{decrypted, is_openable, not_openable}
 use Rattle.picky_key_text.specs.{declared.error.ReadError.{ReadError}, declared.form.Form.{Form}, Form.{form_of}}
 use Rattle.picky_key_text.specs.{Order.{opened, file_key, ppk_key, reading_as, reading}, Reader.{Reader}}
@@ -241,9 +242,10 @@ pub ppk_no_fault : {X : Type 0} (view : X → PpkFile) (result : Result X PuttyE
     → Gives putty.NoMemory view result (ppk_meaning m text) → result ≢ Err putty.SuiteFault
 ppk_no_fault view result m text gives = gives_own view result _ (ppk_meaning_own m text) gives
 
-pub base_key_no_fault : {X : Type 0} (view : X → SshBasePrivateKey) (result : Result X PuttyError) (f : PpkFile)
-    → Gives putty.NoMemory view result (base_key_of f) → result ≢ Err putty.SuiteFault
-base_key_no_fault view result f gives = gives_own view result _ (base_key_own f) gives
+pub base_key_no_fault : {X : Type 0} (view : X → SshBasePrivateKey × List ℕ) (result : Result X PuttyError) (f : PpkFile)
+    → Gives putty.NoMemory view result (base_key_and_comment_of f) → result ≢ Err putty.SuiteFault
+base_key_no_fault view result f gives =
+    gives_own view result _ (then_as IsOwnPutty (base_key_of f) _ (base_key_own f) (λ key. ok_as IsOwnPutty _)) gives
 
 pub public_no_fault : {X : Type 0} (view : X → PuttyPublicKey) (result : Result X PuttyError) (text : List ℕ)
     → Gives putty.NoMemory view result (putty_meaning text) → result ≢ Err putty.SuiteFault

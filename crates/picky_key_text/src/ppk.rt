@@ -13,7 +13,6 @@ ghost use Rattle.picky_key_text.specs.Order.{file_key, opened as opened_file, pp
 use crate::meaning::{Key, Meaning};
 use picky_ppk::{Ppk, PuttyError};
 use picky_suite::Suite;
-use picky_wire::{NoMemory, TryClone};
 use std::alloc::Global;
 
 /// The key and the comment of a file's text. Refuses, in order: what `Ppk::from_str` refuses; where it is sealed
@@ -51,11 +50,7 @@ fn key_of_file<S: Suite>(
         suite.old suite.new }
 {
     match opened(alloc, suite, ppk, pass) {
-        Ok(ppk) => {
-            let meaning = meaning_of_opened_file(alloc, &ppk);
-            drop(ppk);
-            meaning
-        }
+        Ok(ppk) => meaning_of_opened_file(alloc, ppk),
         Err(e) => Err(e),
     }
 }
@@ -77,11 +72,7 @@ fn opened<S: Suite>(
         return Ok(ppk);
     }
     match pass {
-        Some(pass) => {
-            let opened = ppk.decrypt(alloc, suite, pass);
-            drop(ppk);
-            opened
-        }
+        Some(pass) => ppk.into_decrypted(alloc, suite, pass),
         None => {
             drop(ppk);
             Err(PuttyError::Encrypted)
@@ -90,22 +81,16 @@ fn opened<S: Suite>(
 }
 
 /// The key of a file that isn't sealed, and the comment.
-#[tactic(auto, using(crate::proofs::RefusalLaws::no_fault))]
-fn meaning_of_opened_file(alloc: Global, ppk: &Ppk) -> Result<Meaning, PuttyError>
-    ensures gives { Gives PuttyError.NoMemory (λ meaning. meaning) result (file_key ppk.now) }
+#[tactic(auto, using(crate::proofs::FileKeyLemmas::file_keys, crate::proofs::RefusalLaws::no_fault))]
+fn meaning_of_opened_file(alloc: Global, ppk: Ppk) -> Result<Meaning, PuttyError>
+    ensures gives { Gives PuttyError.NoMemory (λ meaning. meaning) result (file_key ppk) }
     ensures no_fault { result ≢ Err PuttyError.SuiteFault }
 {
-    match ppk.base_key(alloc) {
-        Ok(key) => match ppk.file().comment.try_clone(alloc) {
-            Ok(comment) => Ok(Meaning {
-                key: Key::Private(key),
-                comment,
-            }),
-            Err(NoMemory) => {
-                drop(key);
-                Err(PuttyError::NoMemory)
-            }
-        },
+    match ppk.into_base_key(alloc) {
+        Ok((key, comment)) => Ok(Meaning {
+            key: Key::Private(key),
+            comment,
+        }),
         Err(e) => Err(e),
     }
 }

@@ -116,11 +116,7 @@ fn putty_public_key(alloc: Global, input: &str) -> Result<SshPublicKey, PuttyErr
     ensures no_fault { result ≢ Err PuttyError.SuiteFault }
 {
     match PuttyPublicKey::from_str(alloc, input) {
-        Ok(key) => {
-            let openssh = key.to_openssh(alloc);
-            drop(key);
-            openssh
-        }
+        Ok(key) => key.into_openssh(alloc),
         Err(e) => Err(e),
     }
 }

@@ -1,5 +1,5 @@
 -- What an SSH public key is made of, and what holds of each value (RFC 4251, section 5).
-use Rattle.std.specs.Prelude.{◌≡◌, List, ℕ, ◌<◌, ◌^◌, length, IsUtf8}
+use Rattle.std.specs.Prelude.{◌≡◌, List, ℕ, ◌<◌, ◌^◌, Bool, true, false, length, IsUtf8}
 use Rattle.picky_wire_base.specs.Numbers.{IsBytes}
 use Rattle.picky_wire_base.specs.Magnitude.{IsMagnitude}
 use Rattle.picky_keys.specs.declared.curve.EcCurve.TheVariants.{NistP256}
@@ -43,6 +43,14 @@ kind_of (keys.Ec curve point) = kinds.Ec curve
 kind_of (keys.Ed key) = kinds.Ed Ed25519
 kind_of (keys.SkEcdsaSha2NistP256 point application) = kinds.SkEcdsaSha2NistP256
 kind_of (keys.SkEd25519 key application) = kinds.SkEd25519
+
+-- a device keeps the secret of keys of this kind
+abbrev pub is_security_key_kind : KeyKind → Bool
+is_security_key_kind kinds.Rsa = false
+is_security_key_kind (kinds.Ec curve) = false
+is_security_key_kind (kinds.Ed algorithm) = false
+is_security_key_kind kinds.SkEcdsaSha2NistP256 = true
+is_security_key_kind kinds.SkEd25519 = true
 
 -- the key without the application
 abbrev pub public_key_of : SshBasePublicKey → PublicKey

@@ -17,6 +17,7 @@ pub enum KeyKind {
 }
 
 impl KeyKind {
+    ghost use Rattle.picky_keys.specs.Key.{is_security_key_kind};
     ghost use Rattle.picky_keys.specs.KeyNames.{kind_name};
     ghost use Rattle.picky_keys.specs.KeyNameTables.{key_types};
 
@@ -45,6 +46,16 @@ impl KeyKind {
                 ensures { result ≡ bytes_eq name.entry.now (kind_name kind.now) }
             { name == kind.name() },
         )
+    }
+
+    /// Whether a device keeps the secrets of its keys.
+    pub fn is_security_key(self) -> bool
+        ensures { result ≡ is_security_key_kind self }
+    {
+        match self {
+            KeyKind::Rsa | KeyKind::Ec(_) | KeyKind::Ed(_) => false,
+            KeyKind::SkEcdsaSha2NistP256 | KeyKind::SkEd25519 => true,
+        }
     }
 }
 

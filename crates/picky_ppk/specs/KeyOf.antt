@@ -21,6 +21,10 @@ use Rattle.picky_ppk.specs.Changed.{open_file}
 unfoldable pub base_key_of : PpkFile → Result SshBasePrivateKey PuttyError
 base_key_of f = and_then (open_file f) (λ f. parts_key f.algorithm f.public_key f.private_bytes)
 
+-- the same with the file's comment
+abbrev pub base_key_and_comment_of : PpkFile → Result (SshBasePrivateKey × List ℕ) PuttyError
+base_key_and_comment_of f = and_then (base_key_of f) (λ key. Ok (key, f.comment))
+
 -- a length that no length of the wire can say is the one thing that making OpenSSH's key refuses
 abbrev pub made_error : SshPrivateKeyError → PuttyError
 made_error e = errors.TooLong

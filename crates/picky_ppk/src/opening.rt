@@ -19,8 +19,9 @@ use picky_ppk_file::{PpkFile, PpkSealing};
 use picky_ppk_parts::aes::{BLOCK_SIZE, decrypt};
 use picky_ppk_parts::{PuttyError, counted_len};
 use picky_suite::Suite;
-use picky_wire::{Bytes, NoMemory, TryClone, both};
+use picky_wire::{Bytes, NoMemory, TryClone};
 use std::alloc::Global;
+use std::mem::replace;
 
 impl Ppk {
     /// The file opened under a passphrase: it isn't sealed, and its private bytes end after their counted strings.
@@ -47,8 +48,41 @@ impl Ppk {
         ensures mac { IfOk result (λ ppk. CarriesMac (S.meanings suite.old) ppk) }
     {
         match openable(self.file(), passphrase) {
-            Ok(()) => opened(alloc, suite, self.file(), passphrase),
+            Ok(()) => match self.try_clone(alloc) {
+                Ok(copy) => opened(alloc, suite, copy.into_file(), passphrase),
+                Err(NoMemory) => Err(PuttyError::NoMemory),
+            },
             Err(e) => Err(e),
+        }
+    }
+
+    /// The same of a file that is handed over: its private bytes are opened in place, and its comment and blob are moved.
+    /// Refuses as `decrypt`.
+    #[tactic(auto, unfolding(crate::specs::Opened::decrypted), using(crate::proofs::AcceptedLaws::decrypted_holds))]
+    pub fn into_decrypted<S: Suite>(
+        self,
+        alloc: Global,
+        suite: &mut S,
+        passphrase: &str,
+    ) -> Result<Ppk, PuttyError>
+        ensures gives { GivesAsked PuttyError.NoMemory PuttyError.SuiteFault (λ ppk. ppk) result
+            (decrypted (S.meanings suite.old) passphrase.now self) (is_openable passphrase.now self)
+            (Rose (S.faults suite.old) (S.faults suite.new)) }
+        ensures suite { LeavesSuite S.meanings S.faults PuttyError.SuiteFault (is_openable passphrase.now self) result
+            suite.old suite.new }
+
+        // The MAC that was kept is that of the fields and of what was opened.
+        ensures covers { OnOk result (MacHolds (S.meanings suite.old) passphrase.now self) }
+
+        // The answer carries the MAC of its own version and fields.
+        ensures mac { IfOk result (λ ppk. CarriesMac (S.meanings suite.old) ppk) }
+    {
+        match openable(self.file(), passphrase) {
+            Ok(()) => opened(alloc, suite, self.into_file(), passphrase),
+            Err(e) => {
+                drop(self);
+                Err(e)
+            }
         }
     }
 }
@@ -75,22 +109,21 @@ fn openable(file: &PpkFile, passphrase: &str) -> Result<(), PuttyError>
 fn opened<S: Suite>(
     alloc: Global,
     suite: &mut S,
-    file: &PpkFile,
+    file: PpkFile,
     passphrase: &str,
 ) -> Result<Ppk, PuttyError>
-    requires { is_openable passphrase.now file.now ≡ true }
+    requires { is_openable passphrase.now file ≡ true }
     ensures gives { GivesAsked PuttyError.NoMemory PuttyError.SuiteFault (λ ppk. ppk) result
-        (decrypted (S.meanings suite.old) passphrase.now file.now) true (Rose (S.faults suite.old) (S.faults suite.new)) }
+        (decrypted (S.meanings suite.old) passphrase.now file) true (Rose (S.faults suite.old) (S.faults suite.new)) }
     ensures suite { LeavesSuite S.meanings S.faults PuttyError.SuiteFault true result suite.old suite.new }
     ensures mac { IfOk result (λ ppk. CarriesMac (S.meanings suite.old) ppk) }
 {
-    let block = match Vec::from_slice(alloc, file.private_bytes.as_slice()) {
-        Ok(block) => block,
-        Err(_) => return Err(PuttyError::NoMemory),
-    };
     match FileKeys::derive(suite, &file.sealing, passphrase) {
-        Ok(keys) => opened_under(alloc, suite, file, &keys, block),
-        Err(e) => Err(e),
+        Ok(keys) => opened_under(alloc, suite, file, &keys),
+        Err(e) => {
+            drop(file);
+            Err(e)
+        }
     }
 }
 
@@ -99,20 +132,20 @@ fn opened<S: Suite>(
 fn opened_under<S: Suite>(
     alloc: Global,
     suite: &mut S,
-    file: &PpkFile,
+    file: PpkFile,
     keys: &FileKeys,
-    block: Vec<u8>,
 ) -> Result<Ppk, PuttyError>
-    requires aligned { is_aligned block.items ≡ true }
-    requires short { vec_len block < 2 ^ 32 }
+    requires { is_aligned file.private_bytes ≡ true }
     ensures gives { GivesAsked PuttyError.NoMemory PuttyError.SuiteFault (λ ppk. ppk) result
-        (opened_file_of (S.meanings suite.old) (keys_seen keys.now) file.now
-        ((S.meanings suite.old).cbc_open (keys_seen keys.now).key (keys_seen keys.now).iv block.items))
+        (opened_file_of (S.meanings suite.old) (keys_seen keys.now) file
+        ((S.meanings suite.old).cbc_open (keys_seen keys.now).key (keys_seen keys.now).iv file.private_bytes))
         true (Rose (S.faults suite.old) (S.faults suite.new)) }
     ensures suite { LeavesSuite S.meanings S.faults PuttyError.SuiteFault true result suite.old suite.new }
     ensures mac { IfOk result (λ ppk. CarriesMac (S.meanings suite.old) ppk) }
 {
-    let mut block = block;
+    let mut file = file;
+    let private_bytes = replace(&mut file.private_bytes, Bytes::from_vec(Vec::new(alloc)));
+    let mut block = private_bytes.into_vec();
     match decrypt(
         suite,
         block.as_mut_slice(),
@@ -120,43 +153,49 @@ fn opened_under<S: Suite>(
         &keys.cipher_iv(),
     ) {
         Ok(()) => opened_file(alloc, suite, file, keys, block),
-        Err(e) => Err(e),
+        Err(e) => {
+            drop(file);
+            Err(e)
+        }
     }
 }
 
-/// The file of the opened bytes, where its MAC covers them.
+/// The file of the opened bytes, where its MAC covers them. Its own private bytes say nothing.
 #[tactic(auto, using(crate::proofs::OpenedLemmas::no_fault))]
 fn opened_file<S: Suite>(
     alloc: Global,
     suite: &S,
-    file: &PpkFile,
+    file: PpkFile,
     keys: &FileKeys,
     plain: Vec<u8>,
 ) -> Result<Ppk, PuttyError>
     requires { vec_len plain < 2 ^ 32 }
     ensures gives { Gives PuttyError.NoMemory (λ ppk. ppk) result
-        (opened_file_of (S.meanings suite.now) (keys_seen keys.now) file.now plain.items) }
+        (opened_file_of (S.meanings suite.now) (keys_seen keys.now) file plain.items) }
     ensures no_fault { result ≢ Err PuttyError.SuiteFault }
     ensures mac { IfOk result (λ ppk. CarriesMac (S.meanings suite.now) ppk) }
 {
-    let mac = keys.mac(alloc, suite, file, plain.as_slice())?;
-    if mac.as_slice() != file.mac.as_slice() {
-        return Err(PuttyError::MacValidation);
+    match keys.mac(alloc, suite, &file, plain.as_slice()) {
+        Ok(mac) => {
+            if mac.as_slice() != file.mac.as_slice() {
+                drop(file);
+                return Err(PuttyError::MacValidation);
+            }
+            cut(alloc, suite, file, plain)
+        }
+        Err(NoMemory) => {
+            drop(file);
+            Err(PuttyError::NoMemory)
+        }
     }
-    cut(alloc, suite, file, plain)
 }
 
 /// The file of the opened bytes, cut after their counted strings.
 #[tactic(auto, using(crate::proofs::OpenedLemmas::no_fault))]
-fn cut<S: Suite>(
-    alloc: Global,
-    suite: &S,
-    file: &PpkFile,
-    plain: Vec<u8>,
-) -> Result<Ppk, PuttyError>
+fn cut<S: Suite>(alloc: Global, suite: &S, file: PpkFile, plain: Vec<u8>) -> Result<Ppk, PuttyError>
     requires { vec_len plain < 2 ^ 32 }
     ensures gives { Gives PuttyError.NoMemory (λ ppk. ppk) result
-        (and_then (counted file.now.algorithm plain.items) (λ n. Ok (unsealed_of (S.meanings suite.now) file.now (take n plain.items)))) }
+        (and_then (counted file.algorithm plain.items) (λ n. Ok (unsealed_of (S.meanings suite.now) file (take n plain.items)))) }
     ensures no_fault { result ≢ Err PuttyError.SuiteFault }
     ensures mac { IfOk result (λ ppk. CarriesMac (S.meanings suite.now) ppk) }
 {
@@ -166,7 +205,10 @@ fn cut<S: Suite>(
             plain.truncate(len);
             Ok(unsealed(alloc, suite, file, Bytes::from_vec(plain))?)
         }
-        Err(e) => Err(e),
+        Err(e) => {
+            drop(file);
+            Err(e)
+        }
     }
 }
 
@@ -175,23 +217,15 @@ fn cut<S: Suite>(
 fn unsealed<S: Suite>(
     alloc: Global,
     suite: &S,
-    file: &PpkFile,
+    file: PpkFile,
     private_bytes: Bytes,
 ) -> Result<Ppk, NoMemory>
-    ensures is { IfOk result (λ ppk. ppk ≡ unsealed_of (S.meanings suite.now) file.now private_bytes) }
+    ensures is { IfOk result (λ ppk. ppk ≡ unsealed_of (S.meanings suite.now) file private_bytes) }
     ensures mac { IfOk result (λ ppk. CarriesMac (S.meanings suite.now) ppk) }
 {
-    let (comment, public_key) = both(
-        file.comment.try_clone(alloc),
-        file.public_key.try_clone(alloc),
-    )?;
-    let file = PpkFile {
-        sealing: PpkSealing::Unsealed(file.sealing.version()),
-        algorithm: file.algorithm,
-        comment,
-        public_key,
-        private_bytes,
-        mac: Bytes::from_vec(Vec::new(alloc)),
-    };
+    let mut file = file;
+    let version = file.sealing.version();
+    drop(replace(&mut file.sealing, PpkSealing::Unsealed(version)));
+    drop(replace(&mut file.private_bytes, private_bytes));
     with_own_mac(alloc, suite, file)
 }

@@ -9,7 +9,7 @@ ghost use Rattle.picky_ppk_parts.specs.PartsRefusal.{key_in_blob as key_in_blob_
 ghost use Rattle.picky_ppk_file.specs.PuttyRefusal.{plain_key as plain_key_of};
 ghost use Rattle.picky_ppk.specs.Mac.{CarriesMac};
 ghost use Rattle.picky_ppk.specs.Changed.{of_openssh, of_base_key, file_of_parts as file_of_parts_of};
-ghost use Rattle.picky_ppk.specs.KeyOf.{base_key_of, to_openssh, private_key_of, public_key_of, made_error};
+ghost use Rattle.picky_ppk.specs.KeyOf.{base_key_of, base_key_and_comment_of, to_openssh, private_key_of, public_key_of, made_error};
 ghost use Rattle.picky_ppk.specs.KeyOf.{plain_private as plain_private_of};
 
 use crate::changing::remade;
@@ -73,6 +73,19 @@ impl Ppk {
         }
         let file = self.file();
         key_of_parts(alloc, file.algorithm, &file.public_key, &file.private_bytes)
+    }
+
+    /// The same of a file that is handed over, with its comment, which is moved and not copied. Refuses as `base_key`.
+    pub fn into_base_key(self, alloc: Global) -> Result<(SshBasePrivateKey, Text), PuttyError>
+        ensures { Gives PuttyError.NoMemory (λ found. found) result (base_key_and_comment_of self) }
+    {
+        match self.base_key(alloc) {
+            Ok(key) => Ok((key, self.into_file().comment)),
+            Err(e) => {
+                drop(self);
+                Err(e)
+            }
+        }
     }
 
     /// The key as OpenSSH's, with the file's comment. With a passphrase its envelope is sealed under it and the salt.

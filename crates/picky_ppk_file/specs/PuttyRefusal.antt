@@ -11,10 +11,9 @@ use Rattle.picky_text.specs.Lines.{lines}
 use Rattle.picky_text.specs.Quote.{unquote}
 use Rattle.picky_keys.specs.declared.public_key.PublicKey.{PublicKey}
 use Rattle.picky_keys.specs.declared.key.SshBasePublicKey.{SshBasePublicKey}
-use Rattle.picky_keys.specs.declared.key.SshBasePublicKey.TheVariants as keys
 use Rattle.picky_keys.specs.declared.key.SshPublicKey.{SshPublicKey}
 use Rattle.picky_keys.specs.Blob.{blob_of}
-use Rattle.picky_keys.specs.Key.{public_key_of}
+use Rattle.picky_keys.specs.Key.{is_security_key_kind, kind_of, public_key_of}
 use Rattle.picky_keys.specs.LineRefusal.{is_short}
 use Rattle.picky_ppk_parts.specs.declared.error.PuttyError.{PuttyError}
 use Rattle.picky_ppk_parts.specs.declared.error.PuttyError.TheVariants as errors
@@ -82,11 +81,7 @@ putty_text key =
 
 -- a key whose secret a device keeps
 abbrev pub is_security_key : SshBasePublicKey → Bool
-is_security_key (keys.Rsa e n) = false
-is_security_key (keys.Ec curve point) = false
-is_security_key (keys.Ed key) = false
-is_security_key (keys.SkEcdsaSha2NistP256 point application) = true
-is_security_key (keys.SkEd25519 key application) = true
+is_security_key key = is_security_key_kind (kind_of key)
 
 -- PuTTY's public key for an OpenSSH one
 unfoldable pub of_openssh : SshPublicKey → Result PuttyPublicKey PuttyError

@@ -122,6 +122,20 @@ impl PuttyPublicKey {
         }
     }
 
+    /// The same of a key that is handed over, whose comment is moved and not copied. Refuses as `to_openssh`.
+    #[tactic(auto, unfolding(crate::specs::PuttyRefusal::to_openssh))]
+    pub fn into_openssh(self, alloc: Global) -> Result<SshPublicKey, PuttyError>
+        ensures { Gives PuttyError.NoMemory (λ key. key) result (to_openssh_of self) }
+    {
+        match key_in_blob(alloc, &self.blob) {
+            Ok(inner_key) => Ok(SshPublicKey {
+                inner_key,
+                comment: self.comment,
+            }),
+            Err(e) => Err(e),
+        }
+    }
+
     /// The comment.
     pub fn comment(&self) -> &str
         ensures { result.now ≡ self.now.comment }
@@ -311,11 +325,7 @@ fn text_room(body_len: usize, comment_len: usize) -> usize
 pub fn is_security_key(key: &SshBasePublicKey) -> bool
     ensures { result ≡ is_security_key_of key.now }
 {
-    match key {
-        SshBasePublicKey::Rsa { .. } | SshBasePublicKey::Ec { .. } | SshBasePublicKey::Ed { .. } =>
-            { false }
-        SshBasePublicKey::SkEcdsaSha2NistP256 { .. } | SshBasePublicKey::SkEd25519 { .. } => true,
-    }
+    key.kind().is_security_key()
 }
 
 /// The key without what is OpenSSH's alone.

@@ -112,9 +112,19 @@ fn seals_as(alloc: Global, version: PpkVersion, text: &str) -> Result<bool, Fail
     Ok(is_text(sealed.to_string(alloc), text)? && opens_to(alloc, &sealed, &ppk)?)
 }
 
+/// So it is where the file is moved.
+fn is_moved_and_sealed(alloc: Global) -> Result<bool, Fail> {
+    let ppk = ManuallyDrop::into_inner(p256_ppk(alloc, PpkVersion::V3)?);
+    let mut suite = kept(MemorySuite::new(alloc, &[]))?;
+    let padding = &PADDING[..ppk.padding_len()];
+    let sealed = kept(ppk.into_encrypted(alloc, &mut *suite, PASS, CONFIG, SALT, padding))?;
+    is_text(sealed.to_string(alloc), TOY_V3)
+}
+
 #[test]
 fn seals_and_opens_as_python_does(rt: HostRuntime) -> Result<(), Fail> {
     assert!(rt; seals_as(rt.alloc(), PpkVersion::V3, TOY_V3)?);
+    assert!(rt; is_moved_and_sealed(rt.alloc())?);
     let with_crlf = kept(TOY_V2.replace(rt.alloc(), "\n", "\r\n"))?;
     assert!(rt; seals_as(rt.alloc(), PpkVersion::V2, with_crlf.as_str())?);
     Ok(())
