@@ -87,42 +87,42 @@ fn draft(
         return Err(ConvertError::CommentNotCarried);
     }
     match builder_of(alloc, request, meaning) {
-        Ok(builder) => {
-            let draft = builder_draft(alloc, &builder, fresh);
-            drop(builder);
-            draft
-        }
+        Ok(builder) => builder_draft(alloc, builder, fresh),
         Err(NoMemory) => Err(ConvertError::NoMemory),
     }
 }
 
 /// The certificate of what is asked for. Refuses, in order: `Request`; `FreshTooShort`; `TooLong`.
 ///
-/// The terms are judged once: by `draft`, where there are fresh bytes enough for it.
+/// The terms are judged once: by `into_draft`, where there are fresh bytes enough for it.
 #[tactic(auto, unfolding(crate::specs::Drafted::drafted_of))]
 fn builder_draft(
     alloc: Global,
-    builder: &SshCertificateBuilder,
+    builder: SshCertificateBuilder,
     fresh: &[u8],
 ) -> Result<CertificateDraft, ConvertError>
-    ensures gives { Gives ConvertError.NoMemory draft_shown result (drafted_by builder.now fresh.now) }
+    ensures gives { Gives ConvertError.NoMemory draft_shown result (drafted_by builder fresh.now) }
     ensures whole { IfOk result IsWholeDraft }
-    ensures ranges { IsRequest builder.now }
+    ensures ranges { IsRequest builder }
     ensures bytes { IsBytes fresh.now }
 {
-    request_keeps_its_ranges(builder);
+    request_keeps_its_ranges(&builder);
     match nonce_of(fresh) {
-        Ok(nonce) => match builder.draft(alloc, &nonce) {
+        Ok(nonce) => match builder.into_draft(alloc, &nonce) {
             Ok(draft) => Ok(draft),
             Err(e) => Err(request_refusal(e)),
         },
-        Err(short) => match builder.terms().judge() {
-            Ok(_) => Err(short),
-            Err(e) => {
-                drop(short);
-                Err(request_refusal(e))
+        Err(short) => {
+            let judged = builder.terms().judge();
+            drop(builder);
+            match judged {
+                Ok(_) => Err(short),
+                Err(e) => {
+                    drop(short);
+                    Err(request_refusal(e))
+                }
             }
-        },
+        }
     }
 }
 

@@ -5,13 +5,13 @@ use Rattle.picky_conversion.specs.Drafted.{request_refusal}
 use Rattle.picky_conversion.proofs.DraftedLaws.{drafted_with, refused_with}
 use Rattle.picky_conversion.proofs.drafting.builder_draft.Goals as goal
 
-pub returns-in-Ok-draft-clause-gives : goal.returns-in-Ok-draft-clause-gives
-returns-in-Ok-draft-clause-gives c =
+pub returns-in-Ok-into_draft-clause-gives : goal.returns-in-Ok-into_draft-clause-gives
+returns-in-Ok-into_draft-clause-gives c =
     let nonce = c.in-Ok.ensures in
-    drafted_with c.args.builder.now c.args.fresh.now c.in-Ok.nonce (cc nonce) ∙ ap (map_err request_refusal) c.in-Ok-draft.ensures.gives
+    drafted_with c.args.builder c.args.fresh.now c.in-Ok.nonce (cc nonce) ∙ ap (map_err request_refusal) c.in-Ok-into_draft.ensures.gives
 
-pub returns-in-Err-draft-clause-gives : goal.returns-in-Err-draft-clause-gives
-returns-in-Err-draft-clause-gives c =
+pub returns-in-Err-into_draft-clause-gives : goal.returns-in-Err-into_draft-clause-gives
+returns-in-Err-into_draft-clause-gives c =
     let nonce = c.in-Ok.ensures in
     rw c.request_refusal.ensures
-    (refused_with c.args.builder.now c.args.fresh.now c.in-Ok.nonce c.in-Err-draft.e (cc nonce) c.in-Err-draft.ensures.gives)
+    (refused_with c.args.builder c.args.fresh.now c.in-Ok.nonce c.in-Err-into_draft.e (cc nonce) c.in-Err-into_draft.ensures.gives)

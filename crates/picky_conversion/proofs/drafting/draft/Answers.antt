@@ -10,6 +10,6 @@ pub returns-in-Ok-clause-back : goal.returns-in-Ok-clause-back
 returns-in-Ok-clause-back c =
     let carries : carries_comment targets.OpenSshPublic c.args.meaning.comment ≡ true =
     cc (c.carries_comment.ensures, c.as_str.ensures.bytes, c.if-not-carries_comment.false) in
-    draft_reads_back c.args.request c.args.meaning c.args.fresh.now c.builder_draft-draft.result carries
-    (subst IsRequest c.in-Ok.ensures c.builder_draft-draft.ensures.ranges) c.builder_draft-draft.ensures.bytes
-    (rw c.in-Ok.ensures at c.builder_draft-draft.ensures.gives)
+    draft_reads_back c.args.request c.args.meaning c.args.fresh.now c.builder_draft.result carries
+    (subst IsRequest c.in-Ok.ensures c.builder_draft.ensures.ranges) c.builder_draft.ensures.bytes
+    (rw c.in-Ok.ensures at c.builder_draft.ensures.gives)
