@@ -6,7 +6,7 @@ use picky_keys::PrivateKey;
 use picky_sshkey::{Kdf, KdfOption, PrivateKeyRef, SshPrivateKey, parse_pem};
 use picky_suite::PlainSuite;
 use picky_wire::{
-    Bytes, MemorySink, SliceSource, SshComplexTypeDecode, SshComplexTypeEncode, Text,
+    Bytes, MemorySink, SliceSource, SshComplexTypeDecode, SshComplexTypeEncode, Text, TryClone,
 };
 use std::alloc::Global;
 use std::mem::ManuallyDrop;
@@ -130,9 +130,14 @@ fn is_kept(alloc: Global, row: &PrivateRow, key: &SshPrivateKey) -> Result<bool,
 fn is_of_its_line(alloc: Global, row: &PrivateRow, key: &SshPrivateKey) -> Result<bool, Fail> {
     let public = ManuallyDrop::new(key_of(alloc, row.line)?);
     let part = ManuallyDrop::new(key.base_key().base_public_key(alloc)?);
+    let moved = ManuallyDrop::new(key.base_key().try_clone(alloc)?.into_public());
+    let blob = ManuallyDrop::new(key.base_key().public_blob(alloc)?);
+    let wanted = ManuallyDrop::new(public.to_blob(alloc)?);
     Ok(
         key.public_key().inner_key == *public
             && *part == *public
+            && *moved == *public
+            && *blob == *wanted
             && key.comment.as_str() == row.comment
             && key.inner_key().is_none() == row.is_security_key_kind,
     )

@@ -139,8 +139,17 @@ pub fn gives_back(alloc: Global, text: &str, key: &SshPrivateKey) -> Result<bool
     Ok(
         is_same_key(&given, key)
             && is_of_key(alloc, ppk.private_key(alloc), key)?
-            && gives(ppk.base_key(alloc), &key.base_key)?,
+            && gives(ppk.base_key(alloc), &key.base_key)?
+            && is_moved_out(alloc, &ppk, key)?,
     )
+}
+
+/// A copy of the file that is moved gives the key and its comment.
+fn is_moved_out(alloc: Global, ppk: &Ppk, key: &SshPrivateKey) -> Result<bool, Fail> {
+    let copy = ppk.try_clone(alloc)?;
+    let (base_key, comment) = copy.into_base_key(alloc)?;
+    let (base_key, comment) = (ManuallyDrop::new(base_key), ManuallyDrop::new(comment));
+    Ok(*base_key == key.base_key && *comment == key.comment)
 }
 
 /// Both are one key, and the first has no passphrase.

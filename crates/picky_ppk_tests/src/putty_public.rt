@@ -70,8 +70,10 @@ fn is_taken(alloc: Global, putty: &PuttyPublicKey, key: &SshPublicKey) -> Result
 /// PuTTY's key gives OpenSSH's back, and its parts.
 fn means(alloc: Global, putty: &PuttyPublicKey, key: &SshPublicKey) -> Result<bool, Fail> {
     let inner = kept(putty.to_inner_key(alloc))?;
+    let copy = putty.try_clone(alloc)?;
     Ok(
         gives(putty.to_openssh(alloc), key)?
+            && gives(copy.into_openssh(alloc), key)?
             && shown(&inner) == key.inner_key()
             && putty.comment() == key.comment.as_str(),
     )

@@ -99,10 +99,14 @@ fn sealed_of(alloc: Global, ppk: &Ppk) -> Result<ManuallyDrop<Ppk>, Fail> {
     kept(ppk.encrypt(alloc, &mut *suite, PASS, CONFIG, SALT, padding))
 }
 
-/// The sealed file is opened as the other.
+/// The sealed file is opened as the other, and so is a copy that is moved.
 fn opens_to(alloc: Global, sealed: &Ppk, ppk: &Ppk) -> Result<bool, Fail> {
     let mut suite = kept(MemorySuite::new(alloc, &[]))?;
-    gives(sealed.decrypt(alloc, &mut *suite, PASS), ppk)
+    let copy = sealed.try_clone(alloc)?;
+    Ok(
+        gives(sealed.decrypt(alloc, &mut *suite, PASS), ppk)?
+            && gives(copy.into_decrypted(alloc, &mut *suite, PASS), ppk)?,
+    )
 }
 
 /// The file of the P-256 key is sealed as the text, and opened again.
