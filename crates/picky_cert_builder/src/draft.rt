@@ -168,7 +168,7 @@ fn draft_by(
     match message_of(alloc, &certificate) {
         Ok(message) => Ok(CertificateDraft {
             certificate,
-            issuer: issuer.into_issuer(),
+            issuer: issuer.into_issuer_for_signer(),
             algorithm,
             message,
         }),

@@ -43,11 +43,11 @@ impl IssuerKey {
         ensures { IfOk result (λ issuer. issuer ≡ issuer_of self.now) }
     {
         let key = self.try_clone(alloc)?;
-        Ok(key.into_issuer())
+        Ok(key.into_issuer_for_signer())
     }
 
     /// The same issuer, into which the key is moved.
-    pub fn into_issuer(self) -> Issuer
+    pub fn into_issuer_for_signer(self) -> Issuer
         ensures { result ≡ issuer_of self }
     {
         match self {
