@@ -1,6 +1,6 @@
 -- The order in which a PuTTY public key is refused: its text line by line and then the joined body, and its blob.
-use Rattle.std.specs.Prelude.{◌==◌, ◌&&◌, List, [], ◌∷◌, ◌++◌, ℕ, Option, Some, None, Bool, true}
-use Rattle.std.specs.Prelude.{false, Result, Ok, Err, if◌then◌else◌, option_and_then}
+use Rattle.std.specs.Prelude.{◌==◌, ◌&&◌, List, [], ◌∷◌, ◌++◌, ℕ, Option, Some, None, Bool}
+use Rattle.std.specs.Prelude.{Result, Ok, Err, if◌then◌else◌, option_and_then}
 use Rattle.std.specs.List.{list_any, before_last, after_first}
 use Rattle.std.specs.Option.{ok_or}
 use Rattle.std.specs.Str.{bytes_eq}

@@ -67,12 +67,7 @@ pub fn write_file<S: Suite>(
 fn is_security_key(key: &SshBasePrivateKey) -> bool
     ensures { result ≡ is_security_key_of (public_part key.now) }
 {
-    match key {
-        SshBasePrivateKey::Rsa { .. }
-        | SshBasePrivateKey::Ec { .. }
-        | SshBasePrivateKey::Ed { .. } => false,
-        SshBasePrivateKey::SkEcdsaSha2NistP256 { .. } | SshBasePrivateKey::SkEd25519 { .. } => true,
-    }
+    key.kind().is_security_key()
 }
 
 /// The file that isn't sealed.

@@ -13,7 +13,7 @@ use crate::public::{write_line, write_putty};
 use crate::target::KeyTarget;
 use picky_key_text::{Key, Meaning, public_key};
 use picky_suite::Suite;
-use picky_wire::{NoMemory, Text};
+use picky_wire::Text;
 use std::alloc::Global;
 
 /// The text of the target for a key and a comment: of a public target for the public part of the key.

@@ -37,16 +37,17 @@ pub returns-in-Ppk-clause-gives : goal.returns-in-Ppk-clause-gives
 returns-in-Ppk-clause-gives g c =
     inr (inr (ppk_wants_private _ _ _ c.in-Ppk.version c.in-Ppk.config _ c.in-Public-key.key c.in-Ppk.is c.in-Public-key.is))
 
-pub returns-in-Ok-clause-gives : goal.returns-in-Ok-clause-gives
-returns-in-Ok-clause-gives g c =
+pub returns-in-OpenSshPublic-clause-gives : goal.returns-in-OpenSshPublic-clause-gives
+returns-in-OpenSshPublic-clause-gives g c =
     let m = g.S.Suite.meanings c.args.suite.now in
     let out : Output = record { pass = option_copied c.args.pass; fresh = c.args.fresh.now } in
-    let is = line_is_written m out c.args.target c.args.meaning c.in-Ok.key c.in-OpenSshPublic.is c.in-Ok.ensures in
-    gives_unasked errors.NoMemory _ (λ text. text) c.write_line-line.result _ _ _ _ is c.write_line-line.ensures
+    let is = line_is_written m out c.args.target c.args.meaning c.public_key.result c.in-OpenSshPublic.is c.public_key.ensures in
+    gives_unasked errors.NoMemory _ (λ text. text) c.write_line.result _ _ _ _ is c.write_line.ensures
 
-pub returns-in-Ok-public_key-clause-gives : goal.returns-in-Ok-public_key-clause-gives
-returns-in-Ok-public_key-clause-gives g c =
+pub returns-clause-gives : goal.returns-clause-gives
+returns-clause-gives g c =
     let m = g.S.Suite.meanings c.args.suite.now in
     let out : Output = record { pass = option_copied c.args.pass; fresh = c.args.fresh.now } in
-    let is = putty_is_written m out c.args.target c.args.meaning c.in-Ok-public_key.key c.in-PuttyPublic.is c.in-Ok-public_key.ensures in
+    let is = putty_is_written m out c.args.target c.args.meaning
+    c.public_key-in-PuttyPublic.result c.in-PuttyPublic.is c.public_key-in-PuttyPublic.ensures in
     gives_unasked errors.NoMemory _ (λ text. text) c.write_putty.result _ _ _ _ is c.write_putty.ensures
