@@ -8,15 +8,15 @@ use Rattle.picky_key_text.specs.Key.{private_meaning}
 
 -- it is what these mean
 pub file_key_means : (says : Result SshBasePrivateKey PuttyError) (own : List ℕ) (key : SshBasePrivateKey) (comment : List ℕ)
-    → and_then says (λ key. Ok (key, own)) ≡ Ok (key, comment)
+    → and_then {B = SshBasePrivateKey × List ℕ} says (λ key. Ok (key, own)) ≡ Ok (key, comment)
     → and_then says (λ key. Ok (private_meaning key own)) ≡ Ok (private_meaning key comment)
 file_key_means (Ok found) own key comment is =
-    let same : (found, own) ≡ (key, comment) = cc is in ap (λ both. Ok (private_meaning both.0 both.1)) same
+    let same : ◌≡◌ {A = SshBasePrivateKey × List ℕ} (found, own) (key, comment) = cc is in ap (λ both. Ok (private_meaning both.0 both.1)) same
 file_key_means (Err e) own key comment is = cc is
 
 -- and without a key there is no meaning
 pub no_file_key_means : (says : Result SshBasePrivateKey PuttyError) (own : List ℕ) (e : PuttyError)
-    → and_then says (λ key. Ok (key, own)) ≡ Err e → and_then says (λ key. Ok (private_meaning key own)) ≡ Err e
+    → and_then {B = SshBasePrivateKey × List ℕ} says (λ key. Ok (key, own)) ≡ Err e → and_then says (λ key. Ok (private_meaning key own)) ≡ Err e
 no_file_key_means (Ok found) own e is = cc is
 no_file_key_means (Err d) own e is = let same : d ≡ e = cc is in ap Err same
 
