@@ -155,7 +155,7 @@ fn is_of_line(alloc: Global, key: &SshPublicKey, line: &str) -> Result<bool, Fai
 /// The public part of what the text means is the line's key, with its comment.
 fn has_line(alloc: Global, text: &str, line: &str) -> Result<bool, Fail> {
     let meaning = meaning_of(alloc, text)?;
-    let key = ManuallyDrop::new(public_key(alloc, meaning)?);
+    let key = ManuallyDrop::new(public_key(meaning));
     is_of_line(alloc, &key, line)
 }
 
