@@ -253,7 +253,7 @@ def limits():
 def texts():
     """--help and --version, which read neither standard input nor the environment."""
     found = [b"usage: keypolicy decide USER MOMENT", b"keypolicy message"]
-    found += b"--help --version %% KEYPOLICY_VERIFIED cert-authority principals force-command source-address verify-required".split()
+    found += b"--help --version %% KEYPOLICY_VERIFIED command source verify-required option".split()
     found += b"NoLine NoAuthority NotClient NotYet Expired Principal CriticalOption BadSignature".split()
     found += [b"%d " % status for status in range(10)]
     patterns = {"--help": b"".join(b"(?=.*" + re.escape(name) + b")" for name in found) + b"usage: .*\n",
