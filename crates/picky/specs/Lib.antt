@@ -116,12 +116,12 @@ pub use Rattle.picky_cert_parts.specs.Field as CertPartField
 pub use Rattle.picky_cert_parts.specs.NumberTable
 pub use Rattle.picky_cert_parts.specs.Signature
 pub use Rattle.picky_cert_parts.specs.SignatureSpelled
+pub use Rattle.picky_cert_blob.specs.CertSeen
 pub use Rattle.picky_cert_blob.specs.Items as CertBlobItems
 pub use Rattle.picky_cert_blob.specs.Keeps as CertBlobKeeps
 pub use Rattle.picky_cert_blob.specs.Layout
 pub use Rattle.picky_cert_blob.specs.Listed
 pub use Rattle.picky_cert_blob.specs.Reason
-pub use Rattle.picky_cert_blob.specs.Seen
 pub use Rattle.picky_cert_blob.specs.Shown as CertBlobShown
 pub use Rattle.picky_cert_blob.specs.Spelled as CertBlobSpelled
 pub use Rattle.picky_cert_blob.specs.Subject

@@ -1,5 +1,6 @@
 -- Messages in a stream: each is the string of its bytes (draft-miller-ssh-agent-04).
-use Rattle.std.specs.Prelude.{◌≡◌, ◌≤◌, ◌<◌, ◌^◌, ◌++◌, ◌⊎◌, ℕ, List, [], length, Option, Some, None, Result, Ok, Err, IfOk, IfSome}
+use Rattle.std.specs.Prelude.{◌≡◌, ◌≤◌, ◌<◌, ◌^◌, ◌++◌, ◌⊎◌, ℕ, List, [], length, Option, Some, None, Result, Ok, Err}
+use Rattle.std.specs.Prelude.{IfOk, IfSome}
 use Rattle.std.specs.Int.{w32, to_be_bytes}
 use Rattle.picky_wire_base.specs.Wire.{string_of}
 use Rattle.picky_wire.specs.Count.{Rose}

@@ -50,7 +50,8 @@ Halts (Err statuses.WriteFault) rest left = rest ≡ left
 Halts (Err statuses.NoMemory) rest left = TakesPart rest left ⊎ TakesOne rest left
 Halts (Err statuses.TooMany) rest left = rest ≡ left
 
-pub record ReadsMessages (result : Result (Unit {0}) AgentStatus) (exchanges : List Exchange) (before after : List ℕ) : Type 0 where
+pub record ReadsMessages (result : Result (Unit {0}) AgentStatus) (exchanges : List Exchange)
+    (before after : List ℕ) : Type 0 where
   pub rest : List ℕ
   pub are : before ≡ asked exchanges ++ rest
   pub ends : EndsIn rest after

@@ -3,7 +3,8 @@
 ghost use Rattle.std.specs.Prelude.{◌≡◌, ◌≤◌, length, IfOk, IfSome};
 ghost use Rattle.picky_agent_state.specs.Message.{message_limit};
 ghost use Rattle.picky_agent.specs.Frame.{TakesMessage, Walks};
-ghost use Rattle.picky_agent.specs.inner.Frame.{Bodies, Lens, first_missing as first_missing_of, frame_error as frame_error_of};
+ghost use Rattle.picky_agent.specs.inner.Frame.{Bodies, Lens, first_missing as first_missing_of};
+ghost use Rattle.picky_agent.specs.inner.Frame.{frame_error as frame_error_of};
 
 use picky_wire::{Bytes, Source, WireError, fill, read_chunks};
 use std::alloc::Global;

@@ -1,4 +1,3 @@
-pub mod KeyLemmas
 pub mod EntryLemmas
 pub mod ReplyLemmas
 pub mod AskedLemmas

@@ -6,7 +6,8 @@ use Rattle.picky_keys.specs.Key.{kind_of, public_key_of}
 use Rattle.picky_sshkey_blob.specs.Key.{public_part}
 use Rattle.picky_agent_state.specs.Kept.{Kept, Machine, is_locked}
 use Rattle.picky_agent_state.specs.Held.{HasNone}
-use Rattle.picky_agent_state.specs.Request.{Request, SignRequest, Identities, Sign, Add, Remove, RemoveAll, Lock, Unlock, Unfit, request_of}
+use Rattle.picky_agent_state.specs.Request.{Request, Identities, Sign, Add, Remove, RemoveAll, Lock, Unlock, Unfit}
+use Rattle.picky_agent_state.specs.Request.{SignRequest, request_of}
 use Rattle.picky_agent_state.specs.Reply.{failure, listing, signed_reply}
 use Rattle.picky_agent_state.specs.Rows.{Fails, most_identities, shown}
 use Rattle.picky_agent_state.specs.Signing.{SigningWay, way_for}

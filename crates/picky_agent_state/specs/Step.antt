@@ -5,7 +5,8 @@ use Rattle.picky_suite.specs.Signs.{SignRelation}
 use Rattle.picky_keys.specs.Key.{kind_of, public_key_of}
 use Rattle.picky_agent_state.specs.Kept.{Kept, Machine, is_locked}
 use Rattle.picky_agent_state.specs.Held.{HasNone, IsAt}
-use Rattle.picky_agent_state.specs.Request.{Request, SignRequest, Identities, Sign, Add, Remove, RemoveAll, Lock, Unlock, Unfit, request_of}
+use Rattle.picky_agent_state.specs.Request.{Request, Identities, Sign, Add, Remove, RemoveAll, Lock, Unlock, Unfit}
+use Rattle.picky_agent_state.specs.Request.{SignRequest, request_of}
 use Rattle.picky_agent_state.specs.Reply.{failure, fitted, signed_reply}
 use Rattle.picky_agent_state.specs.Signing.{SigningWay, way_for}
 use Rattle.picky_agent_state.specs.Rows.{Fails, Lists, Adds, Removes, RemovesAll, Locks, Unlocks}
@@ -18,7 +19,8 @@ pub record Still (old : Machine) (row : Kept → List ℕ → Kept → Type 0) (
 -- ---- a signature with an identity
 
 -- the signer gave one that is good under the key
-pub record IsSignedReply (signs : SignRelation) (old : Machine) (asked : SignRequest) (way : SigningWay) (reply : List ℕ) (new : Machine) : Type 0 where
+pub record IsSignedReply (signs : SignRelation) (old : Machine) (asked : SignRequest) (way : SigningWay)
+    (reply : List ℕ) (new : Machine) : Type 0 where
   pub signature : List ℕ
   pub good : signs (public_key_of asked.key) way.0 asked.message signature
   pub replies : reply ≡ fitted (signed_reply way.1 signature)
@@ -31,7 +33,8 @@ pub record IsUnsignedReply (old : Machine) (reply : List ℕ) (new : Machine) : 
   pub rose : Rose old.faults new.faults
 
 -- the signer is asked; for a security key it is not, and the reply is the failure
-abbrev pub Asks : SignRelation → (old : Machine) → SignRequest → Option SigningWay → (reply : List ℕ) → (new : Machine) → Type 0
+abbrev pub Asks : SignRelation → (old : Machine) → SignRequest → Option SigningWay → (reply : List ℕ)
+    → (new : Machine) → Type 0
 Asks signs old asked (Some way) reply new = IsSignedReply signs old asked way reply new ⊎ IsUnsignedReply old reply new
 Asks signs old asked None reply new = Still old Fails reply new
 

@@ -9,7 +9,8 @@ ghost use Rattle.picky_sshkey_blob.specs.View.{key_seen as private_seen};
 ghost use Rattle.picky_agent_state.specs.Message.{IsMessage};
 ghost use Rattle.picky_agent_state.specs.Kept.{Kept, machine, new_agent, is_locked as is_locked_in};
 ghost use Rattle.picky_agent_state.specs.Request.{request_of, sign_request};
-ghost use Rattle.picky_agent_state.specs.Rows.{is_full, most_identities, opens as opens_in, Adds, Fails, Lists, Locks, Removes, RemovesAll, Succeeds, Unlocks};
+ghost use Rattle.picky_agent_state.specs.Rows.{is_full, most_identities, opens as opens_in, Adds, Fails, Lists};
+ghost use Rattle.picky_agent_state.specs.Rows.{Locks, Removes, RemovesAll, Succeeds, Unlocks};
 ghost use Rattle.picky_agent_state.specs.Step.{AsksSigner, AsksToSign, CanSign, Step};
 ghost use Rattle.picky_agent_state.specs.inner.Asked.{CanAdd, identity_seen};
 

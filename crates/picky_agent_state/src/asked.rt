@@ -4,7 +4,8 @@ ghost use Rattle.std.specs.Prelude.{◌≡◌, ◌^◌, ◌<◌, ◌≤◌, leng
 ghost use Rattle.picky_wire_base.specs.View.{Sees, why_in};
 ghost use Rattle.picky_keys.specs.View.{key_seen};
 ghost use Rattle.picky_agent_state.specs.Message.{IsMessage, message_limit};
-ghost use Rattle.picky_agent_state.specs.Request.{add_fields, key_string, lock_fields, remove_fields, request_of, sign_fields, unlock_fields};
+ghost use Rattle.picky_agent_state.specs.Request.{add_fields, key_string, lock_fields, remove_fields, request_of};
+ghost use Rattle.picky_agent_state.specs.Request.{sign_fields, unlock_fields};
 ghost use Rattle.picky_agent_state.specs.inner.Asked.{asked_found, asked_seen, KeepsAsked};
 
 use crate::message_type;

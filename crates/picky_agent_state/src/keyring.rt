@@ -1,6 +1,7 @@
 //! Identities in order, and the entry that each has in a list, which is made once.
 
-ghost use Rattle.std.specs.Prelude.{◌≡◌, ◌<◌, ◌≤◌, ◌∷◌, ◌++◌, [], length, map, remove as remove_from, slice_set, OnErr, OnOk};
+ghost use Rattle.std.specs.Prelude.{◌≡◌, ◌<◌, ◌≤◌, ◌∷◌, ◌++◌, [], length, map, remove as remove_from, slice_set};
+ghost use Rattle.std.specs.Prelude.{OnErr, OnOk};
 ghost use Rattle.picky_agent_state.specs.Reply.{entry as entry_in};
 ghost use Rattle.picky_agent_state.specs.Rows.{most_identities};
 ghost use Rattle.picky_agent_state.specs.inner.Entry.{HasEntry};

@@ -4,7 +4,8 @@ ghost use Rattle.std.specs.Prelude.{◌≡◌, ◌∷◌, ◌++◌, [], ◌^◌,
 ghost use Rattle.std.specs.Int.{w32, to_be_bytes};
 ghost use Rattle.std.specs.List.{concat};
 ghost use Rattle.picky_wire_base.specs.Wire.{string_of};
-ghost use Rattle.picky_agent_state.specs.Reply.{entry, failure as failure_reply, fitted, signed_reply, success as success_reply};
+ghost use Rattle.picky_agent_state.specs.Reply.{entry, failure as failure_reply, fitted, signed_reply};
+ghost use Rattle.picky_agent_state.specs.Reply.{success as success_reply};
 ghost use Rattle.picky_agent_state.specs.Rows.{most_identities};
 ghost use Rattle.picky_agent_state.specs.inner.Entry.{HasEntry};
 

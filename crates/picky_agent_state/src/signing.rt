@@ -6,7 +6,8 @@ ghost use Rattle.picky_keys.specs.declared.algorithm.SignatureAlgorithm.{Signatu
 ghost use Rattle.picky_keys.specs.Key.{kind_of};
 ghost use Rattle.picky_sshkey_blob.specs.Key.{public_part};
 ghost use Rattle.picky_agent_state.specs.Kept.{Kept, machine};
-ghost use Rattle.picky_agent_state.specs.Signing.{algorithm_for as algorithm_of, is_set as is_set_in, rsa_hash as rsa_hash_of, way_for as way_of};
+ghost use Rattle.picky_agent_state.specs.Signing.{algorithm_for as algorithm_of, is_set as is_set_in};
+ghost use Rattle.picky_agent_state.specs.Signing.{rsa_hash as rsa_hash_of, way_for as way_of};
 ghost use Rattle.picky_agent_state.specs.Request.{sign_request};
 ghost use Rattle.picky_agent_state.specs.Step.{Asks};
 

@@ -1,5 +1,6 @@
 -- One option of a line: NAME or NAME="TEXT" (sshd(8), "AUTHORIZED_KEYS FILE FORMAT").
-use Rattle.std.specs.Prelude.{◌≡◌, ◌≢◌, ◌-◌, ◌<◌, ◌==◌, ◌||◌, ◌&&◌, ℕ, Bool, true, List, [], ◌∷◌, ◌++◌, length, map, slice_index}
+use Rattle.std.specs.Prelude.{◌≡◌, ◌≢◌, ◌-◌, ◌<◌, ◌==◌, ◌||◌, ◌&&◌, ℕ, Bool, true, List, [], ◌∷◌, ◌++◌, length, map}
+use Rattle.std.specs.Prelude.{slice_index}
 use Rattle.std.specs.Prelude.{Option, Some, None, not, if◌then◌else◌}
 use Rattle.std.specs.Char.{is_ascii_alphanumeric, to_ascii_lowercase}
 use Rattle.std.specs.List.{AllByRecursion, after_first, before_first, list_all, list_any}
@@ -71,4 +72,6 @@ value_in text =
 -- the option that the text says, where it says one
 unfoldable pub option_in : (text : List ℕ) → Option AuthOption
 option_in text =
-    if is_name (before_first is_equals text) then option_map (auth_option_named (before_first is_equals text)) (value_in text) else None
+    if is_name (before_first is_equals text)
+    then option_map (auth_option_named (before_first is_equals text)) (value_in text)
+    else None

@@ -1,5 +1,6 @@
 -- Quotes in a line of authorized keys (sshd(8), "AUTHORIZED_KEYS FILE FORMAT"): what stands between them, and the parts outside.
-use Rattle.std.specs.Prelude.{◌≡◌, ◌==◌, ◌||◌, ◌&&◌, ℕ, Bool, true, false, not, List, [], ◌∷◌, ◌++◌, length, drop, if◌then◌else◌}
+use Rattle.std.specs.Prelude.{◌≡◌, ◌==◌, ◌||◌, ◌&&◌, ℕ, Bool, true, false, not, List, [], ◌∷◌, ◌++◌, length, drop}
+use Rattle.std.specs.Prelude.{if◌then◌else◌}
 use Rattle.std.specs.List.{onto_first}
 use Rattle.picky_authorized.specs.declared.quotes.PartEnd.{PartEnd}
 use Rattle.picky_authorized.specs.declared.quotes.PartEnd.TheVariants.{Blank, Comma}

@@ -3,7 +3,8 @@
 ghost use Rattle.std.specs.Prelude.{◌≡◌, ◌^◌, ◌<◌, ◌≤◌, ◌+◌, ◌++◌, IfOk, IfSome, OnOk, length, string_bytes, string_len};
 ghost use Rattle.std.specs.List.{list_all};
 ghost use Rattle.std.specs.Option.{option_map};
-ghost use Rattle.picky_authorized.specs.OptionText.{is_name as is_name_bytes, is_name_byte as is_byte_of_name, auth_option_named, option_in, quoted_text_in, escaped_value};
+ghost use Rattle.picky_authorized.specs.OptionText.{is_name as is_name_bytes, is_name_byte as is_byte_of_name};
+ghost use Rattle.picky_authorized.specs.OptionText.{auth_option_named, option_in, quoted_text_in, escaped_value};
 
 use picky_wire::{NoMemory, Text, TryClone};
 use std::alloc::Global;

@@ -2,7 +2,9 @@
 
 ghost use Rattle.std.specs.Prelude.{◌≡◌, ◌≢◌, ◌^◌, ◌<◌, true, false, Some, None, IfOk, IfSome, IfNone, length};
 ghost use Rattle.picky_keys.specs.LineRefusal.{line_meaning};
-ghost use Rattle.picky_authorized.specs.Lines.{begins_with_key as begins_so, content_in, content_of as content_of_line, key_content, optioned_line as optioned_line_of, without_blanks};
+ghost use Rattle.picky_authorized.specs.Lines.{begins_with_key as begins_so, content_in};
+ghost use Rattle.picky_authorized.specs.Lines.{content_of as content_of_line, key_content};
+ghost use Rattle.picky_authorized.specs.Lines.{optioned_line as optioned_line_of, without_blanks};
 
 use crate::auth_option::AuthOption;
 use crate::entry::AuthContent;

@@ -2,7 +2,8 @@
 
 ghost use Rattle.std.specs.Prelude.{◌≡◌};
 ghost use Rattle.std.specs.List.{list_all};
-ghost use Rattle.picky_authorized.specs.KnownOptions.{are_fit as are_fit_options, is_fit as is_fit_option, is_named as is_named_so, named_count};
+ghost use Rattle.picky_authorized.specs.KnownOptions.{are_fit as are_fit_options, is_fit as is_fit_option};
+ghost use Rattle.picky_authorized.specs.KnownOptions.{is_named as is_named_so, named_count};
 
 use crate::auth_option::AuthOption;
 

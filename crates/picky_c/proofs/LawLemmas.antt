@@ -11,7 +11,7 @@ use Rattle.picky_target.specs.{Texts.{text_for}, Written.{written}, declared.tar
 use Rattle.picky_target.specs.declared.error.ConvertError.{ConvertError}
 use Rattle.picky_target.specs.declared.target.KeyTarget.TheVariants as targets
 use Rattle.picky_conversion.specs.{Convert.{conversion}, Outside.{Outside, reader}}
-use Rattle.picky_conversion.proofs.JudgedLemmas.{IsOwn, input_is_own, mapped_is, next_is, written_is_own}
+use Rattle.picky_conversion.proofs.JudgedLemmas.{IsOwnConvert, input_is_own, mapped_is, next_is, written_is_own}
 use Rattle.picky_sshkey_blob.specs.declared.error.SshPrivateKeyError.{SshPrivateKeyError}
 use Rattle.picky_sshkey_blob.specs.declared.error.SshPrivateKeyError.TheVariants as private
 use Rattle.picky_ppk_parts.specs.declared.error.PuttyError.{PuttyError}
@@ -51,7 +51,7 @@ written_of_key m out to meaning e is =
     next_is IsOfKey (judged_meaning out to meaning) (λ _. Ok (text_for m out to meaning)) e
     (λ f was. first_of_key (passes out to meaning) to places f was) (λ x f was other. cc other) is
 
-own_is_answered : (e : ConvertError) → IsOfKey e → IsOwn e → IsAnswered e
+own_is_answered : (e : ConvertError) → IsOfKey e → IsOwnConvert e → IsAnswered e
 own_is_answered e of_key own = record { of_key = of_key; no_memory = own.0; no_fault = own.1 }
 
 pub reading_answered : (r : Reader) (text : List ℕ) (e : ReadError) → reading r text ≡ Err e → IsAnswered (errors.Input e)

@@ -50,7 +50,8 @@ converting_is_asked target text pass_in pass_out fresh =
 -- the bytes are the target's one text for the one thing that the key text means, and are read back
 abbrev pub IsConverted : (target : ℕ) → (text pass_in pass_out fresh : List ℕ) → (bytes : List ℕ) → Type 0
 IsConverted number text pass_in pass_out fresh bytes =
-    (target : KeyTarget) × (target_numbered number ≡ Some target) × IsConversion (outside pass_in pass_out fresh) target text bytes
+    (target : KeyTarget) × (target_numbered number ≡ Some target)
+    × IsConversion (outside pass_in pass_out fresh) target text bytes
 
 -- ---- a public key
 
@@ -58,7 +59,8 @@ IsConverted number text pass_in pass_out fresh bytes =
 abbrev pub public_key : List ℕ → Result SshPublicKey PickyError
 public_key text =
     and_then (utf8 errors.TextNotUtf8 text) (λ text.
-    and_then (map_err (λ e. refusal_of (input_refusal e)) (reading plain_reader text)) (λ meaning. Ok (public_key_of meaning)))
+    and_then (map_err (λ e. refusal_of (input_refusal e)) (reading plain_reader text)) (λ meaning.
+    Ok (public_key_of meaning)))
 
 -- the text means a key whose public part this is
 abbrev pub IsPublicKey : (text : List ℕ) → SshPublicKey → Type 0
@@ -77,8 +79,10 @@ IsFingerprint text bytes = (key : SshPublicKey) × IsPublicKey text key × (byte
 -- its part with a number
 abbrev pub public_part_in : (text : List ℕ) → (part : ℕ) → Result (List ℕ) PickyError
 public_part_in text part =
-    and_then (ok_or (part_numbered part) errors.NoSuchPart) (λ part. and_then (public_key text) (λ key. Ok (part_of part key)))
+    and_then (ok_or (part_numbered part) errors.NoSuchPart) (λ part.
+    and_then (public_key text) (λ key. Ok (part_of part key)))
 
 abbrev pub IsPart : (text : List ℕ) → (part : ℕ) → (bytes : List ℕ) → Type 0
 IsPart text number bytes =
-    (key : SshPublicKey) × IsPublicKey text key × ((part : Part) × (part_numbered number ≡ Some part) × (bytes ≡ part_of part key))
+    (key : SshPublicKey) × IsPublicKey text key
+    × ((part : Part) × (part_numbered number ≡ Some part) × (bytes ≡ part_of part key))

@@ -1,5 +1,6 @@
 -- The name of each number that a call answers. It is the one that keyconv says of the refusal: a path, and a variant's name.
-use Rattle.std.specs.Prelude.{◌≡◌, ◌==◌, ◌-◌, ◌/◌, ◌%◌, ◌++◌, ◌∷◌, [], List, ℕ, codes, length, replicate, get_or, if◌then◌else◌}
+use Rattle.std.specs.Prelude.{◌≡◌, ◌==◌, ◌-◌, ◌/◌, ◌%◌, ◌++◌, ◌∷◌, [], List, ℕ, codes, length, replicate, get_or}
+use Rattle.std.specs.Prelude.{if◌then◌else◌}
 
 -- the names of a call itself, by number
 abbrev pub own_names : List (List ℕ)

@@ -4,7 +4,8 @@
 
 ghost use Rattle.std.specs.Prelude.{false};
 ghost use Rattle.picky_c.specs.Answer.{AnswersCall};
-ghost use Rattle.picky_c.specs.Calls.{IsConverted, IsFingerprint, IsPart, converted as converted_of, converting_is_asked, fingerprint as fingerprint_of, public_part_in};
+ghost use Rattle.picky_c.specs.Calls.{IsConverted, IsFingerprint, IsPart, converted as converted_of};
+ghost use Rattle.picky_c.specs.Calls.{converting_is_asked, fingerprint as fingerprint_of, public_part_in};
 ghost use Rattle.picky_c.specs.Name.{IsNamed, error_name};
 
 use crate::answer::{PickyAnswer, hand};

@@ -3,7 +3,10 @@
 //! Those of one kind of text stand in a hundred, in the order of its errors.
 
 ghost use Rattle.std.specs.Prelude.{◌≡◌, ◌<◌};
-ghost use Rattle.picky_c.specs.Number.{certificate_number as certificate_number_of, error_number, private_number as private_number_of, public_number as public_number_of, putty_number as putty_number_of, read_number as read_number_of, refused_number};
+ghost use Rattle.picky_c.specs.Number.{certificate_number as certificate_number_of, error_number};
+ghost use Rattle.picky_c.specs.Number.{private_number as private_number_of, public_number as public_number_of};
+ghost use Rattle.picky_c.specs.Number.{putty_number as putty_number_of, read_number as read_number_of};
+ghost use Rattle.picky_c.specs.Number.{refused_number};
 
 use crate::error::PickyError;
 use picky_cert::SshCertificateError;

@@ -4,7 +4,8 @@ ghost use Rattle.std.specs.Prelude.{◌≡◌, ◌++◌, IfOk, codes, string_byt
 ghost use Rattle.base64.specs.Engines.{standard_no_pad};
 ghost use Rattle.base64.specs.GeneralPurpose.{encode_of};
 ghost use Rattle.picky_wire_base.specs.Gives.{Gives};
-ghost use Rattle.picky_c.specs.Calls.{IsFingerprint, IsPart, IsPublicKey, fingerprint as fingerprint_of, public_key as public_key_of, public_part_in};
+ghost use Rattle.picky_c.specs.Calls.{IsFingerprint, IsPart, IsPublicKey, fingerprint as fingerprint_of};
+ghost use Rattle.picky_c.specs.Calls.{public_key as public_key_of, public_part_in};
 
 use crate::error::{PickyError, refusal};
 use crate::given::as_text;

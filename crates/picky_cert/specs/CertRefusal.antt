@@ -9,7 +9,8 @@ use Rattle.picky_cert_parts.specs.declared.error.SshCertificateError.TheVariants
 use Rattle.picky_cert_parts.specs.declared.error.SshCertTypeError.TheVariants as types
 use Rattle.picky_cert_parts.specs.declared.error.SshCriticalOptionError.TheVariants as options
 use Rattle.picky_cert_parts.specs.declared.error.SshSignatureError.TheVariants as signatures
-use Rattle.picky_cert_parts.specs.CertFromWire.{cert_type_error, certificate_error, extension_error, option_error, signature_error}
+use Rattle.picky_cert_parts.specs.CertFromWire.{cert_type_error, certificate_error, extension_error, option_error}
+use Rattle.picky_cert_parts.specs.CertFromWire.{signature_error}
 use Rattle.picky_cert_parts.specs.CertNames.{cert_key_type_name}
 use Rattle.picky_cert_blob.specs.Reason.{CertReason}
 use Rattle.picky_cert_blob.specs.declared.part.CertPart.TheVariants as parts

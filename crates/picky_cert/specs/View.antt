@@ -12,7 +12,7 @@ use Rattle.picky_wire_base.specs.declared.stopped.Stopped.{Stopped}
 use Rattle.picky_cert.specs.declared.view.CertView.{CertView}
 use Rattle.picky_cert.specs.Certificate.{certified}
 use Rattle.picky_cert_blob.specs.Layout.{body}
-use Rattle.picky_cert_blob.specs.Seen.{BodyLies, SignatureLies, body_seen, signature_seen}
+use Rattle.picky_cert_blob.specs.CertSeen.{BodyLies, SignatureLies, body_seen, signature_seen}
 
 -- what is signed
 abbrev pub body_in : CertView → BodyView

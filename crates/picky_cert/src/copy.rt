@@ -8,7 +8,7 @@ ghost use Rattle.picky_cert.specs.Certificate.{bare};
 ghost use Rattle.picky_cert.specs.Keeps.{IsCertificate};
 ghost use Rattle.picky_cert.specs.View.{body_in, cert_seen, signature_in};
 ghost use Rattle.picky_cert_blob.specs.Items.{principal_item, option_item, extension_item};
-ghost use Rattle.picky_cert_blob.specs.Seen.{HasItems, blob_seen, signature_seen};
+ghost use Rattle.picky_cert_blob.specs.CertSeen.{HasItems, blob_seen, signature_seen};
 ghost use Rattle.picky_cert_blob.specs.View.{AreItems, values_in};
 
 use crate::certificate::SshCertificate;

@@ -3,7 +3,8 @@
 ghost use Rattle.std.specs.Prelude.{◌≡◌, ◌⊎◌};
 ghost use Rattle.picky_wire.specs.Principals.{IsPrincipal};
 ghost use Rattle.picky_wire_base.specs.View.{why_of};
-ghost use Rattle.picky_cert.specs.CertRefusal.{cert_error, issuer_error, extensions_error, name_error, options_error, own_error, signature_part_error, type_error};
+ghost use Rattle.picky_cert.specs.CertRefusal.{cert_error, issuer_error, extensions_error, name_error, options_error};
+ghost use Rattle.picky_cert.specs.CertRefusal.{own_error, signature_part_error, type_error};
 ghost use Rattle.picky_cert.specs.View.{IsRefusal, NamesText};
 ghost use Rattle.picky_wire_base.specs.View.{reason_of};
 

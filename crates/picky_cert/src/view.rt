@@ -7,7 +7,7 @@ ghost use Rattle.picky_cert.specs.Keeps.{IsCertificate};
 ghost use Rattle.picky_cert.specs.declared.certificate.SshCertificate.{SshCertificate as Certificate};
 ghost use Rattle.picky_cert.specs.View.{body_in, cert_seen, CertLies, IsRefusal};
 ghost use Rattle.picky_cert_blob.specs.Reason.{why_in};
-ghost use Rattle.picky_cert_blob.specs.Seen.{HasItems};
+ghost use Rattle.picky_cert_blob.specs.CertSeen.{HasItems};
 ghost use Rattle.picky_wire_base.specs.View.{SeenAt};
 
 use picky_cert_blob::{CertPart, body_at, signature_at};

@@ -11,7 +11,7 @@ use Rattle.picky_keys.specs.declared.view.PublicView.{PublicView}
 use Rattle.picky_cert_blob.specs.declared.part.CertPart.TheVariants as parts
 use Rattle.picky_cert_blob.specs.Layout.{issuer}
 use Rattle.picky_wire_base.specs.Combine.{at}
-use Rattle.picky_cert_blob.specs.Seen.{IssuerLies}
+use Rattle.picky_cert_blob.specs.CertSeen.{IssuerLies}
 use Rattle.picky_wire_base.specs.View.{SeenAt}
 use Rattle.picky_cert_blob.proofs.PlaceLemmas.{block_at, enclosed_passed, enclosed_stopped}
 

@@ -17,7 +17,7 @@ use Rattle.picky_wire_base.specs.View.{SeenAt, reason_of}
 use Rattle.picky_cert_blob.specs.View.{ArePassed, IsPassed, NameLies}
 use Rattle.picky_cert_blob.specs.Items.{principal_item, option_item, extension_item}
 use Rattle.picky_cert_blob.specs.carried.Items.{principal_item_solid, option_item_solid, extension_item_solid}
-use Rattle.picky_cert_blob.specs.Seen.{option_seen, extension_seen}
+use Rattle.picky_cert_blob.specs.CertSeen.{option_seen, extension_seen}
 use Rattle.picky_cert_blob.specs.declared.kinds.OptionView.{OptionView}
 use Rattle.picky_cert_blob.specs.declared.kinds.ExtensionView.{ExtensionView}
 use Rattle.picky_wire_base.specs.declared.stopped.Stopped.{Stopped}

@@ -6,7 +6,7 @@ pub mod Reason
 pub mod Items
 pub mod Layout
 pub mod View
-pub mod Seen
+pub mod CertSeen
 pub mod Spelled
 pub mod Keeps
 pub mod Shown

@@ -2,7 +2,7 @@
 
 ghost use Rattle.std.specs.Prelude.{◌^◌, ◌<◌, IfOk, length};
 ghost use Rattle.picky_cert_blob.specs.Layout.{body as body_layout};
-ghost use Rattle.picky_cert_blob.specs.Seen.{body_seen, BodyLies, HasItems};
+ghost use Rattle.picky_cert_blob.specs.CertSeen.{body_seen, BodyLies, HasItems};
 ghost use Rattle.picky_wire_base.specs.View.{SeenAt};
 
 use crate::grants::{GrantsView, grants_at};

@@ -5,8 +5,9 @@ ghost use Rattle.picky_wire_base.specs.Wire.{string};
 ghost use Rattle.picky_wire_base.specs.View.{Lies, end_of};
 ghost use Rattle.picky_keys.specs.View.{key_seen};
 ghost use Rattle.picky_cert_blob.specs.Items.{option_item, extension_item};
-ghost use Rattle.picky_cert_blob.specs.Layout.{critical_options, extensions as extensions_layout, grants as grants_layout, issuer as issuer_layout};
-ghost use Rattle.picky_cert_blob.specs.Seen.{grants_seen, GrantsLie, IssuerLies};
+ghost use Rattle.picky_cert_blob.specs.Layout.{critical_options, extensions as extensions_layout};
+ghost use Rattle.picky_cert_blob.specs.Layout.{grants as grants_layout, issuer as issuer_layout};
+ghost use Rattle.picky_cert_blob.specs.CertSeen.{grants_seen, GrantsLie, IssuerLies};
 ghost use Rattle.picky_wire_base.specs.View.{SeenAt};
 ghost use Rattle.picky_cert_blob.specs.View.{AreItems, values_in};
 

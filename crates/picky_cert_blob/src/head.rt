@@ -7,7 +7,7 @@ ghost use Rattle.picky_keys.specs.View.{key_seen, PartsLie};
 ghost use Rattle.picky_cert_blob.specs.declared.part.CertPart.TheVariants as parts;
 ghost use Rattle.picky_cert_blob.specs.Layout.{cert_name, head as head_layout, head_for};
 ghost use Rattle.picky_cert_blob.specs.Reason.{within};
-ghost use Rattle.picky_cert_blob.specs.Seen.{head_seen, HeadLies, HeadLiesBehind, type_named, NameLies};
+ghost use Rattle.picky_cert_blob.specs.CertSeen.{head_seen, HeadLies, HeadLiesBehind, type_named, NameLies};
 ghost use Rattle.picky_wire_base.specs.View.{SeenAt};
 
 use crate::part::CertPart;

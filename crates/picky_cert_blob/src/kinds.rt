@@ -3,7 +3,7 @@
 ghost use Rattle.std.specs.Prelude.{⊤};
 ghost use Rattle.picky_cert_blob.specs.Items.{principal_item, option_item, extension_item};
 ghost use Rattle.picky_cert_blob.specs.carried.Items.{principal_item_solid, option_item_solid, extension_item_solid};
-ghost use Rattle.picky_cert_blob.specs.Seen.{extension_seen, option_seen};
+ghost use Rattle.picky_cert_blob.specs.CertSeen.{extension_seen, option_seen};
 ghost use Rattle.picky_wire_base.specs.View.{SeenAt};
 
 use crate::items::Item;

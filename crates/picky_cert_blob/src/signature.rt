@@ -7,7 +7,7 @@ ghost use Rattle.picky_cert_blob.specs.declared.part.CertPart.TheVariants as par
 ghost use Rattle.picky_cert_blob.specs.Layout.{signature_part};
 ghost use Rattle.picky_wire_base.specs.Combine.{at};
 ghost use Rattle.picky_cert_blob.specs.Reason.{in_signature};
-ghost use Rattle.picky_cert_blob.specs.Seen.{PayloadLies, SignatureLies, signature_seen};
+ghost use Rattle.picky_cert_blob.specs.CertSeen.{PayloadLies, SignatureLies, signature_seen};
 ghost use Rattle.picky_wire_base.specs.View.{SeenAt};
 
 use crate::part::CertPart;

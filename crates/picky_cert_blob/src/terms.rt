@@ -4,8 +4,9 @@ ghost use Rattle.std.specs.Prelude.{⊤, IfOk};
 ghost use Rattle.picky_wire_base.specs.Wire.{string};
 ghost use Rattle.picky_wire_base.specs.View.{Lies, end_of};
 ghost use Rattle.picky_cert_blob.specs.Items.{principal_item};
-ghost use Rattle.picky_cert_blob.specs.Layout.{principals as principals_layout, terms as terms_layout, type_number, valid_after, valid_before};
-ghost use Rattle.picky_cert_blob.specs.Seen.{terms_seen, TermsLie};
+ghost use Rattle.picky_cert_blob.specs.Layout.{principals as principals_layout, terms as terms_layout, type_number};
+ghost use Rattle.picky_cert_blob.specs.Layout.{valid_after, valid_before};
+ghost use Rattle.picky_cert_blob.specs.CertSeen.{terms_seen, TermsLie};
 ghost use Rattle.picky_wire_base.specs.View.{SeenAt};
 ghost use Rattle.picky_cert_blob.specs.View.{AreItems, values_in};
 

@@ -2,7 +2,8 @@
 
 ghost use Rattle.std.specs.Prelude.{◌≡◌};
 ghost use Rattle.picky_cert_blob.specs.Subject.{is_for, subject_kind as subject_kind_of};
-ghost use Rattle.picky_cert_builder.specs.Terms.{algorithm_by, granted, is_made as is_made_here, judged_signature, judged_terms};
+ghost use Rattle.picky_cert_builder.specs.Terms.{algorithm_by, granted, is_made as is_made_here, judged_signature};
+ghost use Rattle.picky_cert_builder.specs.Terms.{judged_terms};
 ghost use Rattle.picky_cert_builder.specs.Terms.{judged_subject, judged_use, ordered};
 
 use crate::algorithm::{default_algorithm, format_of};

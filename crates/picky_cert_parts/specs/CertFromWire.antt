@@ -30,4 +30,5 @@ signature_error = said_as signatures.IoError signatures.InvalidUtf8 signatures.T
 
 -- the error of a certificate that says what the wire's error says
 abbrev pub certificate_error : WireError → SshCertificateError
-certificate_error = said_as certificates.CertificateProcessingError certificates.InvalidUtf8 certificates.TooLong certificates.NoMemory
+certificate_error =
+    said_as certificates.CertificateProcessingError certificates.InvalidUtf8 certificates.TooLong certificates.NoMemory

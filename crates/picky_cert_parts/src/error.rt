@@ -2,8 +2,11 @@
 
 ghost use Rattle.std.specs.Prelude.{◌≡◌, ◌⊎◌};
 ghost use Rattle.picky_wire_base.specs.declared.error.SizeError.TheVariants as sizes;
-ghost use Rattle.picky_cert_parts.specs.CertFromWire.{cert_type_error, option_error, extension_error, signature_error, certificate_error};
-ghost use Rattle.picky_cert_parts.specs.carried.CertFromWire.{cert_type_error_apart, option_error_apart, extension_error_apart, signature_error_apart, certificate_error_apart};
+ghost use Rattle.picky_cert_parts.specs.CertFromWire.{cert_type_error, option_error, extension_error};
+ghost use Rattle.picky_cert_parts.specs.CertFromWire.{signature_error, certificate_error};
+ghost use Rattle.picky_cert_parts.specs.carried.CertFromWire.{cert_type_error_apart, option_error_apart};
+ghost use Rattle.picky_cert_parts.specs.carried.CertFromWire.{extension_error_apart, signature_error_apart};
+ghost use Rattle.picky_cert_parts.specs.carried.CertFromWire.{certificate_error_apart};
 ghost use Rattle.picky_cert_parts.specs.declared.error.SshCertificateError.TheVariants as errors;
 
 use picky_keys::SshPublicKeyError;

@@ -7,7 +7,8 @@ ghost use Rattle.picky_wire.specs.Takes.{Takes, HasCause, causes_of};
 ghost use Rattle.picky_cert_parts.specs.CertFromWire.{signature_error};
 ghost use Rattle.picky_cert_parts.specs.Signature.{signature_format, standard_fields, sk_fields, signature_rest, signature};
 ghost use Rattle.picky_cert_parts.specs.Signature.{total_of, behind_total, signature_of, signature_reason, IsSignature};
-ghost use Rattle.picky_cert_parts.specs.carried.Signature.{signature_spells, signature_solid, signature_own, reason_is_no_want};
+ghost use Rattle.picky_cert_parts.specs.carried.Signature.{signature_spells, signature_solid, signature_own};
+ghost use Rattle.picky_cert_parts.specs.carried.Signature.{reason_is_no_want};
 
 use crate::error::SshSignatureError;
 use crate::fields::{byte_field, bytes_field, text_field, uint32_field};

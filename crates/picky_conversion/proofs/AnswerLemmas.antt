@@ -22,7 +22,7 @@ use Rattle.picky_conversion.specs.Convert.{AnswersKeyText, IsFaultOf, LeavesAske
 use Rattle.picky_conversion.specs.Outside.{Outside, reader}
 use Rattle.picky_conversion.specs.Want.{IsFault}
 use Rattle.picky_conversion.specs.Refusal.{input_refusal, issuer_refusal}
-use Rattle.picky_conversion.proofs.JudgedLemmas.{IsOwn, input_is_own, issuer_is_own, written_is_own}
+use Rattle.picky_conversion.proofs.JudgedLemmas.{IsOwnConvert, input_is_own, issuer_is_own, written_is_own}
 
 -- ---- the suite's faults
 
@@ -79,7 +79,7 @@ pub record IsRefuser (place refuse : ReadError → ConvertError) : Type 0 where
   pub want : refuse input_errors.NoMemory ≡ errors.NoMemory
   pub other : (e : ReadError) → (e ≡ input_errors.NoMemory) ⊎ (refuse e ≡ place e)
   pub fault : (form : Form) → IsFault (refuse (fault_as form))
-  pub own : (r : Reader) (text : List ℕ) (e : ReadError) → reading r text ≡ Err e → IsOwn (place e)
+  pub own : (r : Reader) (text : List ℕ) (e : ReadError) → reading r text ≡ Err e → IsOwnConvert (place e)
 
 input_other : (e : ReadError) → (e ≡ input_errors.NoMemory) ⊎ (input_refusal e ≡ errors.Input e)
 input_other input_errors.NoMemory = inl refl

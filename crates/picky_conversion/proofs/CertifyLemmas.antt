@@ -9,7 +9,7 @@ use Rattle.picky_cert_builder.specs.declared.builder.SshCertificateBuilder.{SshC
 use Rattle.picky_cert_builder.specs.declared.error.SshCertificateGenerationError.{SshCertificateGenerationError}
 use Rattle.picky_cert_builder.specs.{Draft.{Unsigned, requested}, Request.{terms_of}, Terms.{judged_terms}}
 use Rattle.picky_cert_builder.specs.declared.error.SshCertificateGenerationError.TheVariants as requests
-use Rattle.picky_cert_builder.proofs.OwnLaws.{IsOwn as IsRequestsOwn, judged_is_own as judged_request, requested_is_own}
+use Rattle.picky_cert_builder.proofs.OwnLaws.{IsOwnGeneration, judged_is_own as judged_request, requested_is_own}
 use Rattle.picky_key_text.specs.{declared.error.ReadError.{ReadError}, declared.meaning.Meaning.{Meaning}}
 use Rattle.picky_key_text.specs.Order.{fault_of as input_fault, reading}
 use Rattle.picky_target.specs.{declared.error.ConvertError.{ConvertError}, Judged.{carries_comment}}
@@ -24,16 +24,16 @@ use Rattle.picky_conversion.specs.Convert.{LeavesAskedSuite}
 use Rattle.picky_conversion.specs.Made.{AnswersMade, AnswersPlain, LeavesAskedSigner, Made, ToSign, Whole, is_signed}
 use Rattle.picky_conversion.specs.{Outside.{Outside, reader}, Want.{IsFault}, Refusal.{input_refusal}}
 use Rattle.picky_conversion.proofs.AnswerLemmas.{ReadingRefuses, refused_gives, refuses_input}
-use Rattle.picky_conversion.proofs.JudgedLemmas.{IsOwn, mapped_is, next_is, reading_is_own}
+use Rattle.picky_conversion.proofs.JudgedLemmas.{IsOwnConvert, mapped_is, next_is, reading_is_own}
 
 -- ---- the order's own refusals
 
-either_is : {A : Type 0} (b : Bool) (x : Result A ConvertError) (f e : ConvertError) → IsOwn f → (x ≡ Err e → IsOwn e)
-    → (if b then x else Err f) ≡ Err e → IsOwn e
+either_is : {A : Type 0} (b : Bool) (x : Result A ConvertError) (f e : ConvertError) → IsOwnConvert f → (x ≡ Err e → IsOwnConvert e)
+    → (if b then x else Err f) ≡ Err e → IsOwnConvert e
 either_is true x f e own first is = first is
-either_is false x f e own first is = let same : f ≡ e = cc is in subst IsOwn same own
+either_is false x f e own first is = let same : f ≡ e = cc is in subst IsOwnConvert same own
 
-request_is_own : (e : SshCertificateGenerationError) → IsRequestsOwn e → IsOwn (request_refusal e)
+request_is_own : (e : SshCertificateGenerationError) → IsOwnGeneration e → IsOwnConvert (request_refusal e)
 request_is_own requests.NoMemory own = absurd (own.0 refl)
 request_is_own requests.SignatureError own = absurd (own.1 refl)
 request_is_own requests.TooLong own = (λ want. cc want, λ fault. fault, λ fault. fault)
@@ -47,52 +47,52 @@ request_is_own requests.HostCertificateExtensions own = (λ want. cc want, λ fa
 request_is_own requests.HostCertificateCriticalOptions own = (λ want. cc want, λ fault. fault, λ fault. cc fault)
 request_is_own requests.NoKeyType own = (λ want. cc want, λ fault. fault, λ fault. cc fault)
 
-own_comment : IsOwn errors.CommentNotCarried
+own_comment : IsOwnConvert errors.CommentNotCarried
 own_comment = (λ want. cc want, λ fault. fault, λ fault. fault)
 
-own_fresh : IsOwn errors.FreshTooShort
+own_fresh : IsOwnConvert errors.FreshTooShort
 own_fresh = (λ want. cc want, λ fault. fault, λ fault. fault)
 
-pub own_length : IsOwn errors.TooLong
+pub own_length : IsOwnConvert errors.TooLong
 own_length = (λ want. cc want, λ fault. fault, λ fault. fault)
 
-nonce_is_own : (fresh : List ℕ) (e : ConvertError) → nonce_in fresh ≡ Err e → IsOwn e
+nonce_is_own : (fresh : List ℕ) (e : ConvertError) → nonce_in fresh ≡ Err e → IsOwnConvert e
 nonce_is_own fresh e is = either_is (nat_le 32 (length fresh)) (Ok (take 32 fresh)) errors.FreshTooShort e own_fresh (λ is. cc is) is
 
-drafted_of_is_own : (b : SshCertificateBuilder) (fresh : List ℕ) (e : ConvertError) → drafted_of b fresh ≡ Err e → IsOwn e
+drafted_of_is_own : (b : SshCertificateBuilder) (fresh : List ℕ) (e : ConvertError) → drafted_of b fresh ≡ Err e → IsOwnConvert e
 unfolding drafted_of
 drafted_of_is_own b fresh e is =
-    next_is IsOwn (map_err request_refusal (judged_terms (terms_of b)))
+    next_is IsOwnConvert (map_err request_refusal (judged_terms (terms_of b)))
     (λ _. and_then (nonce_in fresh) (λ nonce. map_err request_refusal (requested b nonce))) e
-    (λ f. mapped_is IsOwn request_refusal (judged_terms (terms_of b)) f (λ g was. request_is_own g (judged_request (terms_of b) g was)))
-    (λ fit f was. next_is IsOwn (nonce_in fresh) (λ nonce. map_err request_refusal (requested b nonce)) f (nonce_is_own fresh)
-    (λ nonce g so. mapped_is IsOwn request_refusal (requested b nonce) g (λ h was. request_is_own h (requested_is_own b nonce h was)))) is
+    (λ f. mapped_is IsOwnConvert request_refusal (judged_terms (terms_of b)) f (λ g was. request_is_own g (judged_request (terms_of b) g was)))
+    (λ fit f was. next_is IsOwnConvert (nonce_in fresh) (λ nonce. map_err request_refusal (requested b nonce)) f (nonce_is_own fresh)
+    (λ nonce g so. mapped_is IsOwnConvert request_refusal (requested b nonce) g (λ h was. request_is_own h (requested_is_own b nonce h was)))) is
 
-drafted_is_own : (request : CertRequest) (m : Meaning) (fresh : List ℕ) (e : ConvertError) → drafted request m fresh ≡ Err e → IsOwn e
+drafted_is_own : (request : CertRequest) (m : Meaning) (fresh : List ℕ) (e : ConvertError) → drafted request m fresh ≡ Err e → IsOwnConvert e
 unfolding drafted
 drafted_is_own request m fresh e is =
     either_is (carries_comment targets.OpenSshPublic m.comment) _ errors.CommentNotCarried e own_comment
     (drafted_of_is_own (builder_asked request m) fresh e) is
 
 pub line_is_own : (request : CertRequest) (m : Meaning) (fresh : List ℕ) (e : ConvertError) → line_drafted request m fresh ≡ Err e
-    → IsOwn e
+    → IsOwnConvert e
 unfolding line_drafted
 line_is_own request m fresh e is =
-    next_is IsOwn (drafted request m fresh) if_line_fits e (drafted_is_own request m fresh)
+    next_is IsOwnConvert (drafted request m fresh) if_line_fits e (drafted_is_own request m fresh)
     (λ u f was. either_is (is_short (unsigned_line u.certificate)) (Ok u) errors.TooLong f own_length (λ is. cc is)) is
 
 pub certification_is_own : (o : Outside) (request : CertRequest) (input : List ℕ) (e : ConvertError)
-    → certification o request input ≡ Err e → IsOwn e
+    → certification o request input ≡ Err e → IsOwnConvert e
 unfolding certification
 certification_is_own o request input e is =
-    next_is IsOwn (map_err errors.Input (reading (reader o) input)) (λ m. line_drafted request m o.output.fresh) e
+    next_is IsOwnConvert (map_err errors.Input (reading (reader o) input)) (λ m. line_drafted request m o.output.fresh) e
     (reading_is_own (reader o) input) (λ m f was. line_is_own request m o.output.fresh f) is
 
 pub drafting_is_own : (o : Outside) (request : CertRequest) (input : List ℕ) (e : ConvertError)
-    → drafting o request input ≡ Err e → IsOwn e
+    → drafting o request input ≡ Err e → IsOwnConvert e
 unfolding drafting
 drafting_is_own o request input e is =
-    next_is IsOwn (map_err errors.Input (reading (reader o) input)) (λ m. drafted request m o.output.fresh) e
+    next_is IsOwnConvert (map_err errors.Input (reading (reader o) input)) (λ m. drafted request m o.output.fresh) e
     (reading_is_own (reader o) input) (λ m f was. drafted_is_own request m o.output.fresh f) is
 
 -- ---- where no device signs

@@ -28,7 +28,7 @@ use Rattle.picky_conversion.specs.Want.{IsFault}
 use Rattle.picky_conversion.specs.Refusal.{issuer_refusal}
 use Rattle.picky_conversion.proofs.AnswerLemmas.{ReadingRefuses, either_false, either_true, input_fault_is, refused_gives, refuses_issuer}
 use Rattle.picky_conversion.proofs.CertifyLemmas.{certification_is_own, drafting_is_own}
-use Rattle.picky_conversion.proofs.JudgedLemmas.{IsOwn, issuer_is_own, mapped_is, next_is}
+use Rattle.picky_conversion.proofs.JudgedLemmas.{IsOwnConvert, issuer_is_own, mapped_is, next_is}
 
 -- ---- the same answer to what is the same
 
@@ -53,24 +53,24 @@ pub issuer_is_refused : (o : Outside) (text : List ℕ) (e : ReadError) → read
     → issuer_read o (Some text) ≡ Err (errors.Issuer e)
 issuer_is_refused o text e refused = rw refused refl
 
-issuer_own : (o : Outside) (issuer : Option (List ℕ)) (e : ConvertError) → issuer_read o issuer ≡ Err e → IsOwn e
+issuer_own : (o : Outside) (issuer : Option (List ℕ)) (e : ConvertError) → issuer_read o issuer ≡ Err e → IsOwnConvert e
 issuer_own o None e is = cc is
 issuer_own o (Some text) e is =
-    next_is IsOwn (map_err errors.Issuer (reading (reader o) text)) (λ m. Ok (Some m.key)) e
-    (λ f. mapped_is IsOwn errors.Issuer (reading (reader o) text) f (issuer_is_own (reader o) text)) (λ m f was. cc was) is
+    next_is IsOwnConvert (map_err errors.Issuer (reading (reader o) text)) (λ m. Ok (Some m.key)) e
+    (λ f. mapped_is IsOwnConvert errors.Issuer (reading (reader o) text) f (issuer_is_own (reader o) text)) (λ m f was. cc was) is
 
 pub issued_is_own : (o : Outside) (options : CertOptions) (input : List ℕ) (e : ConvertError) → issued o options input ≡ Err e
-    → IsOwn e
+    → IsOwnConvert e
 unfolding issued
 issued_is_own o options input e is =
-    next_is IsOwn (issuer_read o (issuer_text_part input)) _ e (issuer_own o (issuer_text_part input))
+    next_is IsOwnConvert (issuer_read o (issuer_text_part input)) _ e (issuer_own o (issuer_text_part input))
     (λ issuer f was. certification_is_own o (request_by options issuer) (key_part input) f) is
 
 pub unsigned_is_own : (o : Outside) (options : CertOptions) (input : List ℕ) (e : ConvertError) → unsigned o options input ≡ Err e
-    → IsOwn e
+    → IsOwnConvert e
 unfolding unsigned
 unsigned_is_own o options input e is =
-    next_is IsOwn (issuer_read o (issuer_text_part input)) _ e (issuer_own o (issuer_text_part input))
+    next_is IsOwnConvert (issuer_read o (issuer_text_part input)) _ e (issuer_own o (issuer_text_part input))
     (λ issuer f was. drafting_is_own o (request_by options issuer) (key_part input) f) is
 
 -- ---- what is issued by an issuer that was read

@@ -19,13 +19,13 @@ use Rattle.picky_conversion.specs.Want.{WantsMemory, IsFault, IsSignerFault}
 use Rattle.picky_key_text.proofs.RefusalLaws.{reading_own as no_fault}
 
 -- the refusal is the definition's own: no want of memory, and no device's fault
-abbrev pub IsOwn : ConvertError → Type 0
-IsOwn e = (WantsMemory e → ⊥) × (IsFault e → ⊥) × (IsSignerFault e → ⊥)
+abbrev pub IsOwnConvert : ConvertError → Type 0
+IsOwnConvert e = (WantsMemory e → ⊥) × (IsFault e → ⊥) × (IsSignerFault e → ⊥)
 
 neither : {A B : Type 0} → (A → ⊥) → (B → ⊥) → (A ⊎ B) → ⊥
 neither a b = λ either. elim either [ inl x ↦ a x | inr y ↦ b y ]
 
-place_is_own : (to : KeyTarget) (place : Place) → IsOwn (place_refusal to place)
+place_is_own : (to : KeyTarget) (place : Place) → IsOwnConvert (place_refusal to place)
 place_is_own to PrivateKey = (λ want. cc want, λ fault. fault, λ fault. fault)
 place_is_own to Kind = (neither (λ is. cc is) (λ is. cc is), λ is. cc is, λ fault. fault)
 place_is_own to Comment = (λ want. cc want, λ fault. fault, λ fault. fault)
@@ -48,10 +48,10 @@ failing_is_own P test error (place ∷ more) e each refused =
     go true later is = later is
     go false later is = let same : error place ≡ e = cc is in subst P same (each place)
 
-judged_is_own : (out : Output) (to : KeyTarget) (meaning : Meaning) (e : ConvertError) → judged_meaning out to meaning ≡ Err e → IsOwn e
+judged_is_own : (out : Output) (to : KeyTarget) (meaning : Meaning) (e : ConvertError) → judged_meaning out to meaning ≡ Err e → IsOwnConvert e
 unfolding judged_meaning
 judged_is_own out to meaning e refused =
-    failing_is_own IsOwn (passes out to meaning) (place_refusal to) places e
+    failing_is_own IsOwnConvert (passes out to meaning) (place_refusal to) places e
     (place_is_own to) refused
 
 -- a step after which only refusals of the next one come
@@ -61,10 +61,10 @@ next_is P (Ok x) next e first second refused = second x e refl refused
 next_is P (Err f) next e first second refused = let is : f ≡ e = cc refused in subst P is (first f refl)
 
 pub written_is_own : (m : Meanings) (out : Output) (to : KeyTarget) (meaning : Meaning) (e : ConvertError)
-    → written m out to meaning ≡ Err e → IsOwn e
+    → written m out to meaning ≡ Err e → IsOwnConvert e
 unfolding written
 written_is_own m out to meaning e refused =
-    next_is IsOwn (judged_meaning out to meaning) (λ _. Ok (text_for m out to meaning)) e (judged_is_own out to meaning)
+    next_is IsOwnConvert (judged_meaning out to meaning) (λ _. Ok (text_for m out to meaning)) e (judged_is_own out to meaning)
     (λ x f was is. cc is) refused
 
 pub mapped_is : {E F A : Type 0} (P : F → Type 0) (f : E → F) (r : Result A E) (e : F)
@@ -72,11 +72,11 @@ pub mapped_is : {E F A : Type 0} (P : F → Type 0) (f : E → F) (r : Result A 
 mapped_is P f (Ok x) e each refused = cc refused
 mapped_is P f (Err g) e each refused = let is : f g ≡ e = cc refused in subst P is (each g refl)
 
-pub input_is_own : (r : Reader) (text : List ℕ) (g : ReadError) → reading r text ≡ Err g → IsOwn (errors.Input g)
+pub input_is_own : (r : Reader) (text : List ℕ) (g : ReadError) → reading r text ≡ Err g → IsOwnConvert (errors.Input g)
 input_is_own r text g is = let known = no_fault r text g is in (known.1, known.0, λ fault. fault)
 
-pub reading_is_own : (r : Reader) (text : List ℕ) (e : ConvertError) → map_err errors.Input (reading r text) ≡ Err e → IsOwn e
-reading_is_own r text e refused = mapped_is IsOwn errors.Input (reading r text) e (input_is_own r text) refused
+pub reading_is_own : (r : Reader) (text : List ℕ) (e : ConvertError) → map_err errors.Input (reading r text) ≡ Err e → IsOwnConvert e
+reading_is_own r text e refused = mapped_is IsOwnConvert errors.Input (reading r text) e (input_is_own r text) refused
 
-pub issuer_is_own : (r : Reader) (text : List ℕ) (g : ReadError) → reading r text ≡ Err g → IsOwn (errors.Issuer g)
+pub issuer_is_own : (r : Reader) (text : List ℕ) (g : ReadError) → reading r text ≡ Err g → IsOwnConvert (errors.Issuer g)
 issuer_is_own r text g is = let known = no_fault r text g is in (known.1, known.0, λ fault. fault)

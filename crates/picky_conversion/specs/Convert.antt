@@ -1,4 +1,5 @@
--- The conversion to a key's text: what is written for what a key text means, the order in which it is refused, and when a suite is asked.
+-- The conversion to a key's text: what is written for what a key text means, the order in which it is refused, and when a
+-- suite is asked.
 use Rattle.std.specs.Prelude.{◌≡◌, ◌⊎◌, ◌||◌, List, ℕ, Bool, false, Result, Ok, Err}
 use Rattle.picky_wire_base.specs.Outcome.{and_then, map_err}
 use Rattle.picky_suite.specs.Failures.{IsAskedFault}
@@ -58,7 +59,8 @@ IsFaultOf o target input e rose =
 
 -- what the conversion to a key's text answers: it, or the first reason; in its place want of memory may come, or the suite's
 -- fault
-abbrev pub AnswersKeyText : {X : Type 0} → (X → List ℕ) → Outside → KeyTarget → List ℕ → Type 0 → Result X ConvertError → Type 0
+abbrev pub AnswersKeyText : {X : Type 0} → (X → List ℕ) → Outside → KeyTarget → List ℕ → Type 0
+    → Result X ConvertError → Type 0
 AnswersKeyText view o target input rose result =
     AnswersPlain view (conversion o target input) (λ e. IsFaultOf o target input e rose) result
 

@@ -1,5 +1,6 @@
 -- The order in which a request is refused for a key and a comment before a device signs, and what is signed.
-use Rattle.std.specs.Prelude.{◌≡◌, ◌<◌, ◌≤◌, ◌^◌, ◌++◌, ◌∷◌, [], List, ℕ, Result, Ok, Err, length, take, nat_le, if◌then◌else◌}
+use Rattle.std.specs.Prelude.{◌≡◌, ◌<◌, ◌≤◌, ◌^◌, ◌++◌, ◌∷◌, [], List, ℕ, Result, Ok, Err, length, take, nat_le}
+use Rattle.std.specs.Prelude.{if◌then◌else◌}
 use Rattle.picky_wire_base.specs.Outcome.{and_then, map_err}
 use Rattle.picky_text.specs.Base64.{base64_of}
 use Rattle.picky_keys.specs.LineRefusal.{is_short}

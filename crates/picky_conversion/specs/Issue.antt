@@ -78,16 +78,19 @@ IsIssued signs o options input text =
 
 abbrev pub IsIssuedBytes : Outside → CertOptions → (input text : List ℕ) → Type 0
 IsIssuedBytes o options input text =
-    (issuer : Option Key) × IsIssuer o (issuer_text_part input) issuer × IsToBeSigned o (request_by options issuer) (key_part input) text
+    (issuer : Option Key) × IsIssuer o (issuer_text_part input) issuer
+    × IsToBeSigned o (request_by options issuer) (key_part input) text
 
 -- ---- where there is one
 
 abbrev pub CanIssue : Outside → CertOptions → List ℕ → Type 0
 CanIssue o options input =
-    (issuer : Option Key) × IsIssuer o (issuer_text_part input) issuer × (meaning : Meaning) × Reads (reader o) (key_part input) meaning
+    (issuer : Option Key) × IsIssuer o (issuer_text_part input) issuer
+    × (meaning : Meaning) × Reads (reader o) (key_part input) meaning
     × CanConvert o (Certified (request_by options issuer)) meaning
 
 abbrev pub CanIssueBytes : Outside → CertOptions → List ℕ → Type 0
 CanIssueBytes o options input =
-    (issuer : Option Key) × IsIssuer o (issuer_text_part input) issuer × (meaning : Meaning) × Reads (reader o) (key_part input) meaning
+    (issuer : Option Key) × IsIssuer o (issuer_text_part input) issuer
+    × (meaning : Meaning) × Reads (reader o) (key_part input) meaning
     × (u : Unsigned) × IsDrafted (request_by options issuer) meaning o.output.fresh u

@@ -51,8 +51,8 @@ AnswersPlain view says IsFault (Err e) = (e ≡ errors.NoMemory) ⊎ IsFault e �
 
 -- what is answered where a device may sign: the text; or the first reason why there is none; in its place want of memory may
 -- come, or the suite's fault
-abbrev pub AnswersMade : {X : Type 0} → SignRelation → (X → List ℕ) → Result Made ConvertError → (IsFault : ConvertError → Type 0)
-    → (signer_rose : Type 0) → Result X ConvertError → Type 0
+abbrev pub AnswersMade : {X : Type 0} → SignRelation → (X → List ℕ) → Result Made ConvertError
+    → (IsFault : ConvertError → Type 0) → (signer_rose : Type 0) → Result X ConvertError → Type 0
 AnswersMade signs view says IsFault signer_rose (Ok text) = WritesMade signs says (view text)
 AnswersMade signs view says IsFault signer_rose (Err e) =
     (e ≡ errors.NoMemory) ⊎ IsFault e ⊎ IsLeft signs says signer_rose e ⊎ (says ≡ Err e)

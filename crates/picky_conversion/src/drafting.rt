@@ -7,7 +7,8 @@ ghost use Rattle.picky_wire_base.specs.Gives.{Gives};
 ghost use Rattle.picky_cert.specs.Spelled.{signed_of};
 ghost use Rattle.picky_cert_builder.specs.Drafted.{IsWholeDraft, draft_shown};
 ghost use Rattle.picky_cert_builder.specs.Keeps.{IsRequest};
-ghost use Rattle.picky_conversion.specs.Drafted.{drafted, drafted_of as drafted_by, line_drafted, nonce_in, unsigned_line, request_refusal as request_refusal_of};
+ghost use Rattle.picky_conversion.specs.Drafted.{drafted, drafted_of as drafted_by, line_drafted, nonce_in};
+ghost use Rattle.picky_conversion.specs.Drafted.{unsigned_line, request_refusal as request_refusal_of};
 ghost use Rattle.picky_conversion.specs.inner.Signed.{IsReadBack};
 
 use crate::request::{CertRequest, builder_of};

@@ -10,7 +10,8 @@ ghost use Rattle.picky_key_text.specs.Order.{asks};
 ghost use Rattle.picky_cert.specs.Spelled.{signed_of};
 ghost use Rattle.picky_conversion.specs.Certify.{IsInputFault, drafting, hex_line};
 ghost use Rattle.picky_conversion.specs.Convert.{LeavesAskedSuite};
-ghost use Rattle.picky_conversion.specs.Issue.{IsIssuingFault, asks_issuer, issued, issued_bytes, issuer_fault, issuer_read, issuing_asks};
+ghost use Rattle.picky_conversion.specs.Issue.{IsIssuingFault, asks_issuer, issued, issued_bytes, issuer_fault};
+ghost use Rattle.picky_conversion.specs.Issue.{issuer_read, issuing_asks};
 ghost use Rattle.picky_conversion.specs.Made.{AnswersMade, AnswersPlain, LeavesAskedSigner, ToSign, is_signed};
 ghost use Rattle.picky_conversion.specs.Outside.{outside};
 

@@ -17,7 +17,7 @@ use Rattle.picky_conversion.specs.Outside.{Outside}
 use Rattle.picky_wire.specs.Count.{Rose}
 use Rattle.picky_convert.specs.Run.{input_limit, outcome, outcome_asks, outcome_signs, Ends, IsOutsideFault, IsTooLongFor, Moment, RefusesInput}
 use Rattle.picky_conversion.proofs.CertifyLemmas.{own_length}
-use Rattle.picky_conversion.proofs.JudgedLemmas.{IsOwn}
+use Rattle.picky_conversion.proofs.JudgedLemmas.{IsOwnConvert}
 use Rattle.picky_convert.proofs.OutcomeLemmas.{answer_is_own}
 
 -- ---- the statuses of an outcome
@@ -72,13 +72,13 @@ no_text_of o command input refused = elim (outcome_err o command input statuses.
 
 -- a refusal neither says that memory ran out nor that a device failed
 pub refused_is_own : (signs : SignRelation) (o : Outside) (command : Command) (input : List ℕ) (e : ConvertError)
-    → RefusesInput signs (outcome o command input) e → IsOwn e
+    → RefusesInput signs (outcome o command input) e → IsOwnConvert e
 refused_is_own signs o command input e (inl refused) = elim (outcome_err o command input (statuses.Refused e) refused) [
   | TooLong long is ↦ cc is
   | NoText none is ↦ cc is
-  | Refused f why is ↦ let same : f ≡ e = cc is in subst IsOwn same (answer_is_own o command input f why)
+  | Refused f why is ↦ let same : f ≡ e = cc is in subst IsOwnConvert same (answer_is_own o command input f why)
 ]
-refused_is_own signs o command input e (inr long) = subst IsOwn (sym long.0) own_length
+refused_is_own signs o command input e (inr long) = subst IsOwnConvert (sym long.0) own_length
 
 -- ---- how a run ends where nothing was counted
 

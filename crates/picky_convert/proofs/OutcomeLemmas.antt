@@ -27,7 +27,7 @@ use Rattle.picky_convert.specs.declared.error.Status.TheVariants as statuses
 use Rattle.picky_conversion.proofs.AnswerLemmas.{input_fault_is, output_fault_is, opening_asks, sealing_asks}
 use Rattle.picky_conversion.proofs.CertifyLemmas.{one_counted}
 use Rattle.picky_conversion.proofs.IssueLemmas.{issued_is_own, issuing_fault_asks, unsigned_is_own}
-use Rattle.picky_conversion.proofs.JudgedLemmas.{IsOwn, next_is, reading_is_own, written_is_own}
+use Rattle.picky_conversion.proofs.JudgedLemmas.{IsOwnConvert, next_is, reading_is_own, written_is_own}
 
 -- ---- what a command refuses
 
@@ -36,13 +36,13 @@ mapped_err : {A B : Type 0} (f : A → B) (r : Result A ConvertError) (e : Conve
 mapped_err f (Ok x) e is = cc is
 mapped_err f (Err g) e is = let same : g ≡ e = cc is in ap Err same
 
-conversion_is_own : (o : Outside) (target : KeyTarget) (text : List ℕ) (e : ConvertError) → conversion o target text ≡ Err e → IsOwn e
+conversion_is_own : (o : Outside) (target : KeyTarget) (text : List ℕ) (e : ConvertError) → conversion o target text ≡ Err e → IsOwnConvert e
 unfolding conversion
 conversion_is_own o target text e refused =
-    next_is IsOwn (map_err errors.Input (reading (reader o) text)) (written o.meanings o.output target) e
+    next_is IsOwnConvert (map_err errors.Input (reading (reader o) text)) (written o.meanings o.output target) e
     (reading_is_own (reader o) text) (λ meaning f was is. written_is_own o.meanings o.output target meaning f is) refused
 
-pub answer_is_own : (o : Outside) (command : Command) (text : List ℕ) (e : ConvertError) → answer o command text ≡ Err e → IsOwn e
+pub answer_is_own : (o : Outside) (command : Command) (text : List ℕ) (e : ConvertError) → answer o command text ≡ Err e → IsOwnConvert e
 answer_is_own o (commands.Convert target) text e refused =
     conversion_is_own o target text e (mapped_err Whole (conversion o target text) e refused)
 answer_is_own o (commands.Certify options) text e refused =
@@ -51,7 +51,7 @@ answer_is_own o (commands.PrintSigned options) text e refused =
     unsigned_is_own o options text e
     (mapped_err hex_line (unsigned o options text) e (mapped_err Whole (issued_bytes o options text) e refused))
 answer_is_own o commands.Fingerprint text e refused =
-    next_is IsOwn (map_err errors.Input (reading (reader o) text)) (λ meaning. Ok (fingerprint_text (public_part meaning.key))) e
+    next_is IsOwnConvert (map_err errors.Input (reading (reader o) text)) (λ meaning. Ok (fingerprint_text (public_part meaning.key))) e
     (reading_is_own (reader o) text) (λ meaning f was is. cc is) (mapped_err Whole (fingerprints o text) e refused)
 answer_is_own o (commands.Sample keys) text e refused = cc refused
 
@@ -98,7 +98,7 @@ status_of_own (errors.Private private.SuiteFault) memory fault device = absurd (
 status_of_own (errors.Putty putty.SuiteFault) memory fault device = absurd (fault refl)
 status_of_own e memory fault device = refl
 
-own_status : (e : ConvertError) → IsOwn e → refusal_status e ≡ statuses.Refused e
+own_status : (e : ConvertError) → IsOwnConvert e → refusal_status e ≡ statuses.Refused e
 own_status e own = status_of_own e (λ is. own.0 (subst WantsMemory (sym is) refl)) own.1 own.2
 
 -- ---- the outcome of bytes

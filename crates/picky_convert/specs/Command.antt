@@ -162,7 +162,8 @@ IsAnswer signs o (commands.Sample keys) input text = text ≡ sample_text o.mean
 -- the source's text is one for which the command comes to something: the target carries its meaning, each key has fingerprints,
 -- a request comes to a certificate, and a sample rests on no source
 abbrev pub CanAnswer : Outside → Command → List ℕ → Type 0
-CanAnswer o (commands.Convert target) input = (meaning : Meaning) × Reads (reader o) input meaning × CanConvert o (Written target) meaning
+CanAnswer o (commands.Convert target) input =
+    (meaning : Meaning) × Reads (reader o) input meaning × CanConvert o (Written target) meaning
 CanAnswer o (commands.Certify options) input = CanIssue o options input
 CanAnswer o (commands.PrintSigned options) input = CanIssueBytes o options input
 CanAnswer o commands.Fingerprint input = (meaning : Meaning) × Reads (reader o) input meaning

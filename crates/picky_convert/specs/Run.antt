@@ -129,7 +129,8 @@ moment written source_faults sink_faults suite_faults signer_faults = record {
 
 -- what a status says of a run over these bytes: that the whole text was written, to a sink that tells, that a prefix was before a
 -- fault, or why there is no text
-abbrev pub Ends : SignRelation → Outside → Command → (input : List ℕ) → (tells : Type 0) → (old new : Moment) → Status → Type 0
+abbrev pub Ends : SignRelation → Outside → Command → (input : List ℕ) → (tells : Type 0) → (old new : Moment)
+    → Status → Type 0
 Ends signs o command input tells old new statuses.Done =
     (text : List ℕ) × WritesMade signs (outcome o command input) text × (tells → new.written ≡ old.written ++ text)
 Ends signs o command input tells old new statuses.WriteFault =

@@ -67,7 +67,8 @@ drawn_key kinds.Rsa s =
     let p = sample_number s 640 128 in
     let q = sample_number s 768 128 in
     keys.Rsa n exponent d iqmp p q
-drawn_key (kinds.Ec curve) s = keys.Ec curve (point s (numbers_len curve)) (sample_number s (numbers_len curve) (secret_len curve))
+drawn_key (kinds.Ec curve) s =
+    keys.Ec curve (point s (numbers_len curve)) (sample_number s (numbers_len curve) (secret_len curve))
 drawn_key (kinds.Ed algorithm) s =
     let secret = sample_field s 0 32 in
     let public = sample_field s 32 32 in

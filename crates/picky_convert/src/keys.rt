@@ -3,7 +3,9 @@
 ghost use Rattle.std.specs.Prelude.{◌≡◌, ◌<◌, ◌≤◌, ◌-◌, ◌^◌, ◌∷◌, IfOk, OnOk, length};
 ghost use Rattle.picky_wire_base.specs.Zeros.{without_zeros};
 ghost use Rattle.picky_convert.specs.Generator.{state_after, generated};
-ghost use Rattle.picky_convert.specs.SampleKeys.{application as application_of, comment_at, drawn_key, exponent as exponent_of, kind_at, meaning_at, numbers_len as numbers_len_of, secret_len as secret_len_of};
+ghost use Rattle.picky_convert.specs.SampleKeys.{application as application_of, comment_at, drawn_key};
+ghost use Rattle.picky_convert.specs.SampleKeys.{exponent as exponent_of, kind_at, meaning_at};
+ghost use Rattle.picky_convert.specs.SampleKeys.{numbers_len as numbers_len_of, secret_len as secret_len_of};
 
 use crate::generator::Generator;
 use picky_key_text::{Key, Meaning};

@@ -11,7 +11,8 @@ ghost use Rattle.picky_conversion.specs.Outside.{Outside};
 ghost use Rattle.picky_conversion.specs.Want.{IsFault, IsSignerFault, WantsMemory};
 ghost use Rattle.picky_convert.specs.declared.command.Command.{Command as Named};
 ghost use Rattle.picky_convert.specs.Command.{reads_source, IsAnswer, Names};
-ghost use Rattle.picky_convert.specs.Run.{input_for, input_limit, outcome, outcome_asks, outcome_signs, IsValid, RefusesInput};
+ghost use Rattle.picky_convert.specs.Run.{input_for, input_limit, outcome, outcome_asks, outcome_signs, IsValid};
+ghost use Rattle.picky_convert.specs.Run.{RefusesInput};
 
 use crate::error::Status;
 use picky_suite::Signer;

@@ -1,7 +1,11 @@
 //! The line that says on standard error how a run ended.
 
 ghost use Rattle.std.specs.Prelude.{◌≡◌, ◌++◌, []};
-ghost use Rattle.picky_convert.specs.Report.{certificate_name as certificate_name_of, input_name as input_name_of, input_path as input_path_of, issuer_path as issuer_path_of, name as name_of, path as path_of, private_name as private_name_of, public_name as public_name_of, putty_name as putty_name_of, status_path, word as word_of};
+ghost use Rattle.picky_convert.specs.Report.{certificate_name as certificate_name_of, input_name as input_name_of};
+ghost use Rattle.picky_convert.specs.Report.{input_path as input_path_of, issuer_path as issuer_path_of};
+ghost use Rattle.picky_convert.specs.Report.{name as name_of, path as path_of, private_name as private_name_of};
+ghost use Rattle.picky_convert.specs.Report.{public_name as public_name_of, putty_name as putty_name_of, status_path};
+ghost use Rattle.picky_convert.specs.Report.{word as word_of};
 
 use crate::error::Status;
 use picky_cert_parts::SshCertificateError;

@@ -14,7 +14,7 @@ use Rattle.picky_key_text.specs.{Want.{IsFault, WantsMemory}, declared.error.Rea
 use Rattle.picky_key_text.specs.{declared.form.Form.{Form}, declared.meaning.Meaning.{Meaning}}
 use Rattle.picky_key_text.specs.declared.error.ReadError.TheVariants as errors
 use Rattle.picky_key_text.specs.declared.form.Form.TheVariants as forms
-use Rattle.picky_key_text.proofs.RefusalLaws.{reading_own}
+use Rattle.picky_key_text.proofs.RefusalLaws.{IsOwnRead, reading_own}
 use Rattle.picky_inventory.specs.declared.command.Command.{Command}
 use Rattle.picky_inventory.specs.{declared.status.InventoryStatus.{InventoryStatus}, BadLine.{bad_line}}
 use Rattle.picky_inventory.specs.Items.{Item, is_blank, item_line, item_of, items_from, refused}
@@ -44,14 +44,10 @@ pub calm_of : (e : ReadError) (text : List ℕ) (start before after : ℕ) → (
     → before ≡ start → (IsFault e → ⊥) → after ≡ start
 calm_of e text start before after calm same other = calm (λ is. other (subst IsFault (sym is) (fault_is text))) ∙ same
 
--- no want of memory, and no fault of the suite
-abbrev pub IsOwn : ReadError → Type 0
-IsOwn e = (IsFault e → ⊥) × (WantsMemory e → ⊥)
-
 own_there : (n : ℕ) (says : Result Meaning ReadError) (rest : Result (List Item) (ℕ × ReadError)) (k : ℕ) (e : ReadError)
-    → ((f : ReadError) → says ≡ Err f → IsOwn f) → (rest ≡ Err (k, e) → IsOwn e)
+    → ((f : ReadError) → says ≡ Err f → IsOwnRead f) → (rest ≡ Err (k, e) → IsOwnRead e)
     → and_then (map_err (refused n) says) (λ meaning. map_ok (λ items. item_of meaning ∷ items) rest) ≡ Err (k, e)
-    → IsOwn e
+    → IsOwnRead e
 own_there n (Ok meaning) (Ok items) k e first later is = cc is
 own_there n (Ok meaning) (Err found) k e first later is =
     let there : ℕ × ReadError = (k, e) in
@@ -62,9 +58,9 @@ own_there n (Err f) rest k e first later is =
     let there : ℕ × ReadError = (k, e) in
     let pair : here ≡ there = cc is in
     let same : f ≡ e = ap (λ (p : ℕ × ReadError). p.1) pair in
-    subst IsOwn same (first f refl)
+    subst IsOwnRead same (first f refl)
 
-items_own : (r : Reader) (n : ℕ) (parts : List (List ℕ)) (k : ℕ) (e : ReadError) → items_from r n parts ≡ Err (k, e) → IsOwn e
+items_own : (r : Reader) (n : ℕ) (parts : List (List ℕ)) (k : ℕ) (e : ReadError) → items_from r n parts ≡ Err (k, e) → IsOwnRead e
 items_own r n [] k e is = cc is
 items_own r n (part ∷ parts) k e is = elim (cases_Bool (is_blank part)) [
   | inl blank ↦ items_own r (n + 1) parts k e (rw blank at is)
@@ -78,7 +74,7 @@ mapped_err : {A B E : Type 0} (f : A → B) (r : Result A E) (e : E) → map_ok 
 mapped_err f (Ok x) e is = cc is
 mapped_err f (Err g) e is = let same : g ≡ e = cc is in ap Err same
 
-pub inventory_own : (r : Reader) (text : List ℕ) (n : ℕ) (e : ReadError) → inventory r text ≡ Err (n, e) → IsOwn e
+pub inventory_own : (r : Reader) (text : List ℕ) (n : ℕ) (e : ReadError) → inventory r text ≡ Err (n, e) → IsOwnRead e
 inventory_own r text n e is =
     items_own r 0 (text_parts text) n e (mapped_err (ordered_text item_line) (items_from r 0 (text_parts text)) (n, e) is)
 

@@ -1,7 +1,9 @@
 //! Whether a line is an item's.
 
 ghost use Rattle.std.specs.Prelude.{◌≡◌, ◌≢◌, false, None, Some, IfOk, MatchOption};
-ghost use Rattle.picky_inventory.specs.ItemLine.{cut_at, is_blob_word, is_canonical, is_comment_end, is_comment_word, is_item_line as is_line, is_key_end, is_kind as is_kind_word, is_text as is_text_of};
+ghost use Rattle.picky_inventory.specs.ItemLine.{cut_at, is_blob_word, is_canonical, is_comment_end, is_comment_word};
+ghost use Rattle.picky_inventory.specs.ItemLine.{is_item_line as is_line, is_key_end, is_kind as is_kind_word};
+ghost use Rattle.picky_inventory.specs.ItemLine.{is_text as is_text_of};
 ghost use Rattle.std.specs.Str.{is_utf8 as is_utf8_bytes};
 
 use picky_keys::{SshBasePublicKey, SshPublicKeyError, bytes_of};

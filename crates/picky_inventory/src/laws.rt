@@ -1,6 +1,7 @@
 //! The laws of texts of sets, of parts and of a run's words and bytes, each as the contract of a function that does nothing.
 
-ghost use Rattle.std.specs.Prelude.{◌≡◌, ◌≢◌, ◌↔◌, ◌⊎◌, ◌<◌, ◌≤◌, ◌++◌, ◌∷◌, ℕ, Bool, true, List, [], length, None, Some, Ok, Err};
+ghost use Rattle.std.specs.Prelude.{◌≡◌, ◌≢◌, ◌↔◌, ◌⊎◌, ◌<◌, ◌≤◌, ◌++◌, ◌∷◌, ℕ, Bool, true, List, [], length, None};
+ghost use Rattle.std.specs.Prelude.{Some, Ok, Err};
 ghost use Rattle.std.specs.Prelude.{AllPairs, IsUtf8};
 ghost use Rattle.std.specs.Option.{IfSome};
 ghost use Rattle.std.specs.List.{AllByRecursion};
@@ -17,7 +18,8 @@ ghost use Rattle.picky_inventory.specs.ItemLine.{is_item_line};
 ghost use Rattle.picky_inventory.specs.Items.{IsItem, Item, item_line, items_from};
 ghost use Rattle.picky_inventory.specs.Listing.{inventory};
 ghost use Rattle.picky_inventory.specs.Merging.{left_part, merged_or_bad, merging, right_part};
-ghost use Rattle.picky_inventory.specs.OrderedText.{IsWholeLine, HasWholeLines, IsFirstBad, LinesTellApart, first_bad, merged, ordered_text};
+ghost use Rattle.picky_inventory.specs.OrderedText.{IsWholeLine, HasWholeLines, IsFirstBad, LinesTellApart};
+ghost use Rattle.picky_inventory.specs.OrderedText.{first_bad, merged, ordered_text};
 ghost use Rattle.picky_inventory.specs.Parted.{text_parts};
 ghost use Rattle.picky_inventory.specs.Run.{outcome};
 

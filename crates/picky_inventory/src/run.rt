@@ -12,7 +12,8 @@ ghost use Rattle.picky_inventory.specs.BadLine.{IsInventory};
 ghost use Rattle.picky_inventory.specs.Command.{command_of as command_named, Names};
 ghost use Rattle.picky_inventory.specs.Items.{Item, IsItem};
 ghost use Rattle.picky_inventory.specs.Merging.{left_part, right_part};
-ghost use Rattle.picky_inventory.specs.Run.{extent_of, outcome, reader, Ends, IsOfLists, IsOutsideFault, SaysUsage, SparesSuite};
+ghost use Rattle.picky_inventory.specs.Run.{extent_of, outcome, reader, Ends, IsOfLists, IsOutsideFault, SaysUsage};
+ghost use Rattle.picky_inventory.specs.Run.{SparesSuite};
 ghost use Rattle.picky_inventory.specs.Run.{WritesAnswer, WritesInventory, WritesSet};
 
 use crate::answer::take_answer;

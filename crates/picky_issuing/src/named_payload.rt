@@ -3,7 +3,8 @@
 ghost use Rattle.std.specs.Prelude.{◌≡◌, IfOk};
 ghost use Rattle.picky_wire_base.specs.Wire.{string_of};
 ghost use Rattle.picky_cert_parts.specs.ExtensionType.{extension_named};
-ghost use Rattle.picky_issuing.specs.NamedPayload.{requested_critical_option, requested_extension, if_short, name_in, payload_in};
+ghost use Rattle.picky_issuing.specs.NamedPayload.{requested_critical_option, requested_extension, if_short, name_in};
+ghost use Rattle.picky_issuing.specs.NamedPayload.{payload_in};
 
 use picky_cert_parts::{SshCriticalOption, SshCriticalOptionType, SshExtension, SshExtensionType};
 use picky_wire::{Bytes, MAX_LEN, NoMemory, Piece, push_pieces};

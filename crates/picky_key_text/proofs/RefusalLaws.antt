@@ -179,17 +179,17 @@ putty_public_own text = then_as IsOwnPutty (putty_meaning text) to_openssh (putt
 -- ---- any text
 
 -- neither the suite's nor memory's
-abbrev pub IsOwn : ReadError → Type 0
-IsOwn e = (IsFault e → ⊥) × (WantsMemory e → ⊥)
+abbrev pub IsOwnRead : ReadError → Type 0
+IsOwnRead e = (IsFault e → ⊥) × (WantsMemory e → ⊥)
 
 putty_wants : (e : PuttyError) → IsOwnPutty e → WantsMemory (errors.Putty e) → ⊥
 putty_wants e own (inl memory) = subst IsOwnPutty memory own
 putty_wants e own (inr memory) = subst IsOwnPutty memory own
 
-putty_own : (e : PuttyError) → IsOwnPutty e → IsOwn (errors.Putty e)
+putty_own : (e : PuttyError) → IsOwnPutty e → IsOwnRead (errors.Putty e)
 putty_own e own = (λ fault. subst IsOwnPutty fault own, putty_wants e own)
 
-public_line_own : (e : SshPublicKeyError) → e ≢ public.NoMemory → IsOwn (errors.Public e)
+public_line_own : (e : SshPublicKeyError) → e ≢ public.NoMemory → IsOwnRead (errors.Public e)
 public_line_own e other = (λ fault. fault, other)
 
 private_wants : (m : Meanings) (given : Option (List ℕ)) (text : List ℕ) (e : SshPrivateKeyError)
@@ -198,32 +198,32 @@ private_wants m given text e is (inl memory) = (text_no_fault m given text).1 (i
 private_wants m given text e is (inr memory) = (text_no_fault m given text).2 (is ∙ ap Err memory)
 
 private_own : (m : Meanings) (given : Option (List ℕ)) (text : List ℕ) (e : SshPrivateKeyError)
-    → text_key m given text ≡ Err e → IsOwn (errors.Private e)
+    → text_key m given text ≡ Err e → IsOwnRead (errors.Private e)
 private_own m given text e is =
     (λ fault. (text_no_fault m given text).0 (is ∙ ap Err fault), private_wants m given text e is)
 
-reading_as_own : (form : Form) (r : Reader) (text : List ℕ) → Refuses IsOwn (reading_as form r text)
+reading_as_own : (form : Form) (r : Reader) (text : List ℕ) → Refuses IsOwnRead (reading_as form r text)
 reading_as_own forms.Envelope r text =
-    then_as IsOwn (map_err errors.Private (text_key r.meanings r.pass text)) _
-    (mapped_as IsOwn errors.Private (text_key r.meanings r.pass text) (private_own r.meanings r.pass text))
-    (λ key. ok_as IsOwn _)
+    then_as IsOwnRead (map_err errors.Private (text_key r.meanings r.pass text)) _
+    (mapped_as IsOwnRead errors.Private (text_key r.meanings r.pass text) (private_own r.meanings r.pass text))
+    (λ key. ok_as IsOwnRead _)
 reading_as_own forms.Ppk r text =
-    mapped_as IsOwn errors.Putty (ppk_key r text) (λ e is. putty_own e (ppk_key_own r text e is))
+    mapped_as IsOwnRead errors.Putty (ppk_key r text) (λ e is. putty_own e (ppk_key_own r text e is))
 reading_as_own forms.PuttyPublic r text =
-    then_as IsOwn (map_err errors.Putty (and_then (putty_meaning text) to_openssh)) _
-    (mapped_as IsOwn errors.Putty (and_then (putty_meaning text) to_openssh) (λ e is. putty_own e (putty_public_own text e is)))
-    (λ key. ok_as IsOwn _)
+    then_as IsOwnRead (map_err errors.Putty (and_then (putty_meaning text) to_openssh)) _
+    (mapped_as IsOwnRead errors.Putty (and_then (putty_meaning text) to_openssh) (λ e is. putty_own e (putty_public_own text e is)))
+    (λ key. ok_as IsOwnRead _)
 reading_as_own forms.Certificate r text =
-    then_as IsOwn (map_err errors.Certificate (certificate_of text)) _
-    (mapped_as IsOwn errors.Certificate (certificate_of text) (λ e is. (λ fault. fault, certificate_no_want text e is)))
-    (λ c. ok_as IsOwn _)
+    then_as IsOwnRead (map_err errors.Certificate (certificate_of text)) _
+    (mapped_as IsOwnRead errors.Certificate (certificate_of text) (λ e is. (λ fault. fault, certificate_no_want text e is)))
+    (λ c. ok_as IsOwnRead _)
 reading_as_own forms.PublicLine r text =
-    then_as IsOwn (map_err errors.Public (line_meaning text)) _
-    (mapped_as IsOwn errors.Public (line_meaning text) (λ e is. public_line_own e (line_own text e is).1))
-    (λ key. ok_as IsOwn _)
+    then_as IsOwnRead (map_err errors.Public (line_meaning text)) _
+    (mapped_as IsOwnRead errors.Public (line_meaning text) (λ e is. public_line_own e (line_own text e is).1))
+    (λ key. ok_as IsOwnRead _)
 
 -- No text is refused for a fault of the suite or for want of memory.
-pub reading_own : (r : Reader) (text : List ℕ) (e : ReadError) → reading r text ≡ Err e → IsOwn e
+pub reading_own : (r : Reader) (text : List ℕ) (e : ReadError) → reading r text ≡ Err e → IsOwnRead e
 unfolding reading
 reading_own r text e is = reading_as_own (form_of text) r text e is
 

@@ -10,10 +10,14 @@ ghost use Rattle.picky_wire_base.specs.Gives.{Gives};
 ghost use Rattle.picky_wire_base.specs.Outcome.{and_then, map_err};
 ghost use Rattle.picky_ppk_file.specs.PuttyRefusal.{putty_meaning, to_openssh};
 ghost use Rattle.picky_cert.specs.LineRefusal.{line_meaning as certificate_line};
-ghost use Rattle.picky_key_text.specs.Key.{certificate_meaning, private_meaning as private_meaning_of, public_meaning as public_meaning_of};
+ghost use Rattle.picky_key_text.specs.Key.{certificate_meaning, private_meaning as private_meaning_of};
+ghost use Rattle.picky_key_text.specs.Key.{public_meaning as public_meaning_of};
 ghost use Rattle.picky_key_text.specs.Order.{asks, asks_as, fault_of, fault_as, reading, reading_as};
 ghost use Rattle.picky_key_text.specs.Reads.{Reads};
-ghost use Rattle.picky_key_text.specs.inner.Refusals.{certificate_refusal as certificate_refusal_of, envelope_refusal as envelope_refusal_of, putty_refusal as putty_refusal_of, line_refusal as line_refusal_of};
+ghost use Rattle.picky_key_text.specs.inner.Refusals.{certificate_refusal as certificate_refusal_of};
+ghost use Rattle.picky_key_text.specs.inner.Refusals.{envelope_refusal as envelope_refusal_of};
+ghost use Rattle.picky_key_text.specs.inner.Refusals.{putty_refusal as putty_refusal_of};
+ghost use Rattle.picky_key_text.specs.inner.Refusals.{line_refusal as line_refusal_of};
 
 use crate::error::ReadError;
 use crate::form::{Form, form_of};

@@ -4,7 +4,8 @@ ghost use Rattle.std.specs.Prelude.{◌≡◌, ◌≢◌, ◌^◌, ◌<◌, ◌+
 ghost use Rattle.std.specs.List.{concat};
 ghost use Rattle.picky_wire.specs.Flaws.{TakesLayout};
 ghost use Rattle.picky_wire.specs.inner.Stop.{stop_of};
-ghost use Rattle.picky_keys.specs.Blob.{rsa_fields, ec_fields, ed_fields, sk_ecdsa_fields, sk_ed_fields, public_key_fields, fields_spelled, blob, blob_of};
+ghost use Rattle.picky_keys.specs.Blob.{rsa_fields, ec_fields, ed_fields, sk_ecdsa_fields, sk_ed_fields};
+ghost use Rattle.picky_keys.specs.Blob.{public_key_fields, fields_spelled, blob, blob_of};
 ghost use Rattle.picky_keys.specs.Key.{IsKey};
 ghost use Rattle.picky_keys.specs.BlobRefusal.{read_blob};
 

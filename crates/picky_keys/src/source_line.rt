@@ -1,6 +1,7 @@
 //! A public key line taken from a source.
 
-ghost use Rattle.std.specs.Prelude.{◌≡◌, ◌≢◌, ◌^◌, ◌<◌, ◌≤◌, ◌∷◌, [], Err, length, IfOk, IfErr, OnOk, OnErr, MatchOption, IsSome};
+ghost use Rattle.std.specs.Prelude.{◌≡◌, ◌≢◌, ◌^◌, ◌<◌, ◌≤◌, ◌∷◌, [], Err, length, IfOk, IfErr, OnOk, OnErr};
+ghost use Rattle.std.specs.Prelude.{MatchOption, IsSome};
 ghost use Rattle.picky_wire_base.specs.Outcome.{map_ok};
 ghost use Rattle.picky_text.specs.Words.{ends_line};
 ghost use Rattle.picky_wire.specs.Count.{Keeps, Rose};

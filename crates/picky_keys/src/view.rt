@@ -2,7 +2,8 @@
 
 ghost use Rattle.std.specs.Prelude.{◌≡◌, ◌^◌, ◌<◌, ⊤, length, IfOk};
 ghost use Rattle.picky_wire_base.specs.View.{Seen, Lies, end_of, part_bytes, why_in};
-ghost use Rattle.picky_keys.specs.Blob.{key_type, ed_key, rsa_fields, ec_fields, ed_fields, sk_ecdsa_fields, sk_ed_fields, public_key_fields, blob as blob_layout};
+ghost use Rattle.picky_keys.specs.Blob.{key_type, ed_key, rsa_fields, ec_fields, ed_fields, sk_ecdsa_fields};
+ghost use Rattle.picky_keys.specs.Blob.{sk_ed_fields, public_key_fields, blob as blob_layout};
 ghost use Rattle.picky_keys.specs.Key.{IsEdKey, IsKey};
 ghost use Rattle.picky_keys.specs.View.{key_seen, PartsLie};
 

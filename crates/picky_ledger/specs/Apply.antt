@@ -1,5 +1,6 @@
 -- What a request line comes to at a ledger: a reply, and the ledger after it.
-use Rattle.std.specs.Prelude.{◌≡◌, ◌↔◌, ◌≢◌, ◌-◌, ◌+◌, ◌^◌, ◌==◌, ◌++◌, ◌∷◌, ℕ, List, [], Option, Some, None, Result, Ok, Err}
+use Rattle.std.specs.Prelude.{◌≡◌, ◌↔◌, ◌≢◌, ◌-◌, ◌+◌, ◌^◌, ◌==◌, ◌++◌, ◌∷◌}
+use Rattle.std.specs.Prelude.{ℕ, List, [], Option, Some, None, Result, Ok, Err}
 use Rattle.std.specs.Prelude.{bytes_eq, if◌then◌else◌, IfErr}
 use Rattle.std.specs.Option.{ok_or}
 use Rattle.picky_wire_base.specs.Outcome.{and_then, map_err}
@@ -55,7 +56,8 @@ issuing t next r =
     else signature_asked_for r.id (requested (asked_of t.issuer next r) t.nonce)
 
 -- a request whose id is there has its reply
-abbrev pub unless_kept : IssuerTerms → (line : List ℕ) → (next : ℕ) → CertRequestLine → Option Entry → Result SignatureAsked Reply
+abbrev pub unless_kept : IssuerTerms → (line : List ℕ) → (next : ℕ) → CertRequestLine → Option Entry
+    → Result SignatureAsked Reply
 unless_kept t line next r None = issuing t next r
 unless_kept t line next r (Some e) = Err (kept_reply line e)
 
@@ -70,8 +72,8 @@ abbrev pub added : State → Entry → State
 added l e = record { next = l.next + 1; entries = l.entries ++ e ∷ [] }
 
 -- a certificate that is signed is entered; nothing else changes the ledger. The device's fault comes for one that was to be signed
-abbrev pub Applies : SignRelation → State → (line : List ℕ) → Result SignatureAsked Reply → (rose : Type 0) → Result Reply LedgerError
-    → State → Type 0
+abbrev pub Applies : SignRelation → State → (line : List ℕ) → Result SignatureAsked Reply → (rose : Type 0)
+    → Result Reply LedgerError → State → Type 0
 Applies signs old line (Ok a) rose (Ok reply) new =
     (c : SshCertificate) × IsSigned signs a.unsigned c × IsEntry (entry_of a.id line c)
     × (reply ≡ replies.Issued old.next) × (new ≡ added old (entry_of a.id line c))

@@ -55,7 +55,8 @@ pub record FailsAt (signs : SignRelation) (issuer : SshBasePublicKey) (old : Sta
 abbrev pub NoneSigns : SshBasePublicKey → State → (fresh : List ℕ) → (lines : List (List ℕ)) → Type 0
 NoneSigns issuer l fresh [] = Unit {0}
 NoneSigns issuer l fresh (line ∷ more) =
-    (reply : Reply) × (judged_request_line (terms_by issuer fresh) l line ≡ Err reply) × NoneSigns issuer l (drop nonce_len fresh) more
+    (reply : Reply) × (judged_request_line (terms_by issuer fresh) l line ≡ Err reply)
+    × NoneSigns issuer l (drop nonce_len fresh) more
 
 -- the entry is the certificate of one of the lines, under the entry's serial, signed by the device
 pub record IsIssuedFor (signs : SignRelation) (issuer : SshBasePublicKey) (lines : List (List ℕ)) (e : Entry) : Type 0 where

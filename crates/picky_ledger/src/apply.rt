@@ -11,7 +11,8 @@ ghost use Rattle.picky_cert_builder.specs.Draft.{requested};
 ghost use Rattle.picky_cert_builder.specs.Keeps.{IsRequest};
 ghost use Rattle.picky_request.specs.Builder.{asked_of};
 ghost use Rattle.picky_request.specs.Request.{request_in};
-ghost use Rattle.picky_ledger.specs.Apply.{added, issuing, judged_request_line, kept_reply as kept_reply_of, unless_kept, Applies, LeavesSigner};
+ghost use Rattle.picky_ledger.specs.Apply.{added, issuing, judged_request_line, kept_reply as kept_reply_of};
+ghost use Rattle.picky_ledger.specs.Apply.{unless_kept, Applies, LeavesSigner};
 ghost use Rattle.picky_ledger.specs.Entry.{entry_of as entry_by, IsEntry};
 ghost use Rattle.picky_ledger.specs.State.{entry_named as entry_with_id, IsNew};
 

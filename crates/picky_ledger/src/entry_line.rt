@@ -1,6 +1,7 @@
 //! The line of an entry, read and written.
 
-ghost use Rattle.std.specs.Prelude.{◌≡◌, ◌≢◌, ◌+◌, ◌^◌, ◌<◌, ◌≤◌, ◌++◌, ◌∷◌, ℕ, List, [], bytes_eq, length, string_bytes, vec_len};
+ghost use Rattle.std.specs.Prelude.{◌≡◌, ◌≢◌, ◌+◌, ◌^◌, ◌<◌, ◌≤◌, ◌++◌, ◌∷◌, ℕ, List, [], bytes_eq, length};
+ghost use Rattle.std.specs.Prelude.{string_bytes, vec_len};
 ghost use Rattle.std.specs.Prelude.{Err, IfOk, MatchBool, OnOk};
 ghost use Rattle.picky_text.specs.Base64.{base64_of};
 ghost use Rattle.picky_cert.specs.Line.{IsReadBackCertificate};

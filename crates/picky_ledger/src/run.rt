@@ -5,7 +5,8 @@ ghost use Rattle.picky_keys.specs.declared.public_key.PublicKey.{PublicKey};
 ghost use Rattle.picky_keys.specs.declared.algorithm.SignatureAlgorithm.{SignatureAlgorithm as Algorithm};
 ghost use Rattle.picky_wire.specs.Count.{Rose};
 ghost use Rattle.picky_wire.specs.Puts.{Puts};
-ghost use Rattle.picky_ledger.specs.Run.{asked, extent_of, moment, LedgerAsked, AsksNothing, Ends, LeavesDevice, ReadsInput};
+ghost use Rattle.picky_ledger.specs.Run.{asked, extent_of, moment, LedgerAsked, AsksNothing, Ends, LeavesDevice};
+ghost use Rattle.picky_ledger.specs.Run.{ReadsInput};
 ghost use Rattle.picky_ledger.specs.Run.{WritesAnswer, WritesLast};
 
 use crate::answer::take_answer;

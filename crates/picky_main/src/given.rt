@@ -1,6 +1,7 @@
 //! What a program is given beside its standard streams.
 
-ghost use Rattle.std.specs.Prelude.{◌≡◌, ◌^◌, ◌≤◌, [], List, ℕ, Some, None, Ok, length, unwrap_or, IfOk, IsErrOf, MatchOption};
+ghost use Rattle.std.specs.Prelude.{◌≡◌, ◌^◌, ◌≤◌, [], List, ℕ, Some, None, Ok, length, unwrap_or, IfOk, IsErrOf};
+ghost use Rattle.std.specs.Prelude.{MatchOption};
 ghost use Rattle.hex.specs.Hex.{decode_of};
 
 use hex::FromHexError;

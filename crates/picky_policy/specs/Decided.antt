@@ -1,5 +1,6 @@
 -- What is decided of an offer: the first line that is for its key, and for a certificate the rules and the signature.
-use Rattle.std.specs.Prelude.{◌≡◌, ◌||◌, ◌&&◌, ◌++◌, ℕ, Bool, true, false, not, List, [], ◌∷◌, Option, Some, None, Result, Ok, Err}
+use Rattle.std.specs.Prelude.{◌≡◌, ◌||◌, ◌&&◌, ◌++◌, ℕ, Bool, true, false, not, List, [], ◌∷◌, Option, Some, None}
+use Rattle.std.specs.Prelude.{Result, Ok, Err}
 use Rattle.std.specs.Prelude.{bytes_eq, filter, is_ok, if◌then◌else◌}
 use Rattle.std.specs.List.{AllByRecursion, list_any}
 use Rattle.std.specs.Option.{ok_or}
@@ -119,7 +120,8 @@ decided entries (offers.Certificate c message) user moment =
 -- the verifier is asked: of a certificate, where no rule before fails
 abbrev pub verifier_asks : List AuthEntry → Offer → (user : List ℕ) → Timestamp → Bool
 verifier_asks entries (offers.Key key) user moment = false
-verifier_asks entries (offers.Certificate c message) user moment = is_ok (decided entries (offers.Certificate c message) user moment)
+verifier_asks entries (offers.Certificate c message) user moment =
+    is_ok (decided entries (offers.Certificate c message) user moment)
 
 -- the signature is good; a key has none
 abbrev pub Accepts : VerifyRelation → Offer → Type 0

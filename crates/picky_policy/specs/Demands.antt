@@ -4,7 +4,8 @@ use Rattle.std.specs.Prelude.{length, if◌then◌else◌}
 use Rattle.std.specs.Option.{option_map}
 use Rattle.picky_wire_base.specs.Wire.{text}
 use Rattle.picky_cert_parts.specs.declared.option_type.SshCriticalOptionType.{SshCriticalOptionType}
-use Rattle.picky_cert_parts.specs.declared.option_type.SshCriticalOptionType.TheVariants.{ForceCommand, SourceAddress, VerifyRequired}
+use Rattle.picky_cert_parts.specs.declared.option_type.SshCriticalOptionType.TheVariants.{ForceCommand, SourceAddress}
+use Rattle.picky_cert_parts.specs.declared.option_type.SshCriticalOptionType.TheVariants.{VerifyRequired}
 use Rattle.picky_cert_parts.specs.declared.critical_option.SshCriticalOption.{SshCriticalOption}
 use Rattle.picky_issuing.specs.Steps.{some_then}
 

@@ -105,7 +105,8 @@ IsAnswer verifies asked file offer statuses.Message text = IsMessageLine asked o
 IsAnswer verifies asked file offer status text = ⊥
 
 -- so for the offer of the source
-pub record IsAnswerTo (verifies : VerifyRelation) (asked : Asked) (input : List ℕ) (status : PolicyStatus) (text : List ℕ) : Type 0 where
+pub record IsAnswerTo (verifies : VerifyRelation) (asked : Asked) (input : List ℕ) (status : PolicyStatus)
+    (text : List ℕ) : Type 0 where
   pub offer : Offer
   pub offered : offered input ≡ Ok offer
   pub answer : IsAnswer verifies asked (file_part input) offer status text
@@ -129,8 +130,8 @@ IsDone status = ⊥
 -- how a run ends for the bytes of its source, by its status: they have no offer, and this is why; or a fault was counted, of the
 -- source (read), of the verifier that was asked or of the sink (write); or there is an answer. Where the sink tells its bytes, the
 -- answer was written whole or, with WriteFault, a prefix of it
-abbrev pub Ends : VerifyRelation → Asked → (input : List ℕ) (read verify write tells : Type 0) (before after : List ℕ) → PolicyStatus
-    → Type 0
+abbrev pub Ends : VerifyRelation → Asked → (input : List ℕ) (read verify write tells : Type 0) (before after : List ℕ)
+    → PolicyStatus → Type 0
 Ends verifies asked input read verify write tells before after statuses.Usage = ⊥
 Ends verifies asked input read verify write tells before after statuses.ReadFault = read
 Ends verifies asked input read verify write tells before after statuses.InputTooLong = offered input ≡ Err statuses.InputTooLong

@@ -13,7 +13,8 @@ ghost use Rattle.picky_policy.specs.Offer.{message_of, offer_in};
 ghost use Rattle.picky_policy.specs.Printed.{decision_text as decision_text_of, message_text as message_text_of};
 ghost use Rattle.picky_policy.specs.Run.{asks_with, bad_offer, file_or_none, is_asked, offered_in, IsSpared};
 ghost use Rattle.picky_policy.specs.Verifies.{KeepsVerified};
-ghost use Rattle.picky_policy.specs.inner.Comes.{answer_shown, decision_status, extent_for, AnswersOffer, AnswersText, Comes};
+ghost use Rattle.picky_policy.specs.inner.Comes.{answer_shown, decision_status, extent_for, AnswersOffer};
+ghost use Rattle.picky_policy.specs.inner.Comes.{AnswersText, Comes};
 
 use crate::command::Command;
 use crate::deciding::{DecideError, decide};

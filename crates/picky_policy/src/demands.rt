@@ -2,7 +2,9 @@
 
 ghost use Rattle.std.specs.Prelude.{◌≡◌};
 ghost use Rattle.std.specs.Option.{option_copied, option_map};
-ghost use Rattle.picky_policy.specs.Demands.{demands_in, flag_in, is_type as is_type_of, no_demands, one_of as one_of_payloads, payloads_of, text_demanded, text_of_payload as payload_text};
+ghost use Rattle.picky_policy.specs.Demands.{demands_in, flag_in, is_type as is_type_of, no_demands};
+ghost use Rattle.picky_policy.specs.Demands.{one_of as one_of_payloads, payloads_of, text_demanded};
+ghost use Rattle.picky_policy.specs.Demands.{text_of_payload as payload_text};
 ghost use Rattle.picky_policy.specs.inner.Payload.{with_payload};
 ghost use Rattle.picky_policy.specs.inner.Shown.{demands_shown};
 

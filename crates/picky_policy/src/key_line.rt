@@ -3,7 +3,9 @@
 ghost use Rattle.std.specs.Prelude.{◌≡◌, true, false};
 ghost use Rattle.std.specs.Option.{option_map};
 ghost use Rattle.picky_keys.specs.Key.{IsKey};
-ghost use Rattle.picky_policy.specs.Decided.{is_authority as is_authority_line, is_for as is_for_key, is_key as is_key_of, is_of_sort as is_of_sort_of, line_for as line_for_key, options_of as options_of_content};
+ghost use Rattle.picky_policy.specs.Decided.{is_authority as is_authority_line, is_for as is_for_key};
+ghost use Rattle.picky_policy.specs.Decided.{is_key as is_key_of, is_of_sort as is_of_sort_of};
+ghost use Rattle.picky_policy.specs.Decided.{line_for as line_for_key, options_of as options_of_content};
 ghost use Rattle.picky_policy.specs.inner.Shown.{line_shown};
 
 use picky_authorized::{AuthContent, AuthEntry, AuthOption, CERT_AUTHORITY};

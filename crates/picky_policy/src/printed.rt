@@ -2,7 +2,8 @@
 
 ghost use Rattle.std.specs.Prelude.{◌≡◌, ◌++◌, flat_map, IfOk, OnOk, string_bytes};
 ghost use Rattle.picky_policy.specs.Printed.{decision_text as decision_text_of, denial_name as name_of_denial, flag_line};
-ghost use Rattle.picky_policy.specs.Printed.{grant_text as grant_text_of, message_text as message_text_of, option_line, text_line};
+ghost use Rattle.picky_policy.specs.Printed.{grant_text as grant_text_of, message_text as message_text_of};
+ghost use Rattle.picky_policy.specs.Printed.{option_line, text_line};
 ghost use Rattle.picky_policy.specs.Printed.{value_part, word_line};
 
 use crate::decision::{Decision, Denial, Grant};

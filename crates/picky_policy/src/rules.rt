@@ -5,7 +5,8 @@ ghost use Rattle.std.specs.List.{list_any};
 ghost use Rattle.std.specs.Option.{option_copied};
 ghost use Rattle.picky_wire_base.specs.Outcome.{map_ok};
 ghost use Rattle.picky_authorized.specs.KnownOptions.{principals as principals_name};
-ghost use Rattle.picky_policy.specs.Rules.{is_among as is_among_names, is_for_user as is_for, judged_rules, names_in, value_named as value_of_name};
+ghost use Rattle.picky_policy.specs.Rules.{is_among as is_among_names, is_for_user as is_for, judged_rules, names_in};
+ghost use Rattle.picky_policy.specs.Rules.{value_named as value_of_name};
 ghost use Rattle.picky_policy.specs.inner.Shown.{demands_shown};
 
 use crate::decision::Denial;

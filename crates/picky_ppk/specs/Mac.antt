@@ -9,7 +9,8 @@ use Rattle.picky_ppk_file.specs.File.{version_of, encryption_of, is_sealed}
 
 -- what it covers: the file's fields, and the private bytes that aren't sealed, with their padding
 abbrev pub covered : PpkFile → List ℕ → List ℕ
-covered f private = mac_input (algorithm_literal f.algorithm) (encryption_literal (encryption_of f.sealing)) f.comment f.public_key private
+covered f private =
+    mac_input (algorithm_literal f.algorithm) (encryption_literal (encryption_of f.sealing)) f.comment f.public_key private
 
 -- its value under a key
 abbrev pub mac_under : Meanings → (key : List ℕ) → PpkFile → (private : List ℕ) → List ℕ

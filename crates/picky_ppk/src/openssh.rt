@@ -9,7 +9,8 @@ ghost use Rattle.picky_ppk_parts.specs.PartsRefusal.{key_in_blob as key_in_blob_
 ghost use Rattle.picky_ppk_file.specs.PuttyRefusal.{plain_key as plain_key_of};
 ghost use Rattle.picky_ppk.specs.Mac.{CarriesMac};
 ghost use Rattle.picky_ppk.specs.Changed.{of_openssh, of_base_key, file_of_parts as file_of_parts_of};
-ghost use Rattle.picky_ppk.specs.KeyOf.{base_key_of, base_key_and_comment_of, to_openssh, private_key_of, public_key_of, made_error};
+ghost use Rattle.picky_ppk.specs.KeyOf.{base_key_of, base_key_and_comment_of, to_openssh, private_key_of};
+ghost use Rattle.picky_ppk.specs.KeyOf.{public_key_of, made_error};
 ghost use Rattle.picky_ppk.specs.KeyOf.{plain_private as plain_private_of};
 
 use crate::changing::remade;

@@ -1,6 +1,7 @@
 //! A PuTTY private key file.
 
-ghost use Rattle.std.specs.Prelude.{◌≡◌, ◌⊎◌, ◌++◌, ◌<◌, ◌^◌, List, ℕ, true, false, length, None, Some, Ok, IfOk, IfNone, IfSome};
+ghost use Rattle.std.specs.Prelude.{◌≡◌, ◌⊎◌, ◌++◌, ◌<◌, ◌^◌, List, ℕ, true, false, length, None, Some, Ok, IfOk};
+ghost use Rattle.std.specs.Prelude.{IfNone, IfSome};
 ghost use Rattle.picky_text.specs.Lines.{IsLine};
 ghost use Rattle.picky_suite.specs.Meanings.{Meanings};
 ghost use Rattle.picky_wire_base.specs.Gives.{Gives};
@@ -8,7 +9,8 @@ ghost use Rattle.picky_ppk_file.specs.declared.file.PpkFile.{PpkFile as File};
 ghost use Rattle.picky_ppk_parts.specs.Mac.{mac_bytes as mac_bytes_of};
 ghost use Rattle.picky_ppk_file.specs.File.{version_of, is_sealed, params_of};
 ghost use Rattle.picky_ppk_file.specs.Written.{line_end_of, file_spelled};
-ghost use Rattle.picky_ppk.specs.Mac.{CarriesMac, covered as covered_of, own_mac as own_mac_of, with_own_mac as with_own_mac_of};
+ghost use Rattle.picky_ppk.specs.Mac.{CarriesMac, covered as covered_of, own_mac as own_mac_of};
+ghost use Rattle.picky_ppk.specs.Mac.{with_own_mac as with_own_mac_of};
 ghost use Rattle.picky_ppk.specs.Checked.{checked as checked_of, ppk_meaning};
 ghost use Rattle.picky_ppk.specs.Sealed.{padding_len as padding_len_of};
 

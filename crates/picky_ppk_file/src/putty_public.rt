@@ -6,7 +6,12 @@ ghost use Rattle.picky_text.specs.Lines.{HasNo};
 ghost use Rattle.picky_wire_base.specs.Gives.{Gives};
 ghost use Rattle.picky_kv.specs.Joined.{joined_text};
 ghost use Rattle.picky_ppk_file.specs.PuttyPublic.{putty_public as text_of};
-ghost use Rattle.picky_ppk_file.specs.PuttyRefusal.{quoted as quoted_in, after_header as after_header_of, after_comment as after_comment_of, body_from, of_blob as of_blob_of, of_parts as of_parts_of, putty_meaning, putty_text, is_security_key as is_security_key_of, of_openssh, to_openssh as to_openssh_of, plain_key_of, plain_key as plain_of, commented};
+ghost use Rattle.picky_ppk_file.specs.PuttyRefusal.{quoted as quoted_in, after_header as after_header_of};
+ghost use Rattle.picky_ppk_file.specs.PuttyRefusal.{after_comment as after_comment_of, body_from};
+ghost use Rattle.picky_ppk_file.specs.PuttyRefusal.{of_blob as of_blob_of, of_parts as of_parts_of, putty_meaning};
+ghost use Rattle.picky_ppk_file.specs.PuttyRefusal.{putty_text, is_security_key as is_security_key_of, of_openssh};
+ghost use Rattle.picky_ppk_file.specs.PuttyRefusal.{to_openssh as to_openssh_of, plain_key_of, plain_key as plain_of};
+ghost use Rattle.picky_ppk_file.specs.PuttyRefusal.{commented};
 
 use picky_keys::{PublicKey, SshBasePublicKey, SshPublicKey};
 use picky_kv::JoinedLines;

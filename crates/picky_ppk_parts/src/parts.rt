@@ -2,7 +2,8 @@
 
 ghost use Rattle.std.specs.Prelude.{◌≡◌};
 ghost use Rattle.picky_wire_base.specs.Gives.{Gives};
-ghost use Rattle.picky_ppk_parts.specs.PartsRefusal.{key_in_blob as key_in_blob_of, public_key_under as public_key_under_of, parts_key};
+ghost use Rattle.picky_ppk_parts.specs.PartsRefusal.{key_in_blob as key_in_blob_of};
+ghost use Rattle.picky_ppk_parts.specs.PartsRefusal.{public_key_under as public_key_under_of, parts_key};
 
 use crate::algorithm::key_under;
 use crate::error::PuttyError;

@@ -1,5 +1,6 @@
 -- The text of a PuTTY private key file as PuTTY's own programs write it.
-use Rattle.std.specs.Prelude.{◌≡◌, ◌++◌, ◌==◌, ◌&&◌, ◌-◌, not, Bool, List, ℕ, length, slice_index, Result, Ok, Err, if◌then◌else◌}
+use Rattle.std.specs.Prelude.{◌≡◌, ◌++◌, ◌==◌, ◌&&◌, ◌-◌, not, Bool, List, ℕ}
+use Rattle.std.specs.Prelude.{length, slice_index, Result, Ok, Err, if◌then◌else◌}
 use Rattle.std.specs.List.{list_any}
 use Rattle.picky_wire_base.specs.Outcome.{and_then, map_err}
 use Rattle.picky_text.specs.declared.lines.LineEnd.{LineEnd}
@@ -35,7 +36,8 @@ is_line CrLf text = not (has_lf text)
 -- the text of a file, whose comment has to be a line
 unfoldable pub text_in_lines : PpkFile → Result (List ℕ) PuttyPpkStatus
 text_in_lines f =
-    if is_line (line_end_of (version_of f.sealing)) f.comment then map_err refusal_status (file_spelled f) else Err statuses.CommentNotCarried
+    if is_line (line_end_of (version_of f.sealing)) f.comment then map_err refusal_status (file_spelled f)
+    else Err statuses.CommentNotCarried
 
 -- the text of the file for PuTTY of a file, and of a text's file, or the first status that says why there is none
 abbrev pub file_for_putty : Meanings → PpkFile → Result (List ℕ) PuttyPpkStatus

@@ -34,7 +34,8 @@ IsTextFor m input text = (outcome m input ≡ Ok text) × IsOf m input text
 
 -- how a run ends for these bytes: Done where their text was written, to a sink that tells; WriteFault where a prefix of it was, up to
 -- a fault that was counted
-abbrev pub Ends : Meanings → (input : List ℕ) (read_rose write_rose tells : Type 0) (before after : List ℕ) → PuttyPpkStatus → Type 0
+abbrev pub Ends : Meanings → (input : List ℕ) (read_rose write_rose tells : Type 0) (before after : List ℕ)
+    → PuttyPpkStatus → Type 0
 Ends m input read_rose write_rose tells before after statuses.Done =
     (text : List ℕ) × IsTextFor m input text × (tells → after ≡ before ++ text)
 Ends m input read_rose write_rose tells before after statuses.WriteFault =

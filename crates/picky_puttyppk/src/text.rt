@@ -7,8 +7,10 @@ ghost use Rattle.picky_ppk_file.specs.File.{version_of};
 ghost use Rattle.picky_ppk_file.specs.Written.{line_end_of};
 ghost use Rattle.picky_ppk.specs.Checked.{ppk_meaning};
 ghost use Rattle.picky_ppk.specs.Mac.{CarriesMac};
-ghost use Rattle.picky_puttyppk.specs.PuttyText.{IsForPutty, IsOf, ends_in_cr as ends_in_cr_of, file_for_putty as file_for_putty_of};
-ghost use Rattle.picky_puttyppk.specs.PuttyText.{has_lf as has_lf_in, is_line as is_line_of, text_for_putty as text_for_putty_of};
+ghost use Rattle.picky_puttyppk.specs.PuttyText.{IsForPutty, IsOf, ends_in_cr as ends_in_cr_of};
+ghost use Rattle.picky_puttyppk.specs.PuttyText.{file_for_putty as file_for_putty_of};
+ghost use Rattle.picky_puttyppk.specs.PuttyText.{has_lf as has_lf_in, is_line as is_line_of};
+ghost use Rattle.picky_puttyppk.specs.PuttyText.{text_for_putty as text_for_putty_of};
 ghost use Rattle.picky_puttyppk.specs.PuttyText.{text_in_lines as text_in_lines_of};
 ghost use Rattle.picky_puttyppk.specs.inner.Comes.{IsOfText};
 

@@ -30,25 +30,25 @@ IsOwnPem pem.NoMemory = ⊥
 IsOwnPem other = Unit {0}
 
 -- neither the suite's nor memory's
-abbrev pub IsOwn : SshPrivateKeyError → Type 0
-IsOwn errors.SuiteFault = ⊥
-IsOwn errors.NoMemory = ⊥
-IsOwn (errors.PemError e) = IsOwnPem e
-IsOwn other = Unit {0}
+abbrev pub IsOwnPrivate : SshPrivateKeyError → Type 0
+IsOwnPrivate errors.SuiteFault = ⊥
+IsOwnPrivate errors.NoMemory = ⊥
+IsOwnPrivate (errors.PemError e) = IsOwnPem e
+IsOwnPrivate other = Unit {0}
 
 -- A flaw of a field is no fault.
-flaw_own : (flaw : Flaw) → IsOwn (flaw_error flaw)
+flaw_own : (flaw : Flaw) → IsOwnPrivate (flaw_error flaw)
 flaw_own Short = tt
 flaw_own NotUtf8 = tt
 flaw_own Big = tt
 
 -- A length that is refused is none.
-length_own : (secret : Bool) → IsOwn (if secret then errors.InvalidKeyFormat else errors.KeyError)
+length_own : (secret : Bool) → IsOwnPrivate (if secret then errors.InvalidKeyFormat else errors.KeyError)
 length_own true = tt
 length_own false = tt
 
 -- Nor is a reason for which a blob is refused.
-private_own : (reason : Reason) → IsOwn (private_error reason)
+private_own : (reason : Reason) → IsOwnPrivate (private_error reason)
 private_own (i, Flawed flaw) = flaw_own flaw
 private_own (i, Length) = length_own (i == 2)
 private_own (i, Name name) = tt
@@ -56,7 +56,7 @@ private_own (i, Magic) = tt
 private_own (i, Number n) = tt
 
 -- Nor one for which an envelope is.
-envelope_own : (reason : Reason) → IsOwn (envelope_error reason)
+envelope_own : (reason : Reason) → IsOwnPrivate (envelope_error reason)
 envelope_own (i, Flawed flaw) = flaw_own flaw
 envelope_own (i, Length) = tt
 envelope_own (i, Name name) = tt
@@ -66,79 +66,79 @@ envelope_own (i, Number n) = tt
 -- ---- a content
 
 -- Nor one for which the check numbers are.
-checks_own : RefusesAs IsOwn check_numbers.read
+checks_own : RefusesAs IsOwnPrivate check_numbers.read
 unfolding check_numbers
 checks_own =
-    both_refuses IsOwn (tag flaw_error uint32).read _ (tag_as IsOwn flaw_error uint32 flaw_own) (λ check.
-    both_refuses IsOwn _ _
-    (narrow_refuses IsOwn (tag flaw_error uint32) (is_number (errors.InvalidCheckNumbers check) check)
-    (tag_as IsOwn flaw_error uint32 flaw_own)
-    (λ n e is. subst IsOwn (test_refused (n == check) n (errors.InvalidCheckNumbers check n) e is) tt))
-    (λ again. done_refuses IsOwn check))
+    both_refuses IsOwnPrivate (tag flaw_error uint32).read _ (tag_as IsOwnPrivate flaw_error uint32 flaw_own) (λ check.
+    both_refuses IsOwnPrivate _ _
+    (narrow_refuses IsOwnPrivate (tag flaw_error uint32) (is_number (errors.InvalidCheckNumbers check) check)
+    (tag_as IsOwnPrivate flaw_error uint32 flaw_own)
+    (λ n e is. subst IsOwnPrivate (test_refused (n == check) n (errors.InvalidCheckNumbers check n) e is) tt))
+    (λ again. done_refuses IsOwnPrivate check))
 
 -- Nor one for which a block is.
-block_own : RefusesAs IsOwn private_block.read
+block_own : RefusesAs IsOwnPrivate private_block.read
 unfolding private_block
 block_own =
-    both_refuses IsOwn check_numbers.read _ checks_own (λ check.
-    both_refuses IsOwn (tag private_error secret).read _ (tag_as IsOwn private_error secret private_own) (λ key.
-    both_refuses IsOwn (tag flaw_error utf8).read _ (tag_as IsOwn flaw_error utf8 flaw_own) (λ comment. done_refuses IsOwn _)))
+    both_refuses IsOwnPrivate check_numbers.read _ checks_own (λ check.
+    both_refuses IsOwnPrivate (tag private_error secret).read _ (tag_as IsOwnPrivate private_error secret private_own) (λ key.
+    both_refuses IsOwnPrivate (tag flaw_error utf8).read _ (tag_as IsOwnPrivate flaw_error utf8 flaw_own) (λ comment. done_refuses IsOwnPrivate _)))
 
 -- No envelope is refused for a fault.
-pub envelope_under_own : (given : Option (List ℕ)) (content : List ℕ) → Refuses IsOwn (envelope_under given content)
+pub envelope_under_own : (given : Option (List ℕ)) (content : List ℕ) → Refuses IsOwnPrivate (envelope_under given content)
 unfolding envelope_under
 envelope_under_own given content =
-    if_as IsOwn _ _ _ (map_as IsOwn envelope_error _ envelope_own) (err_as IsOwn errors.TooLong tt)
+    if_as IsOwnPrivate _ _ _ (map_as IsOwnPrivate envelope_error _ envelope_own) (err_as IsOwnPrivate errors.TooLong tt)
 
 -- Nor is a lock under a cipher and a passphrase.
-under_own : (e : Envelope) (cipher : Cipher) (pass : List ℕ) → Refuses IsOwn (lock_under e cipher pass)
+under_own : (e : Envelope) (cipher : Cipher) (pass : List ℕ) → Refuses IsOwnPrivate (lock_under e cipher pass)
 under_own e cipher pass =
-    if_as IsOwn (bcrypt_fits (length pass) (length e.option.salt) e.option.rounds) _ _
-    (if_as IsOwn (takes_block cipher e.block) _ _ (ok_as IsOwn _) (err_as IsOwn errors.DecryptionError tt))
-    (err_as IsOwn errors.HashingError tt)
+    if_as IsOwnPrivate (bcrypt_fits (length pass) (length e.option.salt) e.option.rounds) _ _
+    (if_as IsOwnPrivate (takes_block cipher e.block) _ _ (ok_as IsOwnPrivate _) (err_as IsOwnPrivate errors.DecryptionError tt))
+    (err_as IsOwnPrivate errors.HashingError tt)
 
 -- Nor is a lock of a sealed block.
-pub sealed_own : (given : Option (List ℕ)) (e : Envelope) → Refuses IsOwn (sealed_under given e)
+pub sealed_own : (given : Option (List ℕ)) (e : Envelope) → Refuses IsOwnPrivate (sealed_under given e)
 unfolding sealed_under
 sealed_own given e =
     let why = errors.UnsupportedCipher e.cipher in
-    then_as IsOwn (ok_or (find_entry ciphers e.cipher) why) _ (some_as IsOwn (find_entry ciphers e.cipher) why tt) (λ cipher.
-    if_as IsOwn (bytes_eq e.kdf bcrypt) _ _
-    (then_as IsOwn (ok_or given errors.MissingPassphrase) (lock_under e cipher)
-    (some_as IsOwn given errors.MissingPassphrase tt) (under_own e cipher))
-    (err_as IsOwn (errors.UnsupportedKdf e.kdf) tt))
+    then_as IsOwnPrivate (ok_or (find_entry ciphers e.cipher) why) _ (some_as IsOwnPrivate (find_entry ciphers e.cipher) why tt) (λ cipher.
+    if_as IsOwnPrivate (bytes_eq e.kdf bcrypt) _ _
+    (then_as IsOwnPrivate (ok_or given errors.MissingPassphrase) (lock_under e cipher)
+    (some_as IsOwnPrivate given errors.MissingPassphrase tt) (under_own e cipher))
+    (err_as IsOwnPrivate (errors.UnsupportedKdf e.kdf) tt))
 
 -- Nor is any.
-lock_own : (given : Option (List ℕ)) (e : Envelope) → Refuses IsOwn (lock_of given e)
+lock_own : (given : Option (List ℕ)) (e : Envelope) → Refuses IsOwnPrivate (lock_of given e)
 unfolding lock_of
 lock_own given e =
-    if_as IsOwn _ _ _ (ok_as IsOwn None) (then_as IsOwn _ _ (sealed_own given e) (λ lock. ok_as IsOwn (Some lock)))
+    if_as IsOwnPrivate _ _ _ (ok_as IsOwnPrivate None) (then_as IsOwnPrivate _ _ (sealed_own given e) (λ lock. ok_as IsOwnPrivate (Some lock)))
 
 -- Nor are both together.
-closed_own : (given : Option (List ℕ)) (content : List ℕ) → Refuses IsOwn (closed given content)
+closed_own : (given : Option (List ℕ)) (content : List ℕ) → Refuses IsOwnPrivate (closed given content)
 unfolding closed
 closed_own given content =
-    then_as IsOwn _ _ (envelope_under_own given content) (λ e.
-    then_as IsOwn _ _ (lock_own given e) (λ lock. ok_as IsOwn _))
+    then_as IsOwnPrivate _ _ (envelope_under_own given content) (λ e.
+    then_as IsOwnPrivate _ _ (lock_own given e) (λ lock. ok_as IsOwnPrivate _))
 
 -- Nor is what a block begins with, nor its key.
-pub block_front_own : (block : List ℕ) → Refuses IsOwn (read_front private_block block)
-block_front_own block = front_as IsOwn private_block block block_own
+pub block_front_own : (block : List ℕ) → Refuses IsOwnPrivate (read_front private_block block)
+block_front_own block = front_as IsOwnPrivate private_block block block_own
 
 pub key_of_block_own : (given : Option (List ℕ)) (e : Envelope) (block : PrivateBlock)
-    → Refuses IsOwn (key_of_block given e block)
-key_of_block_own given e block = if_as IsOwn _ _ _ (ok_as IsOwn _) (err_as IsOwn errors.PublicKeyMismatch tt)
+    → Refuses IsOwnPrivate (key_of_block given e block)
+key_of_block_own given e block = if_as IsOwnPrivate _ _ _ (ok_as IsOwnPrivate _) (err_as IsOwnPrivate errors.PublicKeyMismatch tt)
 
 -- Nor is the key in them.
-key_closed_own : (m : Meanings) (given : Option (List ℕ)) (c : Closed) → Refuses IsOwn (key_closed m given c)
+key_closed_own : (m : Meanings) (given : Option (List ℕ)) (c : Closed) → Refuses IsOwnPrivate (key_closed m given c)
 unfolding key_closed
 key_closed_own m given c =
-    then_as IsOwn _ _ (block_front_own _) (key_of_block_own given c.envelope)
+    then_as IsOwnPrivate _ _ (block_front_own _) (key_of_block_own given c.envelope)
 
 -- Nor is a content.
-content_own : (m : Meanings) (given : Option (List ℕ)) (content : List ℕ) → Refuses IsOwn (content_key m given content)
+content_own : (m : Meanings) (given : Option (List ℕ)) (content : List ℕ) → Refuses IsOwnPrivate (content_key m given content)
 unfolding content_key
-content_own m given content = then_as IsOwn _ _ (closed_own given content) (key_closed_own m given)
+content_own m given content = then_as IsOwnPrivate _ _ (closed_own given content) (key_closed_own m given)
 
 -- ---- a text
 
@@ -164,35 +164,35 @@ pem_own bytes =
     (some_as IsOwnPem (before_footer after) pem.FooterNotFound tt) body_own)
 
 -- A fault of the armour would be a fault of the key.
-pem_error_own : (r : Result (List ℕ) PemError) → Refuses IsOwnPem r → Refuses IsOwn (map_err errors.PemError r)
-pem_error_own (Ok x) each = ok_as IsOwn x
-pem_error_own (Err why) each = err_as IsOwn (errors.PemError why) (each why refl)
+pem_error_own : (r : Result (List ℕ) PemError) → Refuses IsOwnPem r → Refuses IsOwnPrivate (map_err errors.PemError r)
+pem_error_own (Ok x) each = ok_as IsOwnPrivate x
+pem_error_own (Err why) each = err_as IsOwnPrivate (errors.PemError why) (each why refl)
 
 -- Nor is a text.
-text_own : (m : Meanings) (given : Option (List ℕ)) (text : List ℕ) → Refuses IsOwn (text_key m given text)
+text_own : (m : Meanings) (given : Option (List ℕ)) (text : List ℕ) → Refuses IsOwnPrivate (text_key m given text)
 unfolding text_key
 text_own m given text =
-    then_as IsOwn _ _ (pem_error_own (pem_content text) (pem_own text)) (content_own m given)
+    then_as IsOwnPrivate _ _ (pem_error_own (pem_content text) (pem_own text)) (content_own m given)
 
 -- ---- what is written
 
 -- No key is refused for a fault before it is sealed.
-sealable_own : (measure : List ℕ → ℕ) (key : SshPrivateKey) → Refuses IsOwn (sealable measure key)
+sealable_own : (measure : List ℕ → ℕ) (key : SshPrivateKey) → Refuses IsOwnPrivate (sealable measure key)
 unfolding sealable
 sealable_own measure key =
-    if_as IsOwn _ _ _
-    (if_as IsOwn _ _ _ (ok_as IsOwn _) (err_as IsOwn errors.TooLong tt))
-    (err_as IsOwn errors.HashingError tt)
+    if_as IsOwnPrivate _ _ _
+    (if_as IsOwnPrivate _ _ _ (ok_as IsOwnPrivate _) (err_as IsOwnPrivate errors.TooLong tt))
+    (err_as IsOwnPrivate errors.HashingError tt)
 
 -- Nor is its content.
-written_own : (m : Meanings) (key : SshPrivateKey) → Refuses IsOwn (key_content m key)
+written_own : (m : Meanings) (key : SshPrivateKey) → Refuses IsOwnPrivate (key_content m key)
 unfolding key_content
-written_own m key = then_as IsOwn _ _ (sealable_own _ key) (λ lock. ok_as IsOwn _)
+written_own m key = then_as IsOwnPrivate _ _ (sealable_own _ key) (λ lock. ok_as IsOwnPrivate _)
 
 -- Nor is its text.
-written_text_own : (m : Meanings) (key : SshPrivateKey) → Refuses IsOwn (key_text m key)
+written_text_own : (m : Meanings) (key : SshPrivateKey) → Refuses IsOwnPrivate (key_text m key)
 unfolding key_text
-written_text_own m key = then_as IsOwn _ _ (sealable_own text_len key) (λ lock. ok_as IsOwn _)
+written_text_own m key = then_as IsOwnPrivate _ _ (sealable_own text_len key) (λ lock. ok_as IsOwnPrivate _)
 
 -- ---- the laws
 

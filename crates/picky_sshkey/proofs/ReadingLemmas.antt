@@ -15,22 +15,22 @@ use Rattle.picky_suite.specs.Meanings.{Meanings}
 use Rattle.picky_sshkey.specs.PrivateRefusal.{closed, content_asks, content_key, envelope_under, key_closed, key_of_block}
 use Rattle.picky_sshkey.specs.PrivateRefusal.{lock_of, sealed_under}
 use Rattle.picky_sshkey.proofs.RefusalLaws.{Refuses}
-use Rattle.picky_sshkey.proofs.FaultLaws.{IsOwn, block_front_own, envelope_under_own, key_of_block_own, sealed_own}
+use Rattle.picky_sshkey.proofs.FaultLaws.{IsOwnPrivate, block_front_own, envelope_under_own, key_of_block_own, sealed_own}
 
 -- what gives an outcome without faults answers none
 gives_own : {X A : Type 0} (view : X → A) (result : Result X SshPrivateKeyError) (says : Result A SshPrivateKeyError)
-    → Refuses IsOwn says → Gives errors.NoMemory view result says → (e : SshPrivateKeyError) → result ≡ Err e
+    → Refuses IsOwnPrivate says → Gives errors.NoMemory view result says → (e : SshPrivateKeyError) → result ≡ Err e
     → e ≢ errors.SuiteFault
 gives_own view (Ok x) says own gives e is = cc is
 gives_own view (Err f) says own (inl want) e is = λ fault. cc (want, is, fault)
 gives_own view (Err f) says own (inr refused) e is =
     let same : f ≡ e = cc is in
-    λ fault. subst IsOwn fault (own e (refused ∙ ap Err same))
+    λ fault. subst IsOwnPrivate fault (own e (refused ∙ ap Err same))
 
 -- the envelope's, its lock's, its block's and its key's
 pub envelope_no_fault : (given : Option (List ℕ)) (content : List ℕ) (e : SshPrivateKeyError)
     → envelope_under given content ≡ Err e → e ≢ errors.SuiteFault
-envelope_no_fault given content e is = λ fault. subst IsOwn fault (envelope_under_own given content e is)
+envelope_no_fault given content e is = λ fault. subst IsOwnPrivate fault (envelope_under_own given content e is)
 
 pub sealed_no_fault : {X : Type 0} (view : X → Lock) (given : Option (List ℕ)) (envelope : Envelope)
     (result : Result X SshPrivateKeyError) (e : SshPrivateKeyError)

@@ -6,7 +6,8 @@ ghost use Rattle.picky_wire_base.specs.Flaw.{Flawed};
 ghost use Rattle.picky_wire_base.specs.Front.{read_front};
 ghost use Rattle.picky_wire_base.specs.Outcome.{map_err};
 ghost use Rattle.picky_wire_base.specs.View.{why_of};
-ghost use Rattle.picky_sshkey.specs.Kdf.{HasSaltRoom, bcrypt, is_no_option as is_no_option_of, kdf_fields, kdf_option_of, no_option, none, option_inside};
+ghost use Rattle.picky_sshkey.specs.Kdf.{HasSaltRoom, bcrypt, is_no_option as is_no_option_of, kdf_fields};
+ghost use Rattle.picky_sshkey.specs.Kdf.{kdf_option_of, no_option, none, option_inside};
 ghost use Rattle.picky_sshkey.specs.View.{kdf_option_seen};
 
 use crate::kept::name_text;

@@ -7,8 +7,10 @@ ghost use Rattle.picky_wire_base.specs.Wire.{string};
 ghost use Rattle.picky_wire.specs.Flaws.{wire_error};
 ghost use Rattle.picky_wire_base.specs.View.{why_of};
 ghost use Rattle.picky_sshkey.specs.Kdf.{kdf_option_of};
-ghost use Rattle.picky_sshkey.specs.KdfLayout.{IsKdfOption, kdf_layout, option_said as option_said_of, read_option, unwritten};
-ghost use Rattle.picky_sshkey.specs.carried.Kdf.{option_own, option_reads_layout, option_used, option_solid, option_spells, unwritten_for_length};
+ghost use Rattle.picky_sshkey.specs.KdfLayout.{IsKdfOption, kdf_layout, option_said as option_said_of, read_option};
+ghost use Rattle.picky_sshkey.specs.KdfLayout.{unwritten};
+ghost use Rattle.picky_sshkey.specs.carried.Kdf.{option_own, option_reads_layout, option_used, option_solid};
+ghost use Rattle.picky_sshkey.specs.carried.Kdf.{option_spells, unwritten_for_length};
 
 use crate::kdf::{KdfOption, is_no_option, kdf_pieces, option_in, option_of};
 use picky_wire::{

@@ -1,6 +1,7 @@
 //! A private key read from its text (OpenSSH's PROTOCOL.key).
 
-ghost use Rattle.std.specs.Prelude.{◌≡◌, ◌≢◌, ◌⊎◌, ◌^◌, ◌<◌, true, false, None, Some, Ok, Err, length, not, IfOk, IfErr, IfSome, if◌then◌else◌};
+ghost use Rattle.std.specs.Prelude.{◌≡◌, ◌≢◌, ◌⊎◌, ◌^◌, ◌<◌, true, false, None, Some, Ok, Err, length, not, IfOk};
+ghost use Rattle.std.specs.Prelude.{IfErr, IfSome, if◌then◌else◌};
 ghost use Rattle.std.specs.Option.{option_copied};
 ghost use Rattle.picky_wire_base.specs.Front.{read_front};
 ghost use Rattle.picky_wire_base.specs.Outcome.{and_then, map_ok};
@@ -10,8 +11,10 @@ ghost use Rattle.picky_wire.specs.Count.{Rose};
 ghost use Rattle.picky_wire_base.specs.Gives.{Gives};
 ghost use Rattle.picky_keys.specs.LineRefusal.{is_short_text};
 ghost use Rattle.picky_sshkey.specs.Cipher.{is_cbc};
-ghost use Rattle.picky_sshkey.specs.PrivateRefusal.{content_asks, content_key, envelope_under, key_closed, text_asks, text_key};
-ghost use Rattle.picky_sshkey.specs.PrivateRefusal.{key_of_block as key_of_block_of, lock_of as lock_of_envelope, lock_under as lock_under_of, sealed_under as sealed_under_of};
+ghost use Rattle.picky_sshkey.specs.PrivateRefusal.{content_asks, content_key, envelope_under, key_closed, text_asks};
+ghost use Rattle.picky_sshkey.specs.PrivateRefusal.{text_key};
+ghost use Rattle.picky_sshkey.specs.PrivateRefusal.{key_of_block as key_of_block_of, lock_of as lock_of_envelope};
+ghost use Rattle.picky_sshkey.specs.PrivateRefusal.{lock_under as lock_under_of, sealed_under as sealed_under_of};
 ghost use Rattle.picky_sshkey.specs.PrivateBlock.{private_block};
 ghost use Rattle.picky_sshkey.specs.PrivateText.{base_and_comment};
 ghost use Rattle.picky_sshkey.specs.View.{envelope_seen, found_seen, lock_seen, lock_shown};

@@ -1,6 +1,7 @@
 //! A private key written as its envelope's text (OpenSSH's PROTOCOL.key).
 
-ghost use Rattle.std.specs.Prelude.{◌≡◌, ◌⊎◌, ◌^◌, ◌<◌, ◌≤◌, ◌+◌, ◌++◌, [], ◌∷◌, ℕ, List, true, false, Ok, length, is_some, IfOk, IfErr, OnOk, vec_len};
+ghost use Rattle.std.specs.Prelude.{◌≡◌, ◌⊎◌, ◌^◌, ◌<◌, ◌≤◌, ◌+◌, ◌++◌, [], ◌∷◌, ℕ, List, true, false, Ok, length};
+ghost use Rattle.std.specs.Prelude.{is_some, IfOk, IfErr, OnOk, vec_len};
 ghost use Rattle.std.specs.List.{concat};
 ghost use Rattle.std.specs.Option.{IfSome};
 ghost use Rattle.picky_suite.specs.Asked.{GivesAsked, LeavesSuite};
@@ -15,7 +16,8 @@ ghost use Rattle.picky_sshkey.specs.Encodes.{Encodes};
 ghost use Rattle.picky_sshkey.specs.Kdf.{HasSaltRoom, kdf_option_of};
 ghost use Rattle.picky_sshkey.specs.Kept.{IsSshPrivateKey, read_again};
 ghost use Rattle.picky_sshkey.specs.PrivateRefusal.{content_key, text_key};
-ghost use Rattle.picky_sshkey.specs.Written.{content_under, envelope_of, key_content, key_text, lock_kept, block_padding, plain_block};
+ghost use Rattle.picky_sshkey.specs.Written.{content_under, envelope_of, key_content, key_text, lock_kept};
+ghost use Rattle.picky_sshkey.specs.Written.{block_padding, plain_block};
 ghost use Rattle.picky_sshkey.specs.Written.{text_writing_asks, writing_asks, written_cipher, written_kdf, written_option};
 ghost use Rattle.picky_sshkey.specs.Written.{may_derive as may_derive_of};
 ghost use Rattle.picky_sshkey.specs.inner.Draft.{IsDraft};

@@ -1,16 +1,16 @@
 -- A private key that is read keeps what its type promises, and so does the public key in it.
-use Rattle.std.specs.Prelude.{List, ℕ}
-use Rattle.std.proofs.Common.{sym, subst}
+use Rattle.std.specs.Prelude.{◌≡◌, List, ℕ}
+use Rattle.std.proofs.Common.{refl, sym, subst}
 use Rattle.picky_wire_base.specs.Numbers.{IsBytes}
 use Rattle.picky_wire_base.proofs.Numbers.{bytes_in_front, bytes_behind, byte_exact}
 use Rattle.picky_keys.specs.declared.kind.KeyKind.{KeyKind}
 use Rattle.picky_keys.specs.declared.kind.KeyKind.TheVariants as kinds
 use Rattle.picky_keys.specs.declared.curve.EcCurve.{EcCurve}
-use Rattle.picky_keys.specs.Key.{IsKey, IsEdKey}
+use Rattle.picky_keys.specs.Key.{IsKey, IsEdKey, kind_of}
 use Rattle.picky_keys.proofs.KeyLaws.{number_keeps, string_keeps, text_keeps, ed_keeps}
 use Rattle.picky_sshkey_blob.specs.declared.key.SshBasePrivateKey.{SshBasePrivateKey}
 use Rattle.picky_sshkey_blob.specs.declared.key.SshBasePrivateKey.TheVariants as keys
-use Rattle.picky_sshkey_blob.specs.Key.{IsPrivateKey, public_part}
+use Rattle.picky_sshkey_blob.specs.Key.{IsPrivateKey, kind_of as private_kind, public_part}
 use Rattle.picky_sshkey_blob.specs.Blob.{ed_secret, rsa_fields, ec_fields, ed_fields, sk_ecdsa_fields, sk_ed_fields}
 use Rattle.picky_sshkey_blob.specs.Blob.{private_key_fields, secret}
 
@@ -110,3 +110,11 @@ public_part_is_key (keys.Ec curve point number) is = is.0
 public_part_is_key (keys.Ed seed public) is = is.1
 public_part_is_key (keys.SkEcdsaSha2NistP256 point application flags handle) is = (is.0, is.1)
 public_part_is_key (keys.SkEd25519 key application flags handle) is = (is.0, is.1)
+
+-- a private key is of the kind of its public part
+pub same_kind : (key : SshBasePrivateKey) → private_kind key ≡ kind_of (public_part key)
+same_kind (keys.Rsa n e d iqmp p q) = refl
+same_kind (keys.Ec curve point secret) = refl
+same_kind (keys.Ed secret public) = refl
+same_kind (keys.SkEcdsaSha2NistP256 point application flags handle) = refl
+same_kind (keys.SkEd25519 key application flags handle) = refl

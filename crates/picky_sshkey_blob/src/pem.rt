@@ -9,7 +9,8 @@ ghost use Rattle.picky_text.specs.Lines.{text_of};
 ghost use Rattle.picky_text.specs.Rows.{rows_of};
 ghost use Rattle.picky_text.specs.declared.lines.LineEnd.TheVariants.{Lf};
 ghost use Rattle.picky_wire_base.specs.Gives.{Gives};
-ghost use Rattle.picky_sshkey_blob.specs.Pem.{is_blank as is_blank_of, packed as packed_of, pem_lines as lines_of, pem_text as text_for};
+ghost use Rattle.picky_sshkey_blob.specs.Pem.{is_blank as is_blank_of, packed as packed_of, pem_lines as lines_of};
+ghost use Rattle.picky_sshkey_blob.specs.Pem.{pem_text as text_for};
 ghost use Rattle.picky_sshkey_blob.specs.PemRefusal.{short_content, of_body as of_body_of, pem_content, pem_string};
 
 use crate::pem_error::PemError;

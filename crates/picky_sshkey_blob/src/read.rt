@@ -3,7 +3,8 @@
 ghost use Rattle.std.specs.Prelude.{◌≡◌, ◌==◌, ◌&&◌, nat_le, length, take, drop, bytes_eq, Some, None, if◌then◌else◌};
 ghost use Rattle.picky_wire.specs.Flaws.{TakesLayout};
 ghost use Rattle.picky_keys.specs.Blob.{ed_key};
-ghost use Rattle.picky_sshkey_blob.specs.Blob.{ed_secret, rsa_fields, ec_fields, ed_fields, sk_ecdsa_fields, sk_ed_fields, private_key_fields};
+ghost use Rattle.picky_sshkey_blob.specs.Blob.{ed_secret, rsa_fields, ec_fields, ed_fields, sk_ecdsa_fields};
+ghost use Rattle.picky_sshkey_blob.specs.Blob.{sk_ed_fields, private_key_fields};
 ghost use Rattle.picky_sshkey_blob.specs.inner.Stop.{secret_stop};
 
 use crate::key::SshBasePrivateKey;

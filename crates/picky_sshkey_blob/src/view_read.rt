@@ -4,7 +4,8 @@ ghost use Rattle.std.specs.Prelude.{◌^◌, ◌<◌, length, IfOk, IfErr};
 ghost use Rattle.picky_wire_base.specs.View.{end_of};
 ghost use Rattle.picky_keys.specs.Blob.{key_type};
 ghost use Rattle.picky_sshkey_blob.specs.Key.{IsPrivateKey};
-ghost use Rattle.picky_sshkey_blob.specs.Blob.{rsa_fields, ec_fields, ed_fields, sk_ecdsa_fields, sk_ed_fields, private_key_fields, secret as secret_layout};
+ghost use Rattle.picky_sshkey_blob.specs.Blob.{rsa_fields, ec_fields, ed_fields, sk_ecdsa_fields, sk_ed_fields};
+ghost use Rattle.picky_sshkey_blob.specs.Blob.{private_key_fields, secret as secret_layout};
 ghost use Rattle.picky_wire_base.specs.View.{SeenAt};
 ghost use Rattle.picky_sshkey_blob.specs.View.{key_seen, PartsLie, IsRefusal};
 

@@ -5,7 +5,8 @@ ghost use Rattle.std.specs.Int.{w32, to_be_bytes};
 ghost use Rattle.std.specs.List.{flat_map};
 ghost use Rattle.sha2.specs.Hashers.{Holds512};
 ghost use Rattle.picky_wire_base.specs.Wire.{string_of};
-ghost use Rattle.picky_suite.specs.Toy.{xored, first_block, ciphered, masks, toy_seal, toy_open, toy_ctr, derived_block, toy_derived, flavour_number};
+ghost use Rattle.picky_suite.specs.Toy.{xored, first_block, ciphered, masks, toy_seal, toy_open, toy_ctr};
+ghost use Rattle.picky_suite.specs.Toy.{derived_block, toy_derived, flavour_number};
 
 use crate::flavour::Flavour;
 use sha2::{Digest, Sha512};

@@ -3,7 +3,8 @@
 ghost use Rattle.std.specs.Prelude.{◌≡◌};
 ghost use Rattle.std.specs.List.{list_any};
 ghost use Rattle.picky_text.specs.Words.{ends_line};
-ghost use Rattle.picky_target.specs.Judged.{carries_comment as carries_comment_of, has_lf as has_lf_in, ends_in_cr as ends_in_cr_of, is_trimmed as is_trimmed_of};
+ghost use Rattle.picky_target.specs.Judged.{carries_comment as carries_comment_of, has_lf as has_lf_in};
+ghost use Rattle.picky_target.specs.Judged.{ends_in_cr as ends_in_cr_of, is_trimmed as is_trimmed_of};
 
 use crate::target::KeyTarget;
 use memchr::{memchr, memchr2};

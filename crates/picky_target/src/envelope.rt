@@ -7,7 +7,9 @@ ghost use Rattle.picky_wire.specs.Count.{Rose};
 ghost use Rattle.picky_wire_base.specs.Gives.{Gives};
 ghost use Rattle.picky_sshkey.specs.Made.{made_option};
 ghost use Rattle.picky_sshkey.specs.Written.{text_writing_asks};
-ghost use Rattle.picky_target.specs.inner.Envelope.{salt_judged, envelope_refusal as envelope_refusal_of, made as made_of, envelope_drafted as drafted_of, text_of_key as text_of_key_of, envelope_written, envelope_asks};
+ghost use Rattle.picky_target.specs.inner.Envelope.{salt_judged, envelope_refusal as envelope_refusal_of};
+ghost use Rattle.picky_target.specs.inner.Envelope.{made as made_of, envelope_drafted as drafted_of};
+ghost use Rattle.picky_target.specs.inner.Envelope.{text_of_key as text_of_key_of, envelope_written, envelope_asks};
 
 use crate::comment::carries_comment;
 use crate::error::ConvertError;

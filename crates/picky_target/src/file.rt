@@ -15,8 +15,10 @@ ghost use Rattle.picky_ppk_file.specs.PuttyRefusal.{is_security_key as is_securi
 ghost use Rattle.picky_ppk.specs.Sealed.{file_to_seal, is_sealable, padding_len as missing_len};
 ghost use Rattle.picky_ppk.specs.Fresh.{salt_len as salt_len_of};
 ghost use Rattle.picky_target.specs.Drafts.{padding_len as padding_len_of, plain_file as plain_file_of};
-ghost use Rattle.picky_target.specs.inner.File.{salt_and_padding, measured, plain_drafted, plain_written, sealed_text as sealed_text_of};
-ghost use Rattle.picky_target.specs.inner.File.{sealed_written, sealed_asks, text_of_file as text_of_file_of, ppk_written, ppk_asks};
+ghost use Rattle.picky_target.specs.inner.File.{salt_and_padding, measured, plain_drafted, plain_written};
+ghost use Rattle.picky_target.specs.inner.File.{sealed_text as sealed_text_of};
+ghost use Rattle.picky_target.specs.inner.File.{sealed_written, sealed_asks, text_of_file as text_of_file_of};
+ghost use Rattle.picky_target.specs.inner.File.{ppk_written, ppk_asks};
 
 use crate::comment::carries_comment;
 use crate::error::ConvertError;

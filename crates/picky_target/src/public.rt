@@ -3,7 +3,8 @@
 ghost use Rattle.std.specs.Prelude.{◌≡◌, ◌⊎◌};
 ghost use Rattle.picky_wire_base.specs.Gives.{Gives};
 ghost use Rattle.picky_ppk_parts.specs.Unsupported.{no_security_keys as no_security_keys_of};
-ghost use Rattle.picky_target.specs.inner.Public.{line_written, putty_written, putty_refusal as putty_refusal_of, text_of_putty as text_of_putty_of};
+ghost use Rattle.picky_target.specs.inner.Public.{line_written, putty_written, putty_refusal as putty_refusal_of};
+ghost use Rattle.picky_target.specs.inner.Public.{text_of_putty as text_of_putty_of};
 
 use crate::comment::carries_comment;
 use crate::error::ConvertError;

@@ -1,6 +1,7 @@
 //! Values that have a spelling of their own on the wire.
 
-ghost use Rattle.std.specs.Prelude.{◌≡◌, ◌^◌, ◌↔◌, ℕ, List, Option, Some, None, Result, Err, length, min, IsTrue, IfErr, MatchOption};
+ghost use Rattle.std.specs.Prelude.{◌≡◌, ◌^◌, ◌↔◌, ℕ, List, Option, Some, None, Result, Err, length, min, IsTrue};
+ghost use Rattle.std.specs.Prelude.{IfErr, MatchOption};
 ghost use Rattle.picky_wire_base.specs.Grammar.{Grammar};
 ghost use Rattle.picky_wire_base.specs.Row.{Solid};
 ghost use Rattle.picky_wire.specs.declared.error.WireError.{WireError};

@@ -1,6 +1,7 @@
 //! The fields of the wire, read from a source.
 
-ghost use Rattle.std.specs.Prelude.{◌≡◌, ◌⊎◌, ◌^◌, ◌<◌, ◌≤◌, ◌+◌, ◌++◌, length, max, replicate, Err, IfSome, IfOk, IfErr, OnOk, OnErr, MatchOption, true, false, vec_len, vec_capacity};
+ghost use Rattle.std.specs.Prelude.{◌≡◌, ◌⊎◌, ◌^◌, ◌<◌, ◌≤◌, ◌+◌, ◌++◌, length, max, replicate, Err, IfSome, IfOk};
+ghost use Rattle.std.specs.Prelude.{IfErr, OnOk, OnErr, MatchOption, true, false, vec_len, vec_capacity};
 ghost use Rattle.std.specs.Str.{is_utf8};
 ghost use Rattle.picky_wire_base.specs.Combine.{tag};
 ghost use Rattle.picky_wire_base.specs.Outcome.{map_ok};

@@ -1,6 +1,7 @@
 //! Where bytes go.
 
-ghost use Rattle.std.specs.Prelude.{◌≡◌, ◌^◌, ◌<◌, ◌≤◌, ◌-◌, ◌++◌, ◌↔◌, [], ℕ, List, true, take, length, min, IfOk, OnOk, OnErr, IsErr, vec_len, vec_capacity};
+ghost use Rattle.std.specs.Prelude.{◌≡◌, ◌^◌, ◌<◌, ◌≤◌, ◌-◌, ◌++◌, ◌↔◌, [], ℕ, List, true, take, length, min, IfOk};
+ghost use Rattle.std.specs.Prelude.{OnOk, OnErr, IsErr, vec_len, vec_capacity};
 ghost use Rattle.std.proofs.Common.{arith};
 ghost use Rattle.picky_wire.specs.Count.{Keeps, failed};
 ghost use Rattle.picky_wire.specs.Memory.{Taken, is_refused, taken_len, after_taken};

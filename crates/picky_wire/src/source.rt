@@ -1,6 +1,7 @@
 //! Where bytes come from.
 
-ghost use Rattle.std.specs.Prelude.{◌≡◌, ◌^◌, ◌<◌, ◌≤◌, ◌-◌, ◌++◌, ◌↔◌, [], ℕ, List, Option, Some, None, true, take, drop, length, min, IfOk, OnOk, OnErr, IsOk, IsErr, IsSome, vec_len};
+ghost use Rattle.std.specs.Prelude.{◌≡◌, ◌^◌, ◌<◌, ◌≤◌, ◌-◌, ◌++◌, ◌↔◌, [], ℕ, List, Option, Some, None, true, take};
+ghost use Rattle.std.specs.Prelude.{drop, length, min, IfOk, OnOk, OnErr, IsOk, IsErr, IsSome, vec_len};
 ghost use Rattle.std.proofs.Common.{arith, lit<};
 ghost use Rattle.picky_wire_base.specs.Numbers.{IsBytes};
 ghost use Rattle.picky_wire.specs.Count.{Keeps, next_fails, failed};

@@ -1,6 +1,7 @@
 //! The trusted edge: std's readers and writers as sources and sinks.
 
-ghost use Rattle.std.specs.Prelude.{◌≡◌, ◌^◌, ◌<◌, ◌≤◌, ◌-◌, ◌++◌, ◌↔◌, [], ℕ, Ok, Some, None, IsSome, IfOk, OnOk, OnErr, take, length, min};
+ghost use Rattle.std.specs.Prelude.{◌≡◌, ◌^◌, ◌<◌, ◌≤◌, ◌-◌, ◌++◌, ◌↔◌, [], ℕ, Ok, Some, None, IsSome, IfOk, OnOk};
+ghost use Rattle.std.specs.Prelude.{OnErr, take, length, min};
 ghost use Rattle.std.proofs.Common.{arith};
 ghost use Rattle.picky_wire.specs.Count.{Keeps, count_one};
 ghost use Rattle.picky_wire.specs.Known.{known_or_nil, TellsBytes};

@@ -1,6 +1,7 @@
 //! The fields of the wire, written to a sink.
 
-ghost use Rattle.std.specs.Prelude.{◌≡◌, ◌^◌, ◌<◌, ◌≤◌, ◌++◌, ◌↔◌, ℕ, true, false, take, length, slice_index, Err, OnOk, OnErr};
+ghost use Rattle.std.specs.Prelude.{◌≡◌, ◌^◌, ◌<◌, ◌≤◌, ◌++◌, ◌↔◌, ℕ, true, false, take, length, slice_index, Err};
+ghost use Rattle.std.specs.Prelude.{OnOk, OnErr};
 ghost use Rattle.picky_wire_base.specs.Wire.{string_of};
 ghost use Rattle.picky_wire_base.specs.Mpint.{mpint_of};
 ghost use Rattle.picky_wire.specs.Puts.{Puts};

@@ -1,8 +1,10 @@
 //! Byte strings and texts short enough for the wire, which contracts see as lists of bytes.
 
-ghost use Rattle.std.specs.Prelude.{◌≡◌, ◌^◌, ◌<◌, ◌≤◌, ◌↔◌, ℕ, List, Some, length, nat_eq, refl, IfOk, IsErrOf, IsUtf8, vec_len, string_bytes, string_len};
+ghost use Rattle.std.specs.Prelude.{◌≡◌, ◌^◌, ◌<◌, ◌≤◌, ◌↔◌, ℕ, List, Some, length, nat_eq, refl, IfOk, IsErrOf};
+ghost use Rattle.std.specs.Prelude.{IsUtf8, vec_len, string_bytes, string_len};
 ghost use Rattle.std.specs.Cmp.{partial_equiv_from_equiv};
-ghost use Rattle.std.specs.Cmp.Lexicographic.{pointwise, slice_cmp, nat_list_eq_equiv, nat_list_cmp_total, texts_po, texts_ties};
+ghost use Rattle.std.specs.Cmp.Lexicographic.{pointwise, slice_cmp, nat_list_eq_equiv, nat_list_cmp_total, texts_po};
+ghost use Rattle.std.specs.Cmp.Lexicographic.{texts_ties};
 ghost use Rattle.std.specs.Ordering.{nat_cmp};
 
 use crate::copy::TryClone;

@@ -1,6 +1,7 @@
 //! The bytes of a field, ready to be written, counted or hashed.
 
-ghost use Rattle.std.specs.Prelude.{◌≡◌, ◌^◌, ◌<◌, ◌≤◌, ◌+◌, ◌++◌, ◌∷◌, [], length, min, slice_index, true, false, IsUtf8, OnOk};
+ghost use Rattle.std.specs.Prelude.{◌≡◌, ◌^◌, ◌<◌, ◌≤◌, ◌+◌, ◌++◌, ◌∷◌, [], length, min, slice_index, true, false};
+ghost use Rattle.std.specs.Prelude.{IsUtf8, OnOk};
 ghost use Rattle.std.specs.Int.{w8, w32, w64, to_be_bytes};
 ghost use Rattle.std.specs.List.{concat};
 ghost use Rattle.picky_wire_base.specs.Numbers.{IsBytes};

@@ -9,7 +9,8 @@ use Rattle.picky_agent_state.specs.declared.identity.Identity.{Identity}
 use Rattle.picky_agent_state.specs.declared.asked.Asked.{Asked}
 use Rattle.picky_agent_state.specs.declared.asked.Asked.TheVariants as seen
 use Rattle.picky_agent_state.specs.inner.Entry.{HasEntry}
-use Rattle.picky_agent_state.specs.Request.{Request, Identities, Sign, Add, Remove, RemoveAll, Lock, Unlock, Unfit, sign_request}
+use Rattle.picky_agent_state.specs.Request.{Request, Identities, Sign, Add, Remove, RemoveAll, Lock, Unlock, Unfit}
+use Rattle.picky_agent_state.specs.Request.{sign_request}
 
 -- the identity that is added
 abbrev pub identity_seen : PrivateView → (comment : List ℕ) → Identity

@@ -10,4 +10,5 @@ use Rattle.picky_cert_builder.specs.Keeps.{without_key_comments}
 -- with each signature its line is read back, where it is short
 abbrev pub IsReadBack : SshCertificate → Type 0
 IsReadBack c =
-    (bytes : List ℕ) → IsString bytes → length (line_of (signed_with c bytes)) < 2 ^ 32 → IsReadBackCertificate (without_key_comments (signed_with c bytes))
+    (bytes : List ℕ) → IsString bytes → length (line_of (signed_with c bytes)) < 2 ^ 32
+    → IsReadBackCertificate (without_key_comments (signed_with c bytes))

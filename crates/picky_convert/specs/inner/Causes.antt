@@ -30,7 +30,8 @@ refusal_status e = statuses.Refused e
 -- what is answered for bytes: the text, or a status with its cause
 abbrev pub Comes : {X : Type 0} → SignRelation → (X → List ℕ) → Outside → Command → (input : List ℕ)
     → (read_rose suite_rose signer_rose : Type 0) → Result X Status → Type 0
-Comes signs view o command input read_rose suite_rose signer_rose (Ok text) = WritesMade signs (outcome o command input) (view text)
+Comes signs view o command input read_rose suite_rose signer_rose (Ok text) =
+    WritesMade signs (outcome o command input) (view text)
 Comes signs view o command input read_rose suite_rose signer_rose (Err status) =
     Stops signs o command input read_rose suite_rose signer_rose status
 

@@ -14,10 +14,11 @@ use Rattle.picky_ledger.specs.Runs.{FailsAt, Runs}
 use Rattle.picky_ledger.specs.State.{State}
 
 -- the request of a line was answered, and the line of its reply was added; or memory was wanting, or the device failed for it
-abbrev pub AnswersLine : {A : Type 0} → SignRelation → IssuerTerms → (old : State) (line : List ℕ) (rose : Type 0) (before after : List ℕ)
-    → Result A LedgerError → State → Type 0
+abbrev pub AnswersLine : {A : Type 0} → SignRelation → IssuerTerms → (old : State) (line : List ℕ) (rose : Type 0)
+    → (before after : List ℕ) → Result A LedgerError → State → Type 0
 AnswersLine signs t old line rose before after (Ok done) new =
-    (reply : Reply) × Applies signs old line (judged_request_line t old line) ⊥ (Ok reply) new × (after ≡ before ++ reply_line (id_in line) reply)
+    (reply : Reply) × Applies signs old line (judged_request_line t old line) ⊥ (Ok reply) new
+    × (after ≡ before ++ reply_line (id_in line) reply)
 AnswersLine signs t old line rose before after (Err errors.SignerFault) new =
     (request : Request) × (judged_request_line t old line ≡ Ok request) × rose
 AnswersLine signs t old line rose before after (Err errors.NoMemory) new = Unit {0}
@@ -32,7 +33,8 @@ AnswersRequests signs issuer old fresh lines rose (Err errors.SignerFault) new =
 AnswersRequests signs issuer old fresh lines rose (Err errors.NoMemory) new = Unit {0}
 
 -- what is answered for the bytes of a source: the text, or why there is none
-abbrev pub Comes : SignRelation → (fresh input : List ℕ) → (read_rose signer_rose : Type 0) → Result (List ℕ) LedgerStatus → Type 0
+abbrev pub Comes : SignRelation → (fresh input : List ℕ) → (read_rose signer_rose : Type 0) → Result (List ℕ) LedgerStatus
+    → Type 0
 Comes signs fresh input read_rose signer_rose (Ok text) = IsAnswerTo signs fresh input text
 Comes signs fresh input read_rose signer_rose (Err status) = Stops signs fresh input read_rose signer_rose status
 

@@ -2,7 +2,8 @@
 use Rattle.std.specs.Prelude.{◌≡◌, ◌⊎◌, ℕ, List, string_bytes, Result, Ok, Err}
 use Rattle.picky_input.specs.Extent.{Extent, ToEnd}
 use Rattle.picky_policy.specs.Command.{Asked}
-use Rattle.picky_policy.specs.Run.{IsAnswerTo, IsAnswer, IsFaultOf, IsOutsideFault, extent_of, file_part, offered, offered_in}
+use Rattle.picky_policy.specs.Run.{IsAnswerTo, IsAnswer, IsFaultOf, IsOutsideFault, extent_of, file_part, offered}
+use Rattle.picky_policy.specs.Run.{offered_in}
 use Rattle.picky_policy.specs.Verifies.{VerifyRelation}
 use Rattle.picky_policy.specs.declared.answer.Answer.{Answer}
 use Rattle.picky_policy.specs.declared.decision.Decision.{Decision}

@@ -1,5 +1,6 @@
 -- What an element of the wire promises of its layout, for the options of a key derivation.
-use Rattle.std.specs.Prelude.{◌≡◌, ◌≢◌, ◌==◌, ◌&&◌, ◌+◌, ◌-◌, ◌^◌, ◌++◌, ◌∷◌, [], Bool, true, false, List, ℕ, nat_lt, length}
+use Rattle.std.specs.Prelude.{◌≡◌, ◌≢◌, ◌==◌, ◌&&◌, ◌+◌, ◌-◌, ◌^◌, ◌++◌, ◌∷◌, [], Bool, true, false, List, ℕ, nat_lt}
+use Rattle.std.specs.Prelude.{length}
 use Rattle.std.specs.Prelude.{None, Some, Result, Ok, Err, if◌then◌else◌}
 use Rattle.std.specs.Int.{w32, to_be_bytes}
 use Rattle.std.proofs.Common.{refl, sym, ap, ◌∙◌, subst, arith}
@@ -20,7 +21,8 @@ use Rattle.picky_wire_base.proofs.PieceLemmas.{length-string_of}
 use Rattle.picky_wire.specs.Flaws.{wire_error}
 use Rattle.picky_wire.specs.carried.Flaws.{wire_own}
 use Rattle.picky_sshkey.specs.declared.kdf.KdfOption.{KdfOption}
-use Rattle.picky_sshkey.specs.Kdf.{HasSaltRoom, is_no_option, kdf_fields, kdf_option, kdf_option_of, no_option, option_inside}
+use Rattle.picky_sshkey.specs.Kdf.{HasSaltRoom, is_no_option, kdf_fields, kdf_option, kdf_option_of, no_option}
+use Rattle.picky_sshkey.specs.Kdf.{option_inside}
 use Rattle.picky_sshkey.specs.KdfLayout.{IsKdfOption, kdf_layout, read_option, unwritten}
 
 -- Options are refused for their length alone.

@@ -7,7 +7,8 @@ use Rattle.std.proofs.lemmas.List.{take_at, drop_at, length-take-le}
 use Rattle.picky_wire_base.specs.Numbers.{IsBytes}
 use Rattle.picky_wire_base.proofs.Numbers.{front_bytes, back_bytes}
 use Rattle.picky_suite.specs.Ranges.{IsWhole}
-use Rattle.picky_suite.specs.Toy.{xored, first_block, more_blocks, ciphered, seal_blocks, open_blocks, toy_seal, toy_open, masks, toy_ctr}
+use Rattle.picky_suite.specs.Toy.{xored, first_block, more_blocks, ciphered, seal_blocks, open_blocks, toy_seal}
+use Rattle.picky_suite.specs.Toy.{toy_open, masks, toy_ctr}
 use Rattle.picky_suite.specs.carried.Bytes.{joined_bytes, no_bytes}
 
 -- ---- lengths

@@ -1,5 +1,6 @@
 -- What is written of a private key as OpenSSH's, step by step as the code judges it.
-use Rattle.std.specs.Prelude.{Bool, false, List, ℕ, Option, None, Some, Result, Ok, Err, length, nat_le, take, if◌then◌else◌}
+use Rattle.std.specs.Prelude.{Bool, false, List, ℕ, Option, None, Some, Result, Ok, Err, length, nat_le, take}
+use Rattle.std.specs.Prelude.{if◌then◌else◌}
 use Rattle.picky_wire_base.specs.Outcome.{and_then, map_err}
 use Rattle.picky_suite.specs.Meanings.{Meanings}
 use Rattle.picky_suite.specs.Ranges.{bcrypt_fits}

@@ -48,7 +48,8 @@ salt_and_padding pass fresh version config key =
 
 -- the draft of a file as it is measured: zeros stand for its MAC
 abbrev pub draft_of : PpkEncryptionConfig → (salt padding : List ℕ) → PpkFile → PpkFile
-draft_of config salt padding f = record (file_to_seal config salt padding f) { mac = replicate (mac_len (version_of f.sealing)) 0 }
+draft_of config salt padding f =
+    record (file_to_seal config salt padding f) { mac = replicate (mac_len (version_of f.sealing)) 0 }
 
 -- whether the sealed file has room
 abbrev pub measured : PpkEncryptionConfig → (salt padding : List ℕ) → PpkFile → Result (Unit {0}) ConvertError

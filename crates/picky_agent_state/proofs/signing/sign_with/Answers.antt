@@ -2,11 +2,11 @@
 use Rattle.std.proofs.Common.{◌≡◌, ◌∙◌, Some, IfOk, Option, ap, subst, sym}
 use Rattle.picky_keys.specs.Key.{kind_of}
 use Rattle.picky_sshkey_blob.specs.Key.{public_part}
+use Rattle.picky_sshkey_blob.proofs.KeyLaws.{same_kind}
 use Rattle.picky_agent_state.specs.Kept.{machine}
 use Rattle.picky_agent_state.specs.Request.{sign_request}
 use Rattle.picky_agent_state.specs.Signing.{SigningWay, way_for}
 use Rattle.picky_agent_state.specs.Step.{Asks}
-use Rattle.picky_agent_state.proofs.KeyLemmas.{same_kind}
 use Rattle.picky_agent_state.proofs.signing.sign_with.Goals as goal
 
 pub returns-in-Some-clause-asks : goal.returns-in-Some-clause-asks

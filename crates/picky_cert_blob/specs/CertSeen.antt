@@ -28,7 +28,8 @@ use Rattle.picky_cert_blob.specs.declared.part.CertPart.TheVariants as parts
 use Rattle.picky_wire_base.specs.Combine.{at}
 use Rattle.picky_cert_blob.specs.Items.{principal_item, option_item, extension_item}
 use Rattle.picky_cert_blob.specs.View.{AreItems, values_in}
-use Rattle.picky_cert_blob.specs.Layout.{Body, Grants, Head, Terms, cert_name, critical_options, extensions, head, terms, type_number}
+use Rattle.picky_cert_blob.specs.Layout.{Body, Grants, Head, Terms, cert_name, critical_options, extensions, head, terms}
+use Rattle.picky_cert_blob.specs.Layout.{type_number}
 
 abbrev pub type_named : NamedType → SshCertKeyType
 type_named named = named.cert_key_type
