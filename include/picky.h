@@ -229,7 +229,8 @@ enum {
     PICKY_PUTTY_IO_ERROR = 16,                       /* a blob is cut */
     PICKY_PUTTY_SUITE_FAULT = 17,                    /* never: it is PICKY_NO_CIPHER */
     PICKY_PUTTY_TOO_LONG = 18,                       /* there are 2^32 bytes or more */
-    PICKY_PUTTY_TOO_MANY_LINES = 19,                 /* a block has 65,536 lines or more */
+    PICKY_PUTTY_TOO_MANY_LINES = 19,                 /* a block has 65,536 lines or more: one that is read is
+                                                        PICKY_PUTTY_INVALID_INPUT, one to write PICKY_TOO_MANY_LINES */
     PICKY_PUTTY_NO_MEMORY = 20                       /* never: it is PICKY_NO_MEMORY */
 };
 

@@ -3,8 +3,8 @@
 
     make && ./picky.py ppk3 < key
 
-The program's words are "openssh", "ppk2", "ppk3", "ssh-pub" and "putty-pub", as keyconv's, and "fingerprint", which prints the
-SHA-256 fingerprint alone. Ed25519: PuTTY takes about every second file of "ppk2" and "ppk3" for another secret; pass it through
+The program takes one of keyconv's "openssh", "ppk2", "ppk3", "ssh-pub" and "putty-pub", or "fingerprint", which prints the SHA-256
+fingerprint alone. Ed25519: PuTTY takes about every second file of "ppk2" and "ppk3" for another secret; pass it through
 `puttyppk`. It refuses as keyconv does, with status 1 and a line on standard error.
 """
 import ctypes
@@ -76,8 +76,8 @@ def handed_out(call, *given):
 
 
 def convert(text, target, pass_in=b"", pass_out=b"", fresh=b""):
-    """The text of a target for the key and the comment that a text means."""
-    return handed_out(library.picky_convert, Bytes(text), target, Bytes(pass_in), Bytes(pass_out), Bytes(fresh))
+    """The text of a target, one of TARGETS, for the key and the comment that a text means."""
+    return handed_out(library.picky_convert, Bytes(text), TARGETS[target], Bytes(pass_in), Bytes(pass_out), Bytes(fresh))
 
 
 def fingerprint(text):
@@ -86,8 +86,8 @@ def fingerprint(text):
 
 
 def read_public(text, part):
-    """A part of the public key that a text means."""
-    return handed_out(library.picky_read_public, Bytes(text), part)
+    """A part, one of PARTS, of the public key that a text means."""
+    return handed_out(library.picky_read_public, Bytes(text), PARTS[part])
 
 
 def main(words):
@@ -99,7 +99,7 @@ def main(words):
         if words[0] == "fingerprint":
             print(fingerprint(text))
         else:
-            sys.stdout.buffer.write(convert(text, TARGETS[words[0]]))
+            sys.stdout.buffer.write(convert(text, words[0]))
     except PickyError as refusal:
         print(f"picky.py: {refusal}", file=sys.stderr)
         return 1
