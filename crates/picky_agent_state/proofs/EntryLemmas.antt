@@ -17,7 +17,7 @@ use Rattle.picky_keys.specs.Blob.{blob_of, fields_spelled}
 use Rattle.picky_keys.specs.declared.kind.KeyKind.TheVariants as kinds
 use Rattle.picky_keys.specs.declared.key.SshBasePublicKey.TheVariants as keys
 use Rattle.picky_sshkey_blob.specs.{declared.view.PrivateView.{PrivateView}, Key.{IsPrivateKey, public_part}}
-use Rattle.picky_sshkey_blob.specs.View.{PartsLie, key_seen}
+use Rattle.picky_sshkey_blob.specs.View.{PrivatePartsLie, private_key_seen}
 use Rattle.picky_sshkey_blob.specs.declared.view.PrivateView.TheVariants as views
 use Rattle.picky_agent_state.specs.{Message.{message_limit}, declared.identity.Identity.{Identity}, Reply.{entry}}
 use Rattle.picky_agent_state.specs.{Rows.{most_identities}, inner.Asked.{CanAdd, identity_seen}}
@@ -114,8 +114,8 @@ blob_size n key within =
 part_size : (bytes : List ℕ) (end : ℕ) (part : Part) → Lies bytes end part → length part.bytes.now ≤ length bytes
 part_size bytes end part lies = omega (arith, lies.ends, lies.within)
 
-parts_size : (bytes : List ℕ) (from : ℕ) (key : PrivateView) → PartsLie bytes from key
-    → Within (length bytes) (public_part (key_seen key))
+parts_size : (bytes : List ℕ) (from : ℕ) (key : PrivateView) → PrivatePartsLie bytes from key
+    → Within (length bytes) (public_part (private_key_seen key))
 parts_size bytes from (views.Rsa n e d iqmp p q) lie = (part_size bytes _ e lie.1, part_size bytes _ n lie.0)
 parts_size bytes from (views.Ec curve point secret) lie = part_size bytes _ point lie.0
 parts_size bytes from (views.Ed secret public) lie = part_size bytes _ public lie.1
@@ -126,20 +126,20 @@ parts_size bytes from (views.SkEd25519 key application flags handle) lie =
 
 -- a length can say it
 has_entry : (bytes : List ℕ) (from : ℕ) (key : PrivateView) (comment : List ℕ) → length bytes ≤ message_limit
-    → PartsLie bytes from key → length comment ≤ length bytes → HasEntry (identity_seen key comment)
+    → PrivatePartsLie bytes from key → length comment ≤ length bytes → HasEntry (identity_seen key comment)
 has_entry bytes from key comment few lie within =
     omega (
       arith,
       few,
       within,
-      blob_size (length bytes) (public_part (key_seen key)) (parts_size bytes from key lie),
-      length-string_of (blob_of (public_part (key_seen key))),
+      blob_size (length bytes) (public_part (private_key_seen key)) (parts_size bytes from key lie),
+      length-string_of (blob_of (public_part (private_key_seen key))),
       length-string_of comment,
-      length-append (string_of (blob_of (public_part (key_seen key)))) (string_of comment),
+      length-append (string_of (blob_of (public_part (private_key_seen key)))) (string_of comment),
     )
 
 pub can_add : (bytes : List ℕ) (from end : ℕ) (key : PrivateView) (word : Word) → length bytes ≤ message_limit
-    → IsPrivateKey (key_seen key) → PartsLie bytes from key → WordLies bytes end word → CanAdd key word.text.now
+    → IsPrivateKey (private_key_seen key) → PrivatePartsLie bytes from key → WordLies bytes end word → CanAdd key word.text.now
 can_add bytes from end key word few is_key lie (part, text) = record {
   is_key = is_key;
   entry = has_entry bytes from key word.text.now few lie (omega (arith, ap length text, part_size bytes end word.part part));

@@ -5,7 +5,7 @@ ghost use Rattle.picky_keys.specs.declared.public_key.PublicKey.{PublicKey};
 ghost use Rattle.picky_keys.specs.declared.algorithm.SignatureAlgorithm.{SignatureAlgorithm as Algorithm};
 ghost use Rattle.picky_keys.specs.View.{key_seen};
 ghost use Rattle.picky_sshkey_blob.specs.Key.{IsPrivateKey};
-ghost use Rattle.picky_sshkey_blob.specs.View.{key_seen as private_seen};
+ghost use Rattle.picky_sshkey_blob.specs.View.{private_key_seen};
 ghost use Rattle.picky_agent_state.specs.Message.{IsMessage};
 ghost use Rattle.picky_agent_state.specs.Kept.{Kept, machine, new_agent, is_locked as is_locked_in};
 ghost use Rattle.picky_agent_state.specs.Request.{request_of, sign_request};
@@ -244,8 +244,8 @@ impl Agent {
 
 /// The identity of a key and a comment. Refuses: `NoMemory`.
 fn identity_of(alloc: Global, key: &PrivateView<'_>, comment: &str) -> Result<Identity, NoMemory>
-    requires { IsPrivateKey (private_seen key.now) }
-    ensures { IfOk result (λ identity. identity ≡ record { key = private_seen key.now; comment = comment.now }) }
+    requires { IsPrivateKey (private_key_seen key.now) }
+    ensures { IfOk result (λ identity. identity ≡ record { key = private_key_seen key.now; comment = comment.now }) }
 {
     match Text::new(alloc, comment) {
         Ok(comment) => {

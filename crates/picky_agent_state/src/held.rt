@@ -3,7 +3,7 @@
 ghost use Rattle.std.specs.Prelude.{◌≡◌, true, false, Some, slice_get, MatchBool, MatchOption};
 ghost use Rattle.picky_keys.specs.View.{key_seen};
 ghost use Rattle.picky_sshkey_blob.specs.Key.{public_part};
-ghost use Rattle.picky_sshkey_blob.specs.View.{key_seen as private_seen};
+ghost use Rattle.picky_sshkey_blob.specs.View.{private_key_seen};
 ghost use Rattle.picky_agent_state.specs.Held.{HasKey, HasNone, IsAt};
 
 use crate::identity::Identity;
@@ -24,7 +24,7 @@ pub(crate) fn place_of(identities: &[Identity], key: &PublicView<'_>) -> Option<
 
 /// The view of the public key in a private one.
 pub(crate) fn public_of<'a>(key: &PrivateView<'a>) -> PublicView<'a>
-    ensures { key_seen result ≡ public_part (private_seen key.now) }
+    ensures { key_seen result ≡ public_part (private_key_seen key.now) }
 {
     match key {
         PrivateView::Rsa { n, e, .. } => PublicView::Rsa { e: *e, n: *n },

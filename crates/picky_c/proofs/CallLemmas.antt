@@ -11,7 +11,7 @@ use Rattle.picky_key_text.specs.{declared.error.ReadError.{ReadError}, declared.
 use Rattle.picky_key_text.specs.declared.meaning.Meaning.{Meaning}
 use Rattle.picky_key_text.specs.declared.error.ReadError.TheVariants as input
 use Rattle.picky_key_text.specs.declared.form.Form.TheVariants as forms
-use Rattle.picky_target.specs.{Written.{fault_of as output_fault}, declared.error.ConvertError.{ConvertError}}
+use Rattle.picky_target.specs.{Written.{target_fault}, declared.error.ConvertError.{ConvertError}}
 use Rattle.picky_target.specs.declared.target.KeyTarget.{KeyTarget}
 use Rattle.picky_target.specs.declared.error.ConvertError.TheVariants as errors
 use Rattle.picky_target.specs.declared.target.KeyTarget.TheVariants as targets
@@ -34,7 +34,7 @@ input_fault_is forms.PuttyPublic = refl
 input_fault_is forms.Certificate = refl
 input_fault_is forms.PublicLine = refl
 
-output_fault_is : (target : KeyTarget) → refusal_of (output_fault target) ≡ calls.NoCipher
+output_fault_is : (target : KeyTarget) → refusal_of (target_fault target) ≡ calls.NoCipher
 output_fault_is targets.OpenSsh = refl
 output_fault_is (targets.Ppk version config) = refl
 output_fault_is targets.OpenSshPublic = refl

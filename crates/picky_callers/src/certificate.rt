@@ -2,7 +2,7 @@
 
 ghost use Rattle.std.specs.Prelude.{◌≡◌, ◌⊎◌, ◌↔◌, Err, IfErr, IfOk, IsTrue, Contains};
 ghost use Rattle.picky.specs.CertLine.{IsCertificateLine};
-ghost use Rattle.picky.specs.CertLineRefusal.{line_meaning};
+ghost use Rattle.picky.specs.CertLineRefusal.{cert_line_meaning};
 ghost use Rattle.picky.specs.declared.ssh.SshCertificate.{SshCertificate as Certificate};
 ghost use Rattle.picky_callers.specs.Login.{Allows};
 
@@ -24,7 +24,7 @@ pub fn allows_login(
         × (IsTrue allowed ↔ Allows c user.now now)) }
 
     // A line that means no certificate is refused as `SshCertificate::from_str` refuses it.
-    ensures refused { IfErr result (λ e. (e ≡ SshCertificateError.NoMemory) ⊎ (line_meaning line.now ≡ Err e)) }
+    ensures refused { IfErr result (λ e. (e ≡ SshCertificateError.NoMemory) ⊎ (cert_line_meaning line.now ≡ Err e)) }
 {
     line_means_what_it_says();
     let certificate = SshCertificate::from_str(alloc, line)?;

@@ -30,7 +30,7 @@ use Rattle.picky_cert_parts.specs.declared.signature.SshSignatureBlob.TheVariant
 use Rattle.picky_cert_blob.specs.{Layout.{Grants, Head, Terms}, Keeps.{IsGrants, IsHead, IsTerms}}
 use Rattle.picky_cert_blob.specs.Spelled.{body_spelled, grants_spelled, head_spelled, terms_spelled}
 use Rattle.picky_cert.specs.{declared.certificate.SshCertificate.{SshCertificate}, Certificate.{said}}
-use Rattle.picky_cert.specs.{Keeps.{IsCertificate}, Spelled.{blob_of, signed_of}}
+use Rattle.picky_cert.specs.{Keeps.{IsCertificate}, Spelled.{cert_blob_of, signed_of}}
 
 -- ---- numbers
 
@@ -184,6 +184,6 @@ unfolding signature_of
 signature_bytes s is = behind_bytes (total_of s) s.format s.blob is
 
 -- A certificate is written as bytes.
-pub blob_bytes : (c : SshCertificate) → IsCertificate c → IsBytes (blob_of c)
-unfolding blob_of
+pub blob_bytes : (c : SshCertificate) → IsCertificate c → IsBytes (cert_blob_of c)
+unfolding cert_blob_of
 blob_bytes c is = bytes_joined (signed_of c) _ (signed_bytes c is) (signature_bytes c.signature is.signature)

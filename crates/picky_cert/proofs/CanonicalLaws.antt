@@ -15,8 +15,8 @@ use Rattle.picky_cert_parts.proofs.SpellingLaws.{signature_fits}
 use Rattle.picky_cert_blob.specs.{Layout.{signature_part}, Subject.{fits_subject}}
 use Rattle.picky_cert.specs.declared.certificate.SshCertificate.{SshCertificate}
 use Rattle.picky_cert.specs.{Certificate.{certificate, certified, said}, Keeps.{IsWellFormed}}
-use Rattle.picky_cert.specs.{Line.{IsCertificateLine, IsReadBackCertificate}, LineRefusal.{line_meaning, line_text}}
-use Rattle.picky_cert.specs.{SourceLine.{source_meaning}, Spelled.{line_of}}
+use Rattle.picky_cert.specs.{Line.{IsCertificateLine, IsReadBackCertificate}, LineRefusal.{cert_line_meaning, cert_line_text}}
+use Rattle.picky_cert.specs.{SourceLine.{cert_source_meaning}, Spelled.{cert_line_of}}
 use Rattle.picky_cert.proofs.{KeepLaws.{cert_piece}, LineLaws.{line_fits_subject, line_keeps, line_meaning_says}}
 use Rattle.picky_cert.proofs.ReadBackLaws.{line_reads_back, source_reads_back}
 use Rattle.picky_cert.proofs.WrittenLemmas.{blob_within, extensions_within, grants_within, issuer_within, options_within}
@@ -45,7 +45,7 @@ line_fits_format text c line =
     spelled_fits (certified (said c) c.signature) line.fits.0 front line.fits.1
 
 -- each list and the issuer's blob are within the line, which is short
-line_is_formed : (text : List ℕ) (c : SshCertificate) → IsCertificateLine text c → length (line_of c) < 2 ^ 32 → IsWellFormed c
+line_is_formed : (text : List ℕ) (c : SshCertificate) → IsCertificateLine text c → length (cert_line_of c) < 2 ^ 32 → IsWellFormed c
 line_is_formed text c line short =
     let b = said c in
     let signed = signed_within c in
@@ -61,7 +61,7 @@ line_is_formed text c line short =
     }
 
 -- A certificate that a line says is one whose line is read back, where that is short enough to be written.
-pub said_is_kept : (text : List ℕ) (c : SshCertificate) → IsCertificateLine text c → length (line_of c) < 2 ^ 32
+pub said_is_kept : (text : List ℕ) (c : SshCertificate) → IsCertificateLine text c → length (cert_line_of c) < 2 ^ 32
     → IsReadBackCertificate c
 said_is_kept text c line short =
     let rest : List ℕ = after_body text in
@@ -81,49 +81,49 @@ said_is_kept text c line short =
 -- ---- what was read
 
 -- the line that is written is short enough, and it is the canonical one
-text_is_line : (c : SshCertificate) (line : List ℕ) → line_text c ≡ Ok line → (length (line_of c) < 2 ^ 32) × (line_of c ≡ line)
-unfolding line_text
+text_is_line : (c : SshCertificate) (line : List ℕ) → cert_line_text c ≡ Ok line → (length (cert_line_of c) < 2 ^ 32) × (cert_line_of c ≡ line)
+unfolding cert_line_text
 text_is_line c line is =
     let subject = chosen (fits_subject c.cert_key_type c.public_key.inner_key) _ errors.SubjectMismatch line is in
     let format = chosen (blob_fits c.signature.format c.signature.blob) _ (errors.SshSignatureError signatures.BlobMismatch) line
     subject.1 in
-    let passed = passed_ok (is_short (line_of c)) errors.TooLong (line_of c) line format.1 in
-    (ltb-true (length (line_of c)) (2 ^ 32) passed.0, passed.1)
+    let passed = passed_ok (is_short (cert_line_of c)) errors.TooLong (cert_line_of c) line format.1 in
+    (ltb-true (length (cert_line_of c)) (2 ^ 32) passed.0, passed.1)
 
 -- A certificate read from a line is one whose line is read back.
-pub text_is_kept : (text : List ℕ) (c : SshCertificate) → IsBytes text → line_meaning text ≡ Ok c
-    → length (line_of c) < 2 ^ 32 → IsReadBackCertificate c
+pub text_is_kept : (text : List ℕ) (c : SshCertificate) → IsBytes text → cert_line_meaning text ≡ Ok c
+    → length (cert_line_of c) < 2 ^ 32 → IsReadBackCertificate c
 text_is_kept text c each means short = said_is_kept text c (line_meaning_says text c each means) short
 
 -- So is a certificate read from a source.
 pub source_is_kept : (bytes : List ℕ) (c : SshCertificate) (rest : List ℕ) → IsBytes bytes
-    → source_meaning bytes ≡ Ok (c, rest) → length (line_of c) < 2 ^ 32 → IsReadBackCertificate c
-unfolding source_meaning read_line
+    → cert_source_meaning bytes ≡ Ok (c, rest) → length (cert_line_of c) < 2 ^ 32 → IsReadBackCertificate c
+unfolding cert_source_meaning read_line
 source_is_kept bytes c rest each means short =
     let taken = and_then_ok (read_line certificate_error bytes) _ (c, rest) means in
     let line_is = chosen (is_short (line_in_front bytes)) _ errors.TooLong taken.0 taken.1 in
     let same : line_in_front bytes ≡ taken.0.0 = cc line_is.1 in
-    let step = and_then_ok (line_meaning taken.0.0) _ (c, rest) taken.2 in
+    let step = and_then_ok (cert_line_meaning taken.0.0) _ (c, rest) taken.2 in
     let is = (same_pair _ step.0 c taken.0.1 rest refl step.2).0 in
     let line = front_bytes (position_or_len ends_line bytes) bytes each in
-    let front : line_meaning (line_in_front bytes) ≡ Ok c =
-    ap line_meaning same ∙ step.1 ∙ ap (λ v. Ok v) is in
+    let front : cert_line_meaning (line_in_front bytes) ≡ Ok c =
+    ap cert_line_meaning same ∙ step.1 ∙ ap (λ v. Ok v) is in
     text_is_kept (line_in_front bytes) c line front short
 
 -- What was read from a text is written as a line that is read back.
 pub text_is_written : (text : List ℕ) (c : SshCertificate) (line more : List ℕ) → IsBytes text
-    → line_meaning text ≡ Ok c → line_text c ≡ Ok line → line_meaning (line ++ more) ≡ Ok c
+    → cert_line_meaning text ≡ Ok c → cert_line_text c ≡ Ok line → cert_line_meaning (line ++ more) ≡ Ok c
 text_is_written text c line more each means writes =
     let written = text_is_line c line writes in
     let kept = text_is_kept text c each means written.0 in
-    subst (λ l. line_meaning (l ++ more) ≡ Ok c) written.1 (line_reads_back c more kept)
+    subst (λ l. cert_line_meaning (l ++ more) ≡ Ok c) written.1 (line_reads_back c more kept)
 
 -- So is what was read from a source.
 pub source_is_written : (bytes : List ℕ) (c : SshCertificate) (rest line more : List ℕ) → IsBytes bytes
-    → source_meaning bytes ≡ Ok (c, rest) → line_text c ≡ Ok line → source_meaning (line ++ more) ≡ Ok (c, 10 ∷ more)
+    → cert_source_meaning bytes ≡ Ok (c, rest) → cert_line_text c ≡ Ok line → cert_source_meaning (line ++ more) ≡ Ok (c, 10 ∷ more)
 source_is_written bytes c rest line more each means writes =
     let written = text_is_line c line writes in
     let kept = source_is_kept bytes c rest each means written.0 in
-    subst (λ l. source_meaning (l ++ more) ≡ Ok (c, 10 ∷ more)) written.1 (source_reads_back c more kept)
+    subst (λ l. cert_source_meaning (l ++ more) ≡ Ok (c, 10 ∷ more)) written.1 (source_reads_back c more kept)
 
 pub ruleset canonical_laws = (text_is_written, source_is_written)

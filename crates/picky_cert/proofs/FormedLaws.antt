@@ -12,8 +12,8 @@ use Rattle.picky_cert.specs.declared.certificate.SshCertificate.{SshCertificate}
 use Rattle.picky_cert.specs.Certificate.{said}
 use Rattle.picky_cert.specs.Keeps.{IsWellFormed}
 use Rattle.picky_cert.specs.Line.{IsReadBackCertificate}
-use Rattle.picky_cert.specs.LineRefusal.{line_text, signed_text}
-use Rattle.picky_cert.specs.Spelled.{line_of, signed_of}
+use Rattle.picky_cert.specs.LineRefusal.{cert_line_text, signed_text}
+use Rattle.picky_cert.specs.Spelled.{cert_line_of, signed_of}
 use Rattle.picky_cert.proofs.WrittenLemmas.{extensions_within, grants_within, issuer_within, options_within, principals_within}
 use Rattle.picky_cert.proofs.WrittenLemmas.{terms_within}
 
@@ -41,8 +41,8 @@ signed_is_formed c bytes is =
     short_is_formed c subject.0 (ltb-true (length (signed_of c)) (2 ^ 32) passed.0)
 
 -- A certificate whose line is read back has one.
-pub kept_is_written : (c : SshCertificate) → IsReadBackCertificate c → line_text c ≡ Ok (line_of c)
-unfolding line_text
+pub kept_is_written : (c : SshCertificate) → IsReadBackCertificate c → cert_line_text c ≡ Ok (cert_line_of c)
+unfolding cert_line_text
 kept_is_written c kept =
     let fits = (fits_where_kind c.cert_key_type c.public_key.inner_key).1 kept.formed.fits in
-    rw (fits, kept.signed, lt-ltb (length (line_of c)) (2 ^ 32) kept.short) refl
+    rw (fits, kept.signed, lt-ltb (length (cert_line_of c)) (2 ^ 32) kept.short) refl

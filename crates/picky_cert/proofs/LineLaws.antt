@@ -8,7 +8,7 @@ use Rattle.picky_wire_base.specs.{carried.Outcome.{and_then_ok, map_err_ok}, Fro
 use Rattle.picky_wire_base.specs.{Numbers.{IsBytes}, Table.{find_entry}}
 use Rattle.picky_wire_base.proofs.Numbers.{bytes_in_front}
 use Rattle.picky_text.specs.Base64.{base64_of, decoded}
-use Rattle.picky_text.specs.Words.{first_word, after_word, body_word, after_body, comment_of}
+use Rattle.picky_text.specs.Words.{first_word, behind_word, body_word, after_body, comment_of}
 use Rattle.picky_text.proofs.Base64Laws.{base64_is_read_back, base64_is_of_what_it_gives, decoded_is_bytes}
 use Rattle.picky_text.proofs.WordLaws.{rest_text_is, rest_text_says, rest_of_line_is_text}
 use Rattle.picky_keys.specs.{Key.{IsText}, LineRefusal.{comment_text, is_short, is_short_text}}
@@ -23,7 +23,7 @@ use Rattle.picky_cert_blob.specs.Keeps.{FitsSubject}
 use Rattle.picky_cert.specs.declared.certificate.SshCertificate.{SshCertificate}
 use Rattle.picky_cert.specs.{Certificate.{certificate, certified, said}, CertRefusal.{cert_error}}
 use Rattle.picky_cert.specs.{Keeps.{IsCertificate}, Line.{IsCertificateLine}}
-use Rattle.picky_cert.specs.LineRefusal.{blob_certificate, body_certificate, line_meaning, word_type, words_meaning}
+use Rattle.picky_cert.specs.LineRefusal.{blob_certificate, body_certificate, cert_line_meaning, word_type, cert_words_meaning}
 use Rattle.picky_cert.specs.{Want.{IsReadFault, WantsMemory}, carried.LineOwn.{line_own}}
 use Rattle.picky_cert.proofs.KeepLaws.{cert_piece, spelled_keeps}
 
@@ -105,8 +105,8 @@ body_certificate_says body c small has =
 -- ---- a line's meaning
 
 -- A line means what it says.
-pub line_meaning_of : (text : List ℕ) (c : SshCertificate) → IsCertificateLine text c → line_meaning text ≡ Ok c
-unfolding line_meaning words_meaning
+pub line_meaning_of : (text : List ℕ) (c : SshCertificate) → IsCertificateLine text c → cert_line_meaning text ≡ Ok c
+unfolding cert_line_meaning cert_words_meaning
 line_meaning_of text c line =
     let named = word_type_of (first_word text) line.key_type line.name in
     let body = body_certificate_of (body_word text) line.blob_bytes line.rest (certified (said c) c.signature) line.are_bytes
@@ -117,8 +117,8 @@ line_meaning_of text c line =
     rw (named, comment, body_fits, comment_fits, body) (ap (λ v. Ok v) (sym line.bare))
 
 -- It says what it means.
-pub line_meaning_says : (text : List ℕ) (c : SshCertificate) → IsBytes text → line_meaning text ≡ Ok c → IsCertificateLine text c
-unfolding line_meaning words_meaning
+pub line_meaning_says : (text : List ℕ) (c : SshCertificate) → IsBytes text → cert_line_meaning text ≡ Ok c → IsCertificateLine text c
+unfolding cert_line_meaning cert_words_meaning
 line_meaning_says text c small means =
     let named = and_then_ok (word_type (first_word text)) _ c means in
     let body_fits = is_short (body_word text) in
@@ -130,7 +130,7 @@ line_meaning_says text c small means =
     let some = some_of (comment_text text) errors.InvalidUtf8 last.0 last.1 in
     let comment = rest_text_says (after_body text) last.0 some in
     let comment_fits = ap is_short_text (ap Some comment.1 ∙ sym some) ∙ both.1 in
-    let body = body_certificate_says (body_word text) step.0 (word_is_bytes (after_word text) (after_bytes text small)) step.1 in
+    let body = body_certificate_says (body_word text) step.0 (word_is_bytes (behind_word text) (after_bytes text small)) step.1 in
     let is : record step.0 { comment = last.0 } ≡ c = cc last.2 in
     let piece = cert_piece step.0 body.fits.0 body.fits.1 in
     subst (IsCertificateLine text) {x = record step.0 { comment = last.0 }} is (record {
@@ -154,10 +154,10 @@ one_line_meaning text c d first second =
     let both = sym (line_meaning_of text c first) ∙ line_meaning_of text d second in cc both
 
 -- No line is refused for a fault, or for want of memory.
-pub line_no_fault : (text : List ℕ) (e : SshCertificateError) → line_meaning text ≡ Err e → IsReadFault e → ⊥
+pub line_no_fault : (text : List ℕ) (e : SshCertificateError) → cert_line_meaning text ≡ Err e → IsReadFault e → ⊥
 line_no_fault text e refused = (line_own text e refused).no_fault
 
-pub line_no_want : (text : List ℕ) (e : SshCertificateError) → line_meaning text ≡ Err e → WantsMemory e → ⊥
+pub line_no_want : (text : List ℕ) (e : SshCertificateError) → cert_line_meaning text ≡ Err e → WantsMemory e → ⊥
 line_no_want text e refused = (line_own text e refused).no_want
 
 -- What a line says keeps its ranges, and is of a type for its subject's key.

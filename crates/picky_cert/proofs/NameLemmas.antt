@@ -8,7 +8,7 @@ use Rattle.picky_wire_base.specs.{Combine.{at, each, narrow, placed, placed, at}
 use Rattle.picky_wire_base.specs.{Named.{named}, Mpint.{mpint}, Numbers.{byte, uint64}, Table.{find_entry}}
 use Rattle.picky_wire_base.specs.{Wire.{of_length, string, text, uint32}, declared.view.Stuck.{Stuck}, View.{SeenAt}}
 use Rattle.picky_wire_base.specs.declared.stopped.Stopped.{Stopped}
-use Rattle.picky_wire.specs.{Moment.{moment}, Flaws.{wire_error}}
+use Rattle.picky_wire.specs.{Moment.{timestamp_at}, Flaws.{wire_error}}
 use Rattle.picky_keys.specs.{KeyNameTables.{key_types}, declared.curve.EcCurve.{EcCurve}}
 use Rattle.picky_keys.specs.declared.kind.KeyKind.{KeyKind}
 use Rattle.picky_keys.specs.Blob.{blob, ec_fields, ed_fields, ed_key, public_key_fields, key_type, rsa_fields, sk_ecdsa_fields}
@@ -40,7 +40,7 @@ use Rattle.picky_cert_blob.specs.carried.Items.{extension_item_solid, option_ite
 use Rattle.picky_cert_blob.specs.declared.part.CertPart.{CertPart}
 use Rattle.picky_cert_blob.specs.declared.part.CertPart.TheVariants as parts
 use Rattle.picky_cert.specs.{declared.view.CertView.{CertView}, Certificate.{certificate}}
-use Rattle.picky_cert.specs.View.{cert_seen, CertLies, IsRefusal}
+use Rattle.picky_cert.specs.View.{cert_seen, CertLies, IsCertRefusal}
 use Rattle.picky_cert_parts.proofs.TypeNameLaws.{cert_key_type_name_utf8}
 use Rattle.picky_cert.proofs.RefuseLemmas.{RefusesAs, done_refuses, both_refuses, tag_refuses, flawed_refuses, test_refuses}
 use Rattle.picky_cert.proofs.RefuseLemmas.{narrow_refuses, entry_refuses, named_refuses, tagged_is_utf8, list_refuses}
@@ -158,11 +158,11 @@ type_refuses =
 
 after_refuses : RefusesAs InCert valid_after.read
 unfolding valid_after
-after_refuses = narrow_refuses InCert (at parts.After uint64) (each moment) (the_refuses parts.After uint64) (λ bytes n rest e was is. cc is)
+after_refuses = narrow_refuses InCert (at parts.After uint64) (each timestamp_at) (the_refuses parts.After uint64) (λ bytes n rest e was is. cc is)
 
 before_refuses : RefusesAs InCert valid_before.read
 unfolding valid_before
-before_refuses = narrow_refuses InCert (at parts.Before uint64) (each moment) (the_refuses parts.Before uint64) (λ bytes n rest e was is. cc is)
+before_refuses = narrow_refuses InCert (at parts.Before uint64) (each timestamp_at) (the_refuses parts.Before uint64) (λ bytes n rest e was is. cc is)
 
 principal_refuses : RefusesAs InCert principal_item.read
 unfolding principal_item
@@ -309,7 +309,7 @@ cert_refuses =
 
 refused_is_text : (bytes : List ℕ) (part : CertPart) (stuck : Stuck) → length bytes < 2 ^ 32
     → SeenAt {X = CertView} cert_seen (CertLies bytes) certificate bytes 0 (Err (record { place = part; stuck = stuck }))
-    → IsRefusal (record { place = part; stuck = stuck })
+    → IsCertRefusal (record { place = part; stuck = stuck })
 refused_is_text bytes part (stucks.Name name) short seen = record {
   short = omega (arith, seen.placed.ends, seen.placed.within);
   utf8 = cert_refuses bytes (part, Name name.bytes.now) seen.sees;
@@ -321,6 +321,6 @@ refused_is_text bytes part (stucks.Number n) short seen = tt
 
 -- A name at which a view is stopped is text.
 pub seen_is_refusal : (bytes : List ℕ) (r : Result (CertView × ℕ) (Stopped CertPart)) → length bytes < 2 ^ 32
-    → SeenAt cert_seen (CertLies bytes) certificate bytes 0 r → IfErr r IsRefusal
+    → SeenAt cert_seen (CertLies bytes) certificate bytes 0 r → IfErr r IsCertRefusal
 seen_is_refusal bytes (Ok found) short seen = tt
 seen_is_refusal bytes (Err stopped) short seen = refused_is_text bytes stopped.place stopped.stuck short seen

@@ -18,9 +18,9 @@ use Rattle.picky_cert_parts.specs.Signature.{total_of}
 use Rattle.picky_cert.specs.declared.certificate.SshCertificate.{SshCertificate}
 use Rattle.picky_cert.specs.Certificate.{certified, said}
 use Rattle.picky_cert.specs.Line.{IsCertificateLine, IsReadBackCertificate}
-use Rattle.picky_cert.specs.LineRefusal.{line_meaning}
-use Rattle.picky_cert.specs.SourceLine.{source_meaning}
-use Rattle.picky_cert.specs.Spelled.{blob_of, line_of}
+use Rattle.picky_cert.specs.LineRefusal.{cert_line_meaning}
+use Rattle.picky_cert.specs.SourceLine.{cert_source_meaning}
+use Rattle.picky_cert.specs.Spelled.{cert_blob_of, cert_line_of}
 use Rattle.picky_cert.proofs.ByteLaws.{blob_bytes}
 use Rattle.picky_cert.proofs.LineLaws.{line_meaning_of}
 use Rattle.picky_cert.proofs.WrittenLaws.{certificate_spells}
@@ -50,18 +50,18 @@ type_name_is_word keytypes.SkSshEd25519V01 = word_by_test (cert_key_type_name ke
 -- ---- the line that is written
 
 abbrev line_body : SshCertificate → List ℕ
-line_body c = base64_of (blob_of c)
+line_body c = base64_of (cert_blob_of c)
 
-part_lengths : (c : SshCertificate) → length (line_of c)
+part_lengths : (c : SshCertificate) → length (cert_line_of c)
     ≡ length (cert_key_type_name c.cert_key_type) + (1 + length (line_body c)) + (1 + length c.comment) + 2
-unfolding line_of
+unfolding cert_line_of
 part_lengths c = simp length-append (omega arith)
 
 line_parts : (c : SshCertificate) → IsReadBackCertificate c
     → AreParts (cert_key_type_name c.cert_key_type) (line_body c) c.comment
 line_parts c kept = record {
   name_word = type_name_is_word c.cert_key_type;
-  body_word = base64_is_word (blob_of c) (blob_bytes c kept.is);
+  body_word = base64_is_word (cert_blob_of c) (blob_bytes c kept.is);
   no_cr = kept.no_cr;
   no_lf = kept.no_lf;
   trimmed = kept.trimmed;
@@ -77,28 +77,28 @@ parts_say c line kept is =
     record {
       key_type = c.cert_key_type;
       name = is.name_is;
-      blob_bytes = blob_of c;
+      blob_bytes = cert_blob_of c;
       are_bytes = blob_bytes c kept.is;
       body = is.body_is;
       body_short = subst (λ w. length w < 2 ^ 32) (sym is.body_is) (omega (arith, kept.short, len));
       rest = [];
-      fits = (blob_of c, certificate_spells c kept.is kept.formed kept.signed short, sym (append-nil (blob_of c)));
+      fits = (cert_blob_of c, certificate_spells c kept.is kept.formed kept.signed short, sym (append-nil (cert_blob_of c)));
       bare = kept.bare ∙ ap (λ l. record (certified (said c) c.signature) { comment = l }) (sym is.comment_is);
       comment_utf8 = subst IsUtf8 (sym is.line_is) kept.utf8;
       comment_short = subst (λ w. length w < 2 ^ 32) (sym is.comment_is) (omega (arith, kept.short, len));
     }
 
 -- The line that is written says the certificate, whatever follows it.
-pub line_says : (c : SshCertificate) (more : List ℕ) → IsReadBackCertificate c → IsCertificateLine (line_of c ++ more) c
-unfolding line_of
+pub line_says : (c : SshCertificate) (more : List ℕ) → IsReadBackCertificate c → IsCertificateLine (cert_line_of c ++ more) c
+unfolding cert_line_of
 line_says c more kept =
     let name : List ℕ = cert_key_type_name c.cert_key_type in
     let is = key_line_is_read_back name (line_body c) c.comment (line_parts c kept) CrLf more in
     rw (append_assoc (name ++ 32 ∷ line_body c ++ 32 ∷ c.comment) (13 ∷ 10 ∷ []) more) (parts_say c _ kept is)
 
 -- It is read back.
-pub line_reads_back : (c : SshCertificate) (more : List ℕ) → IsReadBackCertificate c → line_meaning (line_of c ++ more) ≡ Ok c
-line_reads_back c more kept = line_meaning_of (line_of c ++ more) c (line_says c more kept)
+pub line_reads_back : (c : SshCertificate) (more : List ℕ) → IsReadBackCertificate c → cert_line_meaning (cert_line_of c ++ more) ≡ Ok c
+line_reads_back c more kept = line_meaning_of (cert_line_of c ++ more) c (line_says c more kept)
 
 -- ---- from a source
 
@@ -106,7 +106,7 @@ line_reads_back c more kept = line_meaning_of (line_of c ++ more) c (line_says c
 abbrev line_front : SshCertificate → List ℕ
 line_front c = cert_key_type_name c.cert_key_type ++ 32 ∷ line_body c ++ 32 ∷ c.comment
 
-front_reads_back : (c : SshCertificate) → IsReadBackCertificate c → line_meaning (line_front c) ≡ Ok c
+front_reads_back : (c : SshCertificate) → IsReadBackCertificate c → cert_line_meaning (line_front c) ≡ Ok c
 front_reads_back c kept =
     let is = key_line_alone (cert_key_type_name c.cert_key_type) (line_body c) c.comment (line_parts c kept) in
     line_meaning_of (line_front c) c (parts_say c (line_front c) kept is)
@@ -122,8 +122,8 @@ front_stays c kept =
 
 -- It is read back from a source: CR ends it, and LF and what follows are left.
 pub source_reads_back : (c : SshCertificate) (more : List ℕ) → IsReadBackCertificate c
-    → source_meaning (line_of c ++ more) ≡ Ok (c, 10 ∷ more)
-unfolding source_meaning read_line after_line line_of
+    → cert_source_meaning (cert_line_of c ++ more) ≡ Ok (c, 10 ∷ more)
+unfolding cert_source_meaning read_line after_line cert_line_of
 source_reads_back c more kept =
     let front : List ℕ = line_front c in
     let whole = append_assoc front (13 ∷ 10 ∷ []) more in

@@ -6,7 +6,7 @@ use Rattle.std.proofs.lemmas.Str.{IsUtf8-nil}
 use Rattle.picky_wire_base.specs.{Flaw.{Why}, Front.{read_front}, Numbers.{IsBytes}, Outcome.{and_then, map_err}}
 use Rattle.picky_wire_base.specs.{Gives.{Gives}, View.{Sees}}
 use Rattle.picky_text.specs.Base64.{base64_of}
-use Rattle.picky_text.specs.Words.{IsWord, after_word, body_word, ends_word, first_word, rest_of_line, rest_text}
+use Rattle.picky_text.specs.Words.{IsWord, behind_word, body_word, ends_word, first_word, rest_of_line, rest_text}
 use Rattle.picky_text.proofs.{Base64Laws.{base64_is_read_back}, ListLaws.{none_before_first, uncut}}
 use Rattle.picky_text.proofs.WordLaws.{base64_is_word, rest_text_is, trim_end_front, words_at_space}
 use Rattle.picky_keys.specs.LineRefusal.{comment_text}
@@ -14,10 +14,10 @@ use Rattle.picky_cert_parts.specs.declared.cert_key_type.SshCertKeyType.{SshCert
 use Rattle.picky_cert_parts.specs.declared.error.SshCertificateError.{SshCertificateError}
 use Rattle.picky_cert_parts.specs.CertNames.{cert_key_type_name}
 use Rattle.picky_cert_parts.specs.declared.error.SshCertificateError.TheVariants as errors
-use Rattle.picky_cert_blob.specs.{declared.part.CertPart.{CertPart}, Reason.{CertReason, why_in}}
+use Rattle.picky_cert_blob.specs.{declared.part.CertPart.{CertPart}, Reason.{CertReason, cert_why_in}}
 use Rattle.picky_cert.specs.{declared.certificate.SshCertificate.{SshCertificate}, declared.view.CertView.{CertView}}
 use Rattle.picky_cert.specs.{Certificate.{certificate, refused_part}, CertRefusal.{cert_error}, Line.{bare_line}}
-use Rattle.picky_cert.specs.LineRefusal.{blob_certificate, body_certificate, line_meaning, words_meaning}
+use Rattle.picky_cert.specs.LineRefusal.{blob_certificate, body_certificate, cert_line_meaning, cert_words_meaning}
 use Rattle.picky_cert.specs.View.{cert_seen}
 use Rattle.picky_cert.proofs.{KeepLaws.{cert_piece}, LineLaws.{word_type_of}, ReadBackLaws.{type_name_is_word}}
 
@@ -31,11 +31,11 @@ stays word is =
     (none_before_first ends_word (word ++ 32 ∷ []))
 
 -- nothing follows a word that stands alone
-word_alone : (word : List ℕ) → IsWord word → (first_word word ≡ word) × (after_word word ≡ [])
-unfolding first_word after_word
+word_alone : (word : List ℕ) → IsWord word → (first_word word ≡ word) × (behind_word word ≡ [])
+unfolding first_word behind_word
 word_alone word is =
     let whole = uncut ends_word word (stays word is) in
-    let after = elim (cases_Bool (slice_index word (position_or_len ends_word word) == 32)) as (λ _. after_word word ≡ []) [
+    let after = elim (cases_Bool (slice_index word (position_or_len ends_word word) == 32)) as (λ _. behind_word word ≡ []) [
       | inl space ↦ rw space whole.1
       | inr other ↦ rw other refl
     ] in
@@ -63,7 +63,7 @@ bare_words : (t : SshCertKeyType) (blob : List ℕ) → IsBytes blob
 bare_words t blob small =
     let name = words_at_space (cert_key_type_name t) (base64_of blob) (type_name_is_word t) in
     let body = word_alone (base64_of blob) (base64_is_word blob small) in
-    let behind = ap after_word name.1 ∙ body.1 in
+    let behind = ap behind_word name.1 ∙ body.1 in
     record {
       name_is = name.0;
       body_is = ap first_word name.1 ∙ body.0;
@@ -85,8 +85,8 @@ bare_as_read blob (Err reason) read = refl
 
 -- The line means the certificate in front of its bytes, or is refused as they are.
 pub bare_line_means : (t : SshCertKeyType) (blob : List ℕ) → IsBytes blob → length (base64_of blob) < 2 ^ 32
-    → line_meaning (bare_line t blob) ≡ map_err cert_error (read_front certificate blob)
-unfolding line_meaning words_meaning body_certificate blob_certificate
+    → cert_line_meaning (bare_line t blob) ≡ map_err cert_error (read_front certificate blob)
+unfolding cert_line_meaning cert_words_meaning body_certificate blob_certificate
 bare_line_means t blob small short =
     let words = bare_words t blob small in
     let named = word_type_of (first_word (bare_line t blob)) t words.name_is in
@@ -95,23 +95,23 @@ bare_line_means t blob small short =
 
 -- So a call that answers what the line means answers what its bytes begin with.
 pub bare_line_gives : (t : SshCertKeyType) (blob text : List ℕ) (result : Result SshCertificate SshCertificateError)
-    → Gives errors.NoMemory (λ c. c) result (line_meaning text) → IsBytes blob → length (base64_of blob) < 2 ^ 32
+    → Gives errors.NoMemory (λ c. c) result (cert_line_meaning text) → IsBytes blob → length (base64_of blob) < 2 ^ 32
     → text ≡ bare_line t blob → Gives errors.NoMemory (λ c. c) result (map_err cert_error (read_front certificate blob))
 bare_line_gives t blob text result gives small short is =
-    subst (λ says. Gives errors.NoMemory (λ (c : SshCertificate). c) result says) (ap line_meaning is ∙ bare_line_means t blob small short) gives
+    subst (λ says. Gives errors.NoMemory (λ (c : SshCertificate). c) result says) (ap cert_line_meaning is ∙ bare_line_means t blob small short) gives
 
 -- ---- what the view shows
 
 -- what is seen is the line's certificate
 pub seen_is_meant : (t : SshCertKeyType) (blob : List ℕ) (view : CertView) (next : ℕ) → IsBytes blob
-    → length (base64_of blob) < 2 ^ 32 → Sees cert_seen why_in certificate blob 0 (Ok (view, next))
-    → line_meaning (bare_line t blob) ≡ Ok (cert_seen view)
+    → length (base64_of blob) < 2 ^ 32 → Sees cert_seen cert_why_in certificate blob 0 (Ok (view, next))
+    → cert_line_meaning (bare_line t blob) ≡ Ok (cert_seen view)
 seen_is_meant t blob view next small short sees =
     bare_line_means t blob small short ∙ ap (λ r. map_err cert_error (and_then r (λ first. Ok first.0))) sees
 
 -- bytes that are stuck at a part are refused as it is
 stuck_as_read : (r : Result (SshCertificate × List ℕ) CertReason) (why : Why) (part : CertPart)
-    → map_err why_in r ≡ Err why → refused_part r ≡ Some part
+    → map_err cert_why_in r ≡ Err why → refused_part r ≡ Some part
     → map_err cert_error (and_then r (λ first. Ok first.0)) ≡ Err (cert_error (part, why))
 stuck_as_read (Ok found) why part stuck at = cc stuck
 stuck_as_read (Err reason) why part stuck at =
@@ -121,8 +121,8 @@ stuck_as_read (Err reason) why part stuck at =
     ap (λ (r : CertReason). Err (cert_error r)) same
 
 pub stuck_is_refused : (t : SshCertKeyType) (blob : List ℕ) (why : Why) (part : CertPart) → IsBytes blob
-    → length (base64_of blob) < 2 ^ 32 → map_err why_in (certificate.read blob) ≡ Err why
-    → refused_part (certificate.read blob) ≡ Some part → line_meaning (bare_line t blob) ≡ Err (cert_error (part, why))
+    → length (base64_of blob) < 2 ^ 32 → map_err cert_why_in (certificate.read blob) ≡ Err why
+    → refused_part (certificate.read blob) ≡ Some part → cert_line_meaning (bare_line t blob) ≡ Err (cert_error (part, why))
 stuck_is_refused t blob why part small short stuck at =
     bare_line_means t blob small short ∙ stuck_as_read (certificate.read blob) why part stuck at
 

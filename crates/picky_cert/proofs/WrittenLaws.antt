@@ -10,7 +10,7 @@ use Rattle.picky_cert_blob.proofs.SpellLaws.{body_spells}
 use Rattle.picky_cert.specs.declared.certificate.SshCertificate.{SshCertificate}
 use Rattle.picky_cert.specs.Certificate.{certificate, certified, said}
 use Rattle.picky_cert.specs.Keeps.{IsCertificate, IsWellFormed}
-use Rattle.picky_cert.specs.Spelled.{blob_of, signed_of}
+use Rattle.picky_cert.specs.Spelled.{cert_blob_of, signed_of}
 
 -- ---- what is signed
 
@@ -31,8 +31,8 @@ written_binds c d more is_c is_d formed_c formed_d same =
 -- The one spelling that is written is a piece.
 pub certificate_spells : (c : SshCertificate) → IsCertificate c → IsWellFormed c
     → blob_fits c.signature.format c.signature.blob ≡ true → total_of c.signature < 2 ^ 32
-    → certificate.piece (certified (said c) c.signature) (blob_of c)
-unfolding certificate blob_of signature_part signature_of
+    → certificate.piece (certified (said c) c.signature) (cert_blob_of c)
+unfolding certificate cert_blob_of signature_part signature_of
 certificate_spells c is formed fits short =
     let signed = behind_spells (total_of c.signature) c.signature short is.signature fits in (
       said c,
@@ -46,8 +46,8 @@ certificate_spells c is formed fits short =
 -- It is read back, whatever follows.
 pub certificate_is_read_back : (c : SshCertificate) (more : List ℕ) → IsCertificate c → IsWellFormed c
     → blob_fits c.signature.format c.signature.blob ≡ true → total_of c.signature < 2 ^ 32
-    → certificate.read (blob_of c ++ more) ≡ Ok (certified (said c) c.signature, more)
+    → certificate.read (cert_blob_of c ++ more) ≡ Ok (certified (said c) c.signature, more)
 certificate_is_read_back c more is formed fits short =
-    certificate.complete (certified (said c) c.signature) (blob_of c) more (certificate_spells c is formed fits short)
+    certificate.complete (certified (said c) c.signature) (cert_blob_of c) more (certificate_spells c is formed fits short)
 
 pub ruleset written_laws = (certificate_spells, certificate_is_read_back)

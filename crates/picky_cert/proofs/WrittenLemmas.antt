@@ -22,7 +22,7 @@ use Rattle.picky_cert_blob.specs.Layout.{Grants, Terms}
 use Rattle.picky_cert_blob.specs.Spelled.{body_spelled, extensions_block, grants_spelled, options_block, principals_block, terms_spelled}
 use Rattle.picky_cert.specs.declared.certificate.SshCertificate.{SshCertificate}
 use Rattle.picky_cert.specs.Certificate.{said}
-use Rattle.picky_cert.specs.Spelled.{blob_of, line_of, signed_of}
+use Rattle.picky_cert.specs.Spelled.{cert_blob_of, cert_line_of, signed_of}
 
 -- ---- what is signed
 
@@ -95,16 +95,16 @@ long_total s e fits refused =
 
 -- ---- a line
 
-pub signed_within : (c : SshCertificate) → length (signed_of c) ≤ length (blob_of c)
-unfolding blob_of
+pub signed_within : (c : SshCertificate) → length (signed_of c) ≤ length (cert_blob_of c)
+unfolding cert_blob_of
 signed_within c = simp length-append (omega arith)
 
-pub signature_within : (c : SshCertificate) → length (signature_of c.signature) ≤ length (blob_of c)
-unfolding blob_of
+pub signature_within : (c : SshCertificate) → length (signature_of c.signature) ≤ length (cert_blob_of c)
+unfolding cert_blob_of
 signature_within c = simp length-append (omega arith)
 
-pub blob_within : (c : SshCertificate) → length (blob_of c) ≤ length (line_of c)
-unfolding line_of
-blob_within c = simp length-append (omega (arith, length_base64 (blob_of c)))
+pub blob_within : (c : SshCertificate) → length (cert_blob_of c) ≤ length (cert_line_of c)
+unfolding cert_line_of
+blob_within c = simp length-append (omega (arith, length_base64 (cert_blob_of c)))
 
 pub ruleset line_within = (total_within, signed_within, signature_within, blob_within)

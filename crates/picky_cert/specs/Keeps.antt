@@ -2,7 +2,7 @@
 use Rattle.picky_keys.specs.Key.{IsText}
 use Rattle.picky_cert_parts.specs.Signature.{IsSignature}
 use Rattle.picky_cert_blob.specs.Keeps.{IsBody}
-use Rattle.picky_cert_blob.specs.Keeps.{IsWellFormed as IsWellFormedBody}
+use Rattle.picky_cert_blob.specs.Keeps.{IsWellFormedBody}
 use Rattle.picky_cert.specs.declared.certificate.SshCertificate.{SshCertificate}
 use Rattle.picky_cert.specs.Certificate.{said}
 

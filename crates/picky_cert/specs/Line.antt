@@ -13,7 +13,7 @@ use Rattle.picky_cert_parts.specs.Signature.{blob_fits}
 use Rattle.picky_cert.specs.declared.certificate.SshCertificate.{SshCertificate}
 use Rattle.picky_cert.specs.Certificate.{certificate, certified, said}
 use Rattle.picky_cert.specs.Keeps.{IsCertificate, IsWellFormed}
-use Rattle.picky_cert.specs.Spelled.{line_of}
+use Rattle.picky_cert.specs.Spelled.{cert_line_of}
 
 -- line = name SP base64 [SP comment], which ends at the first CR or LF, or with the text; what follows it says nothing.
 -- The name is one of the ten and says nothing more: the one inside decides. Bytes after the signature say nothing. The
@@ -48,4 +48,4 @@ pub record IsReadBackCertificate (c : SshCertificate) : Type 0 where
   pub no_lf : HasNo 10 c.comment
   pub trimmed : trim_end c.comment ≡ c.comment
   pub utf8 : IsUtf8 c.comment
-  pub short : length (line_of c) < 2 ^ 32
+  pub short : length (cert_line_of c) < 2 ^ 32

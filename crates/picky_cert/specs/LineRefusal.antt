@@ -19,7 +19,7 @@ use Rattle.picky_cert_blob.specs.Subject.{fits_subject}
 use Rattle.picky_cert.specs.declared.certificate.SshCertificate.{SshCertificate}
 use Rattle.picky_cert.specs.CertRefusal.{cert_error}
 use Rattle.picky_cert.specs.Certificate.{certificate}
-use Rattle.picky_cert.specs.Spelled.{line_of, signed_of}
+use Rattle.picky_cert.specs.Spelled.{cert_line_of, signed_of}
 
 -- ---- reading
 
@@ -37,8 +37,8 @@ word_type word =
     if is_utf8 word then of_table cert_key_types errors.InvalidCertificateKeyType errors.TooLong word else Err errors.InvalidUtf8
 
 -- what a name, a body and a comment mean, which is none where it isn't UTF-8; or the first reason why they mean nothing
-unfoldable pub words_meaning : (name body : List ℕ) → Option (List ℕ) → Result SshCertificate SshCertificateError
-words_meaning name body comment =
+unfoldable pub cert_words_meaning : (name body : List ℕ) → Option (List ℕ) → Result SshCertificate SshCertificateError
+cert_words_meaning name body comment =
     and_then (word_type name) (λ key_type.
     if is_short body && is_short_text comment
     then and_then (body_certificate body) (λ c.
@@ -47,8 +47,8 @@ words_meaning name body comment =
     else Err errors.TooLong)
 
 -- what a line means; its bytes need not be UTF-8
-unfoldable pub line_meaning : List ℕ → Result SshCertificate SshCertificateError
-line_meaning line = words_meaning (first_word line) (body_word line) (comment_text line)
+unfoldable pub cert_line_meaning : List ℕ → Result SshCertificate SshCertificateError
+cert_line_meaning line = cert_words_meaning (first_word line) (body_word line) (comment_text line)
 
 -- ---- writing
 
@@ -60,10 +60,10 @@ signed_text c =
     else Err errors.SubjectMismatch
 
 -- the text of the line, or the first reason why it isn't written
-unfoldable pub line_text : SshCertificate → Result (List ℕ) SshCertificateError
-line_text c =
+unfoldable pub cert_line_text : SshCertificate → Result (List ℕ) SshCertificateError
+cert_line_text c =
     if fits_subject c.cert_key_type c.public_key.inner_key
     then if blob_fits c.signature.format c.signature.blob
-    then if is_short (line_of c) then Ok (line_of c) else Err errors.TooLong
+    then if is_short (cert_line_of c) then Ok (cert_line_of c) else Err errors.TooLong
     else Err (errors.SshSignatureError signatures.BlobMismatch)
     else Err errors.SubjectMismatch

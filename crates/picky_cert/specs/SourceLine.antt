@@ -5,9 +5,9 @@ use Rattle.picky_keys.specs.SourceLine.{read_line}
 use Rattle.picky_cert_parts.specs.declared.error.SshCertificateError.{SshCertificateError}
 use Rattle.picky_cert_parts.specs.CertFromWire.{certificate_error}
 use Rattle.picky_cert.specs.declared.certificate.SshCertificate.{SshCertificate}
-use Rattle.picky_cert.specs.LineRefusal.{line_meaning}
+use Rattle.picky_cert.specs.LineRefusal.{cert_line_meaning}
 
 -- the certificate that the source's bytes begin with and what is left, or the first reason why there is none
-unfoldable pub source_meaning : List ℕ → Result (SshCertificate × List ℕ) SshCertificateError
-source_meaning bytes =
-    and_then (read_line certificate_error bytes) (λ line. and_then (line_meaning line.0) (λ c. Ok (c, line.1)))
+unfoldable pub cert_source_meaning : List ℕ → Result (SshCertificate × List ℕ) SshCertificateError
+cert_source_meaning bytes =
+    and_then (read_line certificate_error bytes) (λ line. and_then (cert_line_meaning line.0) (λ c. Ok (c, line.1)))

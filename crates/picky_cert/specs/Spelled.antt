@@ -11,9 +11,9 @@ use Rattle.picky_cert.specs.Certificate.{said}
 unfoldable pub signed_of : SshCertificate → List ℕ
 signed_of c = body_spelled (said c)
 
-unfoldable pub blob_of : SshCertificate → List ℕ
-blob_of c = signed_of c ++ signature_of c.signature
+unfoldable pub cert_blob_of : SshCertificate → List ℕ
+cert_blob_of c = signed_of c ++ signature_of c.signature
 
 -- line = name SP base64 SP comment CR LF; to sshd(8) the CR would be the comment's
-unfoldable pub line_of : SshCertificate → List ℕ
-line_of c = cert_key_type_name c.cert_key_type ++ 32 ∷ base64_of (blob_of c) ++ 32 ∷ c.comment ++ 13 ∷ 10 ∷ []
+unfoldable pub cert_line_of : SshCertificate → List ℕ
+cert_line_of c = cert_key_type_name c.cert_key_type ++ 32 ∷ base64_of (cert_blob_of c) ++ 32 ∷ c.comment ++ 13 ∷ 10 ∷ []

@@ -46,9 +46,9 @@ CertLies blob view =
 -- ---- a part that doesn't fit
 
 -- a name that is refused is text
-abbrev pub NamesText : Stuck → Type 0
-NamesText (stucks.Name name) = IsPrincipal name.bytes.now
-NamesText stuck = Unit {0}
+abbrev pub NamesPrincipal : Stuck → Type 0
+NamesPrincipal (stucks.Name name) = IsPrincipal name.bytes.now
+NamesPrincipal stuck = Unit {0}
 
-abbrev pub IsRefusal : Stopped CertPart → Type 0
-IsRefusal stopped = NamesText stopped.stuck
+abbrev pub IsCertRefusal : Stopped CertPart → Type 0
+IsCertRefusal stopped = NamesPrincipal stopped.stuck

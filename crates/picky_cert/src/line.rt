@@ -13,7 +13,8 @@ ghost use Rattle.picky_cert_parts.specs.declared.cert_key_type.SshCertKeyType.{S
 ghost use Rattle.picky_cert.specs.Certificate.{certificate, subject, subject_key};
 ghost use Rattle.picky_cert.specs.CertRefusal.{cert_error};
 ghost use Rattle.picky_cert.specs.Line.{bare_line};
-ghost use Rattle.picky_cert.specs.LineRefusal.{blob_certificate, body_certificate, line_meaning, word_type, words_meaning};
+ghost use Rattle.picky_cert.specs.LineRefusal.{blob_certificate, body_certificate, cert_line_meaning, word_type};
+ghost use Rattle.picky_cert.specs.LineRefusal.{cert_words_meaning};
 
 use crate::certificate::SshCertificate;
 use crate::refusal::certificate_view_refusal;
@@ -32,7 +33,7 @@ impl SshCertificate {
     /// Refuses, in order: `InvalidCertificateKeyType`, `TooLong`, `Base64DecodeError`, the bytes' by field.
     #[tactic(auto, using(crate::proofs::ViewLineLaws::bare_line_gives))]
     pub fn from_str(alloc: Global, text: &str) -> Result<SshCertificate, SshCertificateError>
-        ensures gives { Gives SshCertificateError.NoMemory (λ c. c) result (line_meaning text.now) }
+        ensures gives { Gives SshCertificateError.NoMemory (λ c. c) result (cert_line_meaning text.now) }
 
         // Of a type's name, a space and the base64 of bytes these are the values and refusals of `CertView::read` of the bytes.
         ensures view { (key_type : KeyType) (blob : List ℕ) → IsBytes blob → length (base64_of blob) < 2 ^ 32
@@ -46,9 +47,9 @@ impl SshCertificate {
     /// else of it is copied.
     ///
     /// Refuses as `from_str`.
-    #[tactic(auto, unfolding(crate::specs::LineRefusal::line_meaning), using(picky_text::proofs::WordLaws::text_rests))]
+    #[tactic(auto, unfolding(crate::specs::LineRefusal::cert_line_meaning), using(picky_text::proofs::WordLaws::text_rests))]
     pub fn subject_from_str(alloc: Global, text: &str) -> Result<SshPublicKey, SshCertificateError>
-        ensures { Gives SshCertificateError.NoMemory (λ key. key) result (map_ok subject (line_meaning text.now)) }
+        ensures { Gives SshCertificateError.NoMemory (λ key. key) result (map_ok subject (cert_line_meaning text.now)) }
     {
         let (name, after_name) = split_word(text.as_bytes());
         let (body, after_body) = split_word(after_name);
@@ -58,7 +59,7 @@ impl SshCertificate {
 }
 
 /// The subject's key of a name and a body, with this comment. Refuses as `certificate_of_words`.
-#[tactic(auto, unfolding(crate::specs::LineRefusal::words_meaning))]
+#[tactic(auto, unfolding(crate::specs::LineRefusal::cert_words_meaning))]
 fn subject_of_words(
     alloc: Global,
     name: &[u8],
@@ -66,7 +67,7 @@ fn subject_of_words(
     comment: &str,
 ) -> Result<SshPublicKey, SshCertificateError>
     ensures { Gives SshCertificateError.NoMemory (λ key. key) result
-        (map_ok subject (words_meaning name.now body.now (Some comment.now))) }
+        (map_ok subject (cert_words_meaning name.now body.now (Some comment.now))) }
 {
     match type_of_word(alloc, name) {
         Ok(_) => {}
@@ -110,9 +111,9 @@ fn subject_of_blob(alloc: Global, blob: &[u8]) -> Result<SshBasePublicKey, SshCe
 }
 
 /// What a text means. Refuses as `from_str`.
-#[tactic(auto, unfolding(crate::specs::LineRefusal::line_meaning), using(picky_text::proofs::WordLaws::text_rests))]
+#[tactic(auto, unfolding(crate::specs::LineRefusal::cert_line_meaning), using(picky_text::proofs::WordLaws::text_rests))]
 fn certificate_of_text(alloc: Global, text: &str) -> Result<SshCertificate, SshCertificateError>
-    ensures { Gives SshCertificateError.NoMemory (λ c. c) result (line_meaning text.now) }
+    ensures { Gives SshCertificateError.NoMemory (λ c. c) result (cert_line_meaning text.now) }
 {
     let (name, after_name) = split_word(text.as_bytes());
     let (body, after_body) = split_word(after_name);
@@ -124,12 +125,12 @@ fn certificate_of_text(alloc: Global, text: &str) -> Result<SshCertificate, SshC
 ///
 /// Refuses, in order: `InvalidUtf8` and `InvalidCertificateKeyType` for the name, `TooLong`, `Base64DecodeError`, the
 /// bytes' by field, `InvalidUtf8` for the comment.
-#[tactic(auto, unfolding(crate::specs::LineRefusal::line_meaning))]
+#[tactic(auto, unfolding(crate::specs::LineRefusal::cert_line_meaning))]
 pub fn certificate_of_line(
     alloc: Global,
     line: &[u8],
 ) -> Result<SshCertificate, SshCertificateError>
-    ensures gives { Gives SshCertificateError.NoMemory (λ c. c) result (line_meaning line.now) }
+    ensures gives { Gives SshCertificateError.NoMemory (λ c. c) result (cert_line_meaning line.now) }
     ensures no_fault { IfErr result (λ e. e ≢ SshCertificateError.CertificateProcessingError io_kinds.ReadFault) }
 {
     let (name, after_name) = split_word(line);
@@ -138,7 +139,7 @@ pub fn certificate_of_line(
 }
 
 /// What a name, a body and a comment mean, which is none where it isn't UTF-8.
-#[tactic(auto, unfolding(crate::specs::LineRefusal::words_meaning))]
+#[tactic(auto, unfolding(crate::specs::LineRefusal::cert_words_meaning))]
 fn certificate_of_words(
     alloc: Global,
     name: &[u8],
@@ -146,7 +147,7 @@ fn certificate_of_words(
     comment: Option<&str>,
 ) -> Result<SshCertificate, SshCertificateError>
     ensures gives { Gives SshCertificateError.NoMemory (λ c. c) result
-        (words_meaning name.now body.now (option_copied comment.entry)) }
+        (cert_words_meaning name.now body.now (option_copied comment.entry)) }
     ensures no_fault { IfErr result (λ e. e ≢ SshCertificateError.CertificateProcessingError io_kinds.ReadFault) }
 {
     match type_of_word(alloc, name) {

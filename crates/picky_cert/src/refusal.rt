@@ -5,7 +5,7 @@ ghost use Rattle.picky_wire.specs.Principals.{IsPrincipal};
 ghost use Rattle.picky_wire_base.specs.View.{why_of};
 ghost use Rattle.picky_cert.specs.CertRefusal.{cert_error, issuer_error, extensions_error, name_error, options_error};
 ghost use Rattle.picky_cert.specs.CertRefusal.{own_error, signature_part_error, type_error};
-ghost use Rattle.picky_cert.specs.View.{IsRefusal, NamesText};
+ghost use Rattle.picky_cert.specs.View.{IsCertRefusal, NamesPrincipal};
 ghost use Rattle.picky_wire_base.specs.View.{reason_of};
 
 use picky_cert_blob::CertPart;
@@ -22,7 +22,7 @@ pub fn certificate_view_refusal(
     alloc: Global,
     stopped: &Stopped<'_, CertPart>,
 ) -> SshCertificateError
-    requires { IsRefusal stopped.now }
+    requires { IsCertRefusal stopped.now }
     ensures { (result ≡ cert_error (reason_of stopped.now)) ⊎ (result ≡ SshCertificateError.NoMemory) }
 {
     match stopped.place {
@@ -46,7 +46,7 @@ pub fn certificate_view_refusal(
 
 /// Of a part whose errors are the certificate's own.
 fn own_refusal(alloc: Global, stuck: &Stuck<'_>) -> SshCertificateError
-    requires { NamesText stuck.now }
+    requires { NamesPrincipal stuck.now }
     ensures { (result ≡ own_error (why_of stuck.now)) ⊎ (result ≡ SshCertificateError.NoMemory) }
 {
     match stuck {
@@ -79,7 +79,7 @@ fn name_refusal(alloc: Global, name: &Part<'_>) -> SshCertificateError
 
 /// Of the type, user or host.
 fn type_refusal(alloc: Global, stuck: &Stuck<'_>) -> SshCertificateError
-    requires { NamesText stuck.now }
+    requires { NamesPrincipal stuck.now }
     ensures { (result ≡ type_error (why_of stuck.now)) ⊎ (result ≡ SshCertificateError.NoMemory) }
 {
     match stuck {
@@ -95,7 +95,7 @@ fn type_refusal(alloc: Global, stuck: &Stuck<'_>) -> SshCertificateError
 
 /// Of the critical options.
 fn options_refusal(alloc: Global, stuck: &Stuck<'_>) -> SshCertificateError
-    requires { NamesText stuck.now }
+    requires { NamesPrincipal stuck.now }
     ensures { (result ≡ options_error (why_of stuck.now)) ⊎ (result ≡ SshCertificateError.NoMemory) }
 {
     match stuck {
@@ -117,7 +117,7 @@ fn options_refusal(alloc: Global, stuck: &Stuck<'_>) -> SshCertificateError
 
 /// Of the extensions.
 fn extensions_refusal(alloc: Global, stuck: &Stuck<'_>) -> SshCertificateError
-    requires { NamesText stuck.now }
+    requires { NamesPrincipal stuck.now }
     ensures { (result ≡ extensions_error (why_of stuck.now)) ⊎ (result ≡ SshCertificateError.NoMemory) }
 {
     match stuck {
@@ -138,7 +138,7 @@ fn issuer_refusal(stuck: &Stuck<'_>) -> SshCertificateError
 
 /// Of the signature.
 fn signature_refusal(alloc: Global, stuck: &Stuck<'_>) -> SshCertificateError
-    requires { NamesText stuck.now }
+    requires { NamesPrincipal stuck.now }
     ensures { (result ≡ signature_part_error (why_of stuck.now)) ⊎ (result ≡ SshCertificateError.NoMemory) }
 {
     match stuck {

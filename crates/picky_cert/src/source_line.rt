@@ -6,8 +6,8 @@ ghost use Rattle.picky_wire.specs.Takes.{Takes, HasCause, causes_of};
 ghost use Rattle.picky_wire.specs.declared.error.IoKind.TheVariants as io_kinds;
 ghost use Rattle.picky_keys.specs.SourceLine.{after_line, line_used, HasLine};
 ghost use Rattle.picky_cert_parts.specs.CertFromWire.{certificate_error};
-ghost use Rattle.picky_cert.specs.LineRefusal.{line_meaning};
-ghost use Rattle.picky_cert.specs.SourceLine.{source_meaning};
+ghost use Rattle.picky_cert.specs.LineRefusal.{cert_line_meaning};
+ghost use Rattle.picky_cert.specs.SourceLine.{cert_source_meaning};
 
 use crate::certificate::SshCertificate;
 use crate::line::certificate_of_line;
@@ -21,7 +21,7 @@ impl SshComplexTypeDecode for SshCertificate {
 
     type Error = SshCertificateError;
 
-    ghost reads = { source_meaning };
+    ghost reads = { cert_source_meaning };
 
     ghost used = { line_used };
 
@@ -36,13 +36,13 @@ impl SshComplexTypeDecode for SshCertificate {
         alloc: Global,
         stream: &mut S,
     ) -> Result<SshCertificate, SshCertificateError>
-        ensures takes { Takes S.tells S.left S.known S.faults (causes_of certificate_error) source_meaning line_used
+        ensures takes { Takes S.tells S.left S.known S.faults (causes_of certificate_error) cert_source_meaning line_used
             result stream.old stream.new }
-        ensures cause { IfErr result (HasCause (causes_of certificate_error) source_meaning
+        ensures cause { IfErr result (HasCause (causes_of certificate_error) cert_source_meaning
             (Rose (S.faults stream.old) (S.faults stream.new))) }
 
         // Whatever the source tells, some line means the certificate.
-        ensures meant { IfOk result (HasLine line_meaning) }
+        ensures meant { IfOk result (HasLine cert_line_meaning) }
 
         // A line that is refused for what it says was taken, a cut certificate's too.
         ensures taken { S.tells stream.old → IfErr result (λ e.

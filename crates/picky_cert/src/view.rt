@@ -5,8 +5,8 @@ ghost use Rattle.picky_wire_base.specs.View.{Seen};
 ghost use Rattle.picky_cert.specs.Certificate.{certificate as certificate_layout, refused_part, said, signed_in};
 ghost use Rattle.picky_cert.specs.Keeps.{IsCertificate};
 ghost use Rattle.picky_cert.specs.declared.certificate.SshCertificate.{SshCertificate as Certificate};
-ghost use Rattle.picky_cert.specs.View.{body_in, cert_seen, CertLies, IsRefusal};
-ghost use Rattle.picky_cert_blob.specs.Reason.{why_in};
+ghost use Rattle.picky_cert.specs.View.{body_in, cert_seen, CertLies, IsCertRefusal};
+ghost use Rattle.picky_cert_blob.specs.Reason.{cert_why_in};
 ghost use Rattle.picky_cert_blob.specs.CertSeen.{HasItems};
 ghost use Rattle.picky_wire_base.specs.View.{SeenAt};
 
@@ -48,7 +48,7 @@ impl<'a> CertView<'a> {
     #[tactic(auto, using(crate::proofs::SignedLaws::signed_binds, crate::proofs::SignedLaws::signed_part_is_front))]
     pub fn read(blob: &'a [u8]) -> Result<(CertView<'a>, usize), Stuck<'a>>
         requires { length blob.now < 2 ^ 32 }
-        ensures seen { Seen cert_seen (CertLies blob.now) why_in certificate_layout blob.now 0 result }
+        ensures seen { Seen cert_seen (CertLies blob.now) cert_why_in certificate_layout blob.now 0 result }
         ensures is_certificate { IfOk result (λ found. IsCertificate (cert_seen found.0)) }
         ensures items { IfOk result (λ found. HasItems (body_in found.0)) }
 
@@ -84,7 +84,7 @@ pub fn certificate_at<'a>(blob: &'a [u8]) -> Result<(CertView<'a>, usize), Stopp
     ensures seen { SeenAt cert_seen (CertLies blob.now) certificate_layout blob.now 0 result }
     ensures is_certificate { IfOk result (λ found. IsCertificate (cert_seen found.0)) }
     ensures items { IfOk result (λ found. HasItems (body_in found.0)) }
-    ensures refusal { IfErr result IsRefusal }
+    ensures refusal { IfErr result IsCertRefusal }
 {
     view_at(blob)
 }

@@ -5,8 +5,8 @@ ghost use Rattle.picky_wire_base.specs.Gives.{Gives};
 ghost use Rattle.picky_wire.specs.Puts.{Puts};
 ghost use Rattle.picky_wire.specs.declared.error.IoKind.TheVariants as io_kinds;
 ghost use Rattle.picky_cert_parts.specs.Signature.{blob_fits, signature_of};
-ghost use Rattle.picky_cert.specs.LineRefusal.{line_text};
-ghost use Rattle.picky_cert.specs.Spelled.{blob_of, line_of};
+ghost use Rattle.picky_cert.specs.LineRefusal.{cert_line_text};
+ghost use Rattle.picky_cert.specs.Spelled.{cert_blob_of, cert_line_of};
 
 use crate::blob_bytes::signed_vec;
 use crate::certificate::SshCertificate;
@@ -24,9 +24,9 @@ impl SshCertificate {
     /// `name SP base64 SP comment` (sshd(8)). Refuses, in order: `SubjectMismatch`, where the type isn't for the subject's
     /// key; `SshSignatureError(BlobMismatch)`, where one of the signature's format and blob has a counter and the other none;
     /// `TooLong`, where the line has 2^32 bytes or more.
-    #[tactic(auto, unfolding(crate::specs::LineRefusal::line_text))]
+    #[tactic(auto, unfolding(crate::specs::LineRefusal::cert_line_text))]
     pub fn to_string(&self, alloc: Global) -> Result<Text, SshCertificateError>
-        ensures { Gives SshCertificateError.NoMemory (λ text. text) result (line_text self.now) }
+        ensures { Gives SshCertificateError.NoMemory (λ text. text) result (cert_line_text self.now) }
     {
         if !fits_subject(self.cert_key_type, &self.public_key.inner_key) {
             return Err(SshCertificateError::SubjectMismatch);
@@ -43,13 +43,13 @@ impl SshCertificate {
 
     /// Writes the line. Refuses, in order: as `to_string`, and `CertificateProcessingError(WriteFault)`.
     pub fn encode<S: Sink>(&self, alloc: Global, stream: &mut S) -> Result<(), SshCertificateError>
-        ensures puts { IfOk (line_text self.now) (λ line.
+        ensures puts { IfOk (cert_line_text self.now) (λ line.
             ((result ≡ Err SshCertificateError.NoMemory) × (stream.new ≡ stream.old))
             ⊎ Puts S.tells S.written S.faults (SshCertificateError.CertificateProcessingError io_kinds.WriteFault) line
             result stream.old stream.new) }
 
         // What isn't written is refused before anything is.
-        ensures refused { IfErr (line_text self.now) (λ e.
+        ensures refused { IfErr (cert_line_text self.now) (λ e.
             ((result ≡ Err e) ⊎ (result ≡ Err SshCertificateError.NoMemory)) × (stream.new ≡ stream.old)) }
     {
         match self.to_string(alloc) {
@@ -65,11 +65,11 @@ impl SshCertificate {
 /// The line of a certificate whose signature's format and blob fit each other.
 ///
 /// Refuses: `TooLong`, where the bytes are too many for a line of fewer than 2^32 bytes.
-#[tactic(auto, unfolding(crate::specs::Spelled::line_of, picky_text::specs::Base64::base64_of), using(crate::proofs::WrittenLemmas::line_within))]
+#[tactic(auto, unfolding(crate::specs::Spelled::cert_line_of, picky_text::specs::Base64::base64_of), using(crate::proofs::WrittenLemmas::line_within))]
 fn line_string(alloc: Global, certificate: &SshCertificate) -> Result<String, SizeError>
-    ensures line { IfOk result (λ line. string_bytes line ≡ line_of certificate.now) }
+    ensures line { IfOk result (λ line. string_bytes line ≡ cert_line_of certificate.now) }
     ensures too_long { blob_fits certificate.now.signature.format certificate.now.signature.blob ≡ true
-        → IfErr result (λ e. e ≡ SizeError.TooLong → 2 ^ 32 ≤ length (line_of certificate.now)) }
+        → IfErr result (λ e. e ≡ SizeError.TooLong → 2 ^ 32 ≤ length (cert_line_of certificate.now)) }
 {
     let blob = match blob_vec(alloc, certificate) {
         Ok(blob) => blob,
@@ -84,11 +84,11 @@ fn line_string(alloc: Global, certificate: &SshCertificate) -> Result<String, Si
 /// All bytes of a certificate whose signature's format and blob fit each other.
 ///
 /// Refuses: `TooLong`, where those before the signature, or those behind its total, are 2^32 or more.
-#[tactic(auto, unfolding(crate::specs::Spelled::blob_of))]
+#[tactic(auto, unfolding(crate::specs::Spelled::cert_blob_of))]
 fn blob_vec(alloc: Global, certificate: &SshCertificate) -> Result<Vec<u8>, SizeError>
-    ensures blob { IfOk result (λ blob. blob.items ≡ blob_of certificate.now) }
+    ensures blob { IfOk result (λ blob. blob.items ≡ cert_blob_of certificate.now) }
     ensures too_long { blob_fits certificate.now.signature.format certificate.now.signature.blob ≡ true
-        → IfErr result (λ e. e ≡ SizeError.TooLong → 2 ^ 32 ≤ length (blob_of certificate.now)) }
+        → IfErr result (λ e. e ≡ SizeError.TooLong → 2 ^ 32 ≤ length (cert_blob_of certificate.now)) }
 {
     let mut blob = match signed_vec(alloc, certificate) {
         Ok(signed) => signed,
@@ -120,13 +120,13 @@ fn push_signature(out: &mut Vec<u8>, signature: &SshSignature) -> Result<(), Siz
 }
 
 /// The line of a certificate whose bytes these are.
-#[tactic(auto, unfolding(crate::specs::Spelled::line_of))]
+#[tactic(auto, unfolding(crate::specs::Spelled::cert_line_of))]
 fn line_of_blob(
     alloc: Global,
     certificate: &SshCertificate,
     blob: &[u8],
 ) -> Result<String, AllocError>
-    ensures { blob.now ≡ blob_of certificate.now → IfOk result (λ line. string_bytes line ≡ line_of certificate.now) }
+    ensures { blob.now ≡ cert_blob_of certificate.now → IfOk result (λ line. string_bytes line ≡ cert_line_of certificate.now) }
 {
     let (name, comment) = (
         certificate.cert_key_type.as_str(),

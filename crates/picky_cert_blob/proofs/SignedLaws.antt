@@ -6,7 +6,7 @@ use Rattle.std.proofs.lemmas.List.{append-nil, length-append}
 use Rattle.picky_wire_base.specs.Grammar.{Grammar}
 use Rattle.picky_wire_base.proofs.Grammar.{one_front}
 use Rattle.picky_cert_blob.specs.Layout.{Body, body}
-use Rattle.picky_cert_blob.specs.Keeps.{IsBody, IsWellFormed}
+use Rattle.picky_cert_blob.specs.Keeps.{IsBody, IsWellFormedBody}
 use Rattle.picky_cert_blob.specs.Spelled.{body_spelled}
 use Rattle.picky_cert_blob.proofs.SpellLaws.{body_spells}
 
@@ -33,7 +33,7 @@ read_bodies_bind x y b d r s more read_b read_d same =
     (taken_is_piece body y d s read_d) same
 
 -- So it is with what is written.
-pub spelled_bodies_bind : (b d : Body) (more : List ℕ) → IsBody b → IsBody d → IsWellFormed b → IsWellFormed d
+pub spelled_bodies_bind : (b d : Body) (more : List ℕ) → IsBody b → IsBody d → IsWellFormedBody b → IsWellFormedBody d
     → body_spelled d ≡ body_spelled b ++ more → b ≡ d
 spelled_bodies_bind b d more is_b is_d formed_b formed_d same =
     front_binds body b d (body_spelled b) (body_spelled d) more (body_spells b is_b formed_b) (body_spells d is_d formed_d) same

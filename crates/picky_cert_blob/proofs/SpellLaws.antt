@@ -22,7 +22,7 @@ use Rattle.picky_cert_blob.specs.Layout.{type_number, principals, valid_after, v
 use Rattle.picky_cert_blob.specs.Layout.{issuer}
 use Rattle.picky_cert_blob.specs.Spelled.{head_spelled, terms_spelled, grants_spelled, body_spelled, principals_block}
 use Rattle.picky_cert_blob.specs.Spelled.{options_block, extensions_block}
-use Rattle.picky_cert_blob.specs.Keeps.{IsHead, IsTerms, IsGrants, IsBody, FitsSubject, IsWellFormed}
+use Rattle.picky_cert_blob.specs.Keeps.{IsHead, IsTerms, IsGrants, IsBody, FitsSubject, IsWellFormedBody}
 
 -- ---- who is certified
 
@@ -168,7 +168,7 @@ grants_spell g is options_short extensions_short issuer_short = (
 -- ---- all before the signature
 
 -- The canonical spelling is a piece.
-pub body_spells : (b : Body) → IsBody b → IsWellFormed b → body.piece b (body_spelled b)
+pub body_spells : (b : Body) → IsBody b → IsWellFormedBody b → body.piece b (body_spelled b)
 unfolding body body_spelled
 body_spells b is formed = (
   b.head,
@@ -194,7 +194,7 @@ body_spells b is formed = (
 )
 
 -- It is read back whatever follows.
-pub body_reads_back : (b : Body) (rest : List ℕ) → IsBody b → IsWellFormed b → body.read (body_spelled b ++ rest) ≡ Ok (b, rest)
+pub body_reads_back : (b : Body) (rest : List ℕ) → IsBody b → IsWellFormedBody b → body.read (body_spelled b ++ rest) ≡ Ok (b, rest)
 body_reads_back b rest is formed = body.complete b (body_spelled b) rest (body_spells b is formed)
 
 pub ruleset spelling_laws = (body_spells, body_reads_back)

@@ -36,7 +36,7 @@ abbrev pub FitsSubject : Head → Type 0
 FitsSubject h = subject_kind h.cert_key_type ≡ Some (kind_of h.key)
 
 -- so it is well formed, where each list and the issuer's blob fit a string
-pub record IsWellFormed (b : Body) : Type 0 where
+pub record IsWellFormedBody (b : Body) : Type 0 where
   pub fits : FitsSubject b.head
   pub principals : length (principals_block b.terms) < 2 ^ 32
   pub options : length (options_block b.grants) < 2 ^ 32

@@ -7,7 +7,7 @@ use Rattle.picky_wire_base.specs.Entry.{entry}
 use Rattle.picky_wire_base.specs.Numbers.{uint64}
 use Rattle.picky_wire_base.specs.Wire.{string, text, uint32}
 use Rattle.picky_wire.specs.declared.timestamp.Timestamp.{Timestamp}
-use Rattle.picky_wire.specs.Moment.{moment}
+use Rattle.picky_wire.specs.Moment.{timestamp_at}
 use Rattle.picky_keys.specs.declared.kind.KeyKind.{KeyKind}
 use Rattle.picky_keys.specs.declared.key.SshBasePublicKey.{SshBasePublicKey}
 use Rattle.picky_keys.specs.Blob.{blob, public_key_fields}
@@ -77,10 +77,10 @@ principals = listed (placed parts.Principals) principal_item principal_item_soli
 
 -- uint64 of seconds
 unfoldable pub valid_after : Grammar CertReason Timestamp
-valid_after = narrow (at parts.After uint64) (each moment)
+valid_after = narrow (at parts.After uint64) (each timestamp_at)
 
 unfoldable pub valid_before : Grammar CertReason Timestamp
-valid_before = narrow (at parts.Before uint64) (each moment)
+valid_before = narrow (at parts.Before uint64) (each timestamp_at)
 
 -- uint64 serial
 -- uint32 type

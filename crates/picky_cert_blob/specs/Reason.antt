@@ -47,5 +47,5 @@ abbrev pub in_signature : {A : Type 0} → Grammar SshSignatureError A → Gramm
 in_signature G = tag (λ e. (parts.Signature, signature_why e)) G
 
 -- a reason without its part
-abbrev pub why_in : CertReason → Why
-why_in reason = reason.1
+abbrev pub cert_why_in : CertReason → Why
+cert_why_in reason = reason.1

@@ -12,7 +12,7 @@ ghost use Rattle.picky_cert_parts.specs.declared.cert_key_type.SshCertKeyType.{S
 ghost use Rattle.picky_cert_parts.specs.CriticalOption.{critical_option};
 ghost use Rattle.picky_cert_parts.specs.Extension.{extension};
 ghost use Rattle.picky_cert_blob.specs.Items.{principal_item, option_item, extension_item};
-ghost use Rattle.picky_cert_blob.specs.Keeps.{FitsSubject, IsBody, IsWellFormed};
+ghost use Rattle.picky_cert_blob.specs.Keeps.{FitsSubject, IsBody, IsWellFormedBody};
 ghost use Rattle.picky_cert_blob.specs.Layout.{Body, body};
 ghost use Rattle.picky_wire_base.specs.View.{stopped_shown};
 ghost use Rattle.picky_cert_blob.specs.Shown.{body_shown, grants_shown, head_shown, signature_shown, terms_shown};
@@ -56,8 +56,8 @@ pub fn a_key_fits_by_its_kind()
 /// The one spelling that is written is a piece, and is read back whatever follows it.
 #[tactic(auto, using(crate::proofs::SpellLaws::spelling_laws))]
 pub fn what_is_written_is_read_back()
-    ensures piece { (b : Body) → IsBody b → IsWellFormed b → body.piece b (body_spelled b) }
-    ensures read { (b : Body) (rest : List ℕ) → IsBody b → IsWellFormed b → body.read (body_spelled b ++ rest) ≡ Ok (b, rest) }
+    ensures piece { (b : Body) → IsBody b → IsWellFormedBody b → body.piece b (body_spelled b) }
+    ensures read { (b : Body) (rest : List ℕ) → IsBody b → IsWellFormedBody b → body.read (body_spelled b ++ rest) ≡ Ok (b, rest) }
 {}
 
 /// The bytes before a signature are the front of others only where both say the same, over all types: of what is read, in
@@ -66,7 +66,7 @@ pub fn what_is_written_is_read_back()
 pub fn signed_bytes_bind_what_is_said()
     ensures read { (x y : List ℕ) (b d : Body) (r s more : List ℕ) → body.read x ≡ Ok (b, r) → body.read y ≡ Ok (d, s)
         → take (body.used y) y ≡ take (body.used x) x ++ more → b ≡ d }
-    ensures written { (b d : Body) (more : List ℕ) → IsBody b → IsBody d → IsWellFormed b → IsWellFormed d
+    ensures written { (b d : Body) (more : List ℕ) → IsBody b → IsBody d → IsWellFormedBody b → IsWellFormedBody d
         → body_spelled d ≡ body_spelled b ++ more → b ≡ d }
 {}
 

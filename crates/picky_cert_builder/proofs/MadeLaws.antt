@@ -27,7 +27,7 @@ use Rattle.picky_keys.proofs.{ByteLaws.{no_bytes}, LineLaws.{chosen}}
 use Rattle.picky_cert_blob.specs.Subject.{fits_subject}
 use Rattle.picky_cert.specs.declared.certificate.SshCertificate.{SshCertificate}
 use Rattle.picky_cert.specs.{Keeps.{IsCertificate, IsWellFormed}, Line.{IsReadBackCertificate}}
-use Rattle.picky_cert.specs.{LineRefusal.{line_meaning, line_text}, Spelled.{blob_of, line_of, signed_of}}
+use Rattle.picky_cert.specs.{LineRefusal.{cert_line_meaning, cert_line_text}, Spelled.{cert_blob_of, cert_line_of, signed_of}}
 use Rattle.picky_cert.proofs.{FormedLaws.{short_is_formed}, ReadBackLaws.{line_reads_back}}
 use Rattle.picky_cert_builder.specs.declared.builder.SshCertificateBuilder.{SshCertificateBuilder}
 use Rattle.picky_cert_builder.specs.{declared.issuer.IssuerKey.{IssuerKey}, declared.terms.FitTerms.{FitTerms}}
@@ -189,8 +189,8 @@ made_is_plain b nonce u is =
 pub signed_is_kept : (b : SshCertificateBuilder) (nonce : List ℕ) (u : Unsigned) (bytes : List ℕ) → IsRequest b
     → IsString nonce → IsString bytes → requested b nonce ≡ Ok u → HasNo 13 u.certificate.comment
     → HasNo 10 u.certificate.comment → trim_end u.certificate.comment ≡ u.certificate.comment
-    → length (line_of (signed_with u.certificate bytes)) < 2 ^ 32 → IsReadBackCertificate (without_key_comments (signed_with u.certificate bytes))
-unfolding line_of blob_of signed_of
+    → length (cert_line_of (signed_with u.certificate bytes)) < 2 ^ 32 → IsReadBackCertificate (without_key_comments (signed_with u.certificate bytes))
+unfolding cert_line_of cert_blob_of signed_of
 signed_is_kept b nonce u bytes kept is_nonce is_bytes is no_cr no_lf trimmed short =
     let keeps = made_keeps b nonce u kept is_nonce is in
     record {
@@ -209,9 +209,9 @@ signed_is_kept b nonce u bytes kept is_nonce is_bytes is no_cr no_lf trimmed sho
 pub signed_is_read_back : (b : SshCertificateBuilder) (nonce : List ℕ) (u : Unsigned) (bytes more : List ℕ) → IsRequest b
     → IsString nonce → IsString bytes → requested b nonce ≡ Ok u → HasNo 13 u.certificate.comment
     → HasNo 10 u.certificate.comment → trim_end u.certificate.comment ≡ u.certificate.comment
-    → length (line_of (signed_with u.certificate bytes)) < 2 ^ 32
-    → line_meaning (line_of (signed_with u.certificate bytes) ++ more) ≡ Ok (without_key_comments (signed_with u.certificate bytes))
-unfolding line_of blob_of signed_of
+    → length (cert_line_of (signed_with u.certificate bytes)) < 2 ^ 32
+    → cert_line_meaning (cert_line_of (signed_with u.certificate bytes) ++ more) ≡ Ok (without_key_comments (signed_with u.certificate bytes))
+unfolding cert_line_of cert_blob_of signed_of
 signed_is_read_back b nonce u bytes more kept is_nonce is_bytes is no_cr no_lf trimmed short =
     line_reads_back (without_key_comments (signed_with u.certificate bytes)) more
     (signed_is_kept b nonce u bytes kept is_nonce is_bytes is no_cr no_lf trimmed short)
@@ -229,21 +229,21 @@ pub made_comment : (b : SshCertificateBuilder) (nonce : List ℕ) (u : Unsigned)
 made_comment b nonce u is = ap (λ c. c.comment) (requested_is_made b nonce u is).is
 
 -- a line that is written is short, and no other for the comments of its keys
-pub signed_line : (c : SshCertificate) (text : List ℕ) → line_text c ≡ Ok text
-    → (line_of (without_key_comments c) ≡ text) × (length (line_of c) < 2 ^ 32)
-unfolding line_text line_of blob_of signed_of
+pub signed_line : (c : SshCertificate) (text : List ℕ) → cert_line_text c ≡ Ok text
+    → (cert_line_of (without_key_comments c) ≡ text) × (length (cert_line_of c) < 2 ^ 32)
+unfolding cert_line_text cert_line_of cert_blob_of signed_of
 signed_line c text is =
     let subject = chosen (fits_subject c.cert_key_type c.public_key.inner_key) _ refusals.SubjectMismatch text is in
     let format = chosen (blob_fits c.signature.format c.signature.blob) _ (refusals.SshSignatureError signatures.BlobMismatch) text subject.1 in
-    let short = chosen (is_short (line_of c)) (Ok (line_of c)) refusals.TooLong text format.1 in
-    (cc short.1, ltb-true (length (line_of c)) (2 ^ 32) short.0)
+    let short = chosen (is_short (cert_line_of c)) (Ok (cert_line_of c)) refusals.TooLong text format.1 in
+    (cc short.1, ltb-true (length (cert_line_of c)) (2 ^ 32) short.0)
 
 -- Its line is refused by its length alone.
 pub made_line : (b : SshCertificateBuilder) (nonce : List ℕ) (u : Unsigned) (bytes : List ℕ) → requested b nonce ≡ Ok u
-    → line_text (signed_with u.certificate bytes)
-    ≡ (if is_short (line_of (signed_with u.certificate bytes)) then Ok (line_of (signed_with u.certificate bytes))
+    → cert_line_text (signed_with u.certificate bytes)
+    ≡ (if is_short (cert_line_of (signed_with u.certificate bytes)) then Ok (cert_line_of (signed_with u.certificate bytes))
     else Err refusals.TooLong)
-unfolding line_text
+unfolding cert_line_text
 made_line b nonce u bytes is =
     let made = requested_is_made b nonce u is in
     let fits = judged_fits b made.fit made.key made.judged made.key_is in

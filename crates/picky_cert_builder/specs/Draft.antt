@@ -78,8 +78,8 @@ abbrev pub unsigned_of : SshCertificate → SignatureAlgorithm → Unsigned
 unsigned_of c algorithm = record { certificate = c; algorithm = algorithm }
 
 -- what is signed fits a string
-abbrev pub if_short : SshCertificate → SignatureAlgorithm → Result Unsigned SshCertificateGenerationError
-if_short c algorithm = if is_short (signed_of c) then Ok (unsigned_of c algorithm) else Err errors.TooLong
+abbrev pub if_message_fits : SshCertificate → SignatureAlgorithm → Result Unsigned SshCertificateGenerationError
+if_message_fits c algorithm = if is_short (signed_of c) then Ok (unsigned_of c algorithm) else Err errors.TooLong
 
 -- the certificate that is asked for, or the first reason why none is made
 unfoldable pub requested : SshCertificateBuilder → (nonce : List ℕ) → Result Unsigned SshCertificateGenerationError
@@ -87,7 +87,7 @@ requested b nonce =
     and_then (judged_terms (terms_of b)) (λ fit.
     and_then (ok_or b.public_key errors.MissingPublicKey) (λ key.
     and_then (ok_or b.issuer errors.MissingSignatureKey) (λ issuer.
-    if_short (certificate_of b fit key issuer nonce) fit.signature_algo)))
+    if_message_fits (certificate_of b fit key issuer nonce) fit.signature_algo)))
 
 -- ---- signed
 

@@ -6,7 +6,7 @@ ghost use Rattle.picky_wire_base.specs.Gives.{Gives};
 ghost use Rattle.picky_keys.specs.LineRefusal.{is_short};
 ghost use Rattle.picky_cert_blob.specs.Subject.{fits_subject};
 ghost use Rattle.picky_cert.specs.Spelled.{signed_of};
-ghost use Rattle.picky_cert_builder.specs.Draft.{certificate_of, if_short, requested};
+ghost use Rattle.picky_cert_builder.specs.Draft.{certificate_of, if_message_fits, requested};
 ghost use Rattle.picky_cert_builder.specs.Drafted.{IsWholeDraft, draft_shown};
 ghost use Rattle.picky_cert_builder.specs.Issuer.{issuer_of, issuer_part};
 ghost use Rattle.picky_cert_builder.specs.Request.{terms_of};
@@ -138,7 +138,7 @@ fn certificate_draft(
 ) -> Result<CertificateDraft, SshCertificateGenerationError>
     requires { fits_subject fit.now.cert_key_type key.inner_key ≡ true }
     ensures gives { Gives SshCertificateGenerationError.NoMemory draft_shown result
-        (if_short (certificate_of builder fit.now key issuer nonce.now) fit.now.signature_algo) }
+        (if_message_fits (certificate_of builder fit.now key issuer nonce.now) fit.now.signature_algo) }
     ensures whole { IfOk result IsWholeDraft }
     ensures issuer { IfOk result (λ draft. draft.issuer ≡ issuer_of issuer) }
 {
@@ -161,7 +161,7 @@ fn draft_by(
 ) -> Result<CertificateDraft, SshCertificateGenerationError>
     requires fits { fits_subject certificate.cert_key_type certificate.public_key.inner_key ≡ true }
     requires issuer { certificate.signature_key.inner_key ≡ issuer_part issuer }
-    ensures gives { Gives SshCertificateGenerationError.NoMemory draft_shown result (if_short certificate algorithm) }
+    ensures gives { Gives SshCertificateGenerationError.NoMemory draft_shown result (if_message_fits certificate algorithm) }
     ensures whole { IfOk result IsWholeDraft }
     ensures issuer { IfOk result (λ draft. draft.issuer ≡ issuer_of issuer) }
 {

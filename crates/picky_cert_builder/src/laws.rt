@@ -6,10 +6,10 @@ ghost use Rattle.picky_text.specs.Lines.{HasNo};
 ghost use Rattle.picky_wire_base.specs.Equality.{IsEquality};
 ghost use Rattle.picky_keys.specs.Key.{IsString};
 ghost use Rattle.picky_cert.specs.Keeps.{IsCertificate, IsWellFormed};
-ghost use Rattle.picky_cert.specs.LineRefusal.{line_meaning, line_text};
+ghost use Rattle.picky_cert.specs.LineRefusal.{cert_line_meaning, cert_line_text};
 ghost use Rattle.picky_cert_parts.specs.declared.error.SshCertificateError.TheVariants as refusals;
 ghost use Rattle.picky_keys.specs.LineRefusal.{is_short};
-ghost use Rattle.picky_cert.specs.Spelled.{line_of};
+ghost use Rattle.picky_cert.specs.Spelled.{cert_line_of};
 ghost use Rattle.picky_cert_builder.specs.declared.builder.SshCertificateBuilder.{SshCertificateBuilder as Builder};
 ghost use Rattle.picky_cert_builder.specs.declared.error.SshCertificateGenerationError.{SshCertificateGenerationError as Refused};
 ghost use Rattle.picky_cert_builder.specs.declared.terms.FitTerms.{FitTerms as Fit};
@@ -41,16 +41,16 @@ pub fn what_is_made_is_valid()
 pub fn what_is_made_is_read_back()
     ensures { (b : Builder) (nonce : List ℕ) (u : Unsigned) (bytes more : List ℕ) → IsRequest b → IsString nonce → IsString bytes
         → requested b nonce ≡ Ok u → HasNo 13 u.certificate.comment → HasNo 10 u.certificate.comment
-        → trim_end u.certificate.comment ≡ u.certificate.comment → length (line_of (signed_with u.certificate bytes)) < 2 ^ 32
-        → line_meaning (line_of (signed_with u.certificate bytes) ++ more) ≡ Ok (without_key_comments (signed_with u.certificate bytes)) }
+        → trim_end u.certificate.comment ≡ u.certificate.comment → length (cert_line_of (signed_with u.certificate bytes)) < 2 ^ 32
+        → cert_line_meaning (cert_line_of (signed_with u.certificate bytes) ++ more) ≡ Ok (without_key_comments (signed_with u.certificate bytes)) }
 {}
 
 /// Signed, its line is refused by its length alone.
 #[tactic(auto, using(crate::proofs::MadeLaws::made_line))]
 pub fn what_is_signed_is_refused_by_its_length_alone()
     ensures { (b : Builder) (nonce bytes : List ℕ) (u : Unsigned) → requested b nonce ≡ Ok u
-        → line_text (signed_with u.certificate bytes)
-        ≡ (if is_short (line_of (signed_with u.certificate bytes)) then Ok (line_of (signed_with u.certificate bytes)) else Err refusals.TooLong) }
+        → cert_line_text (signed_with u.certificate bytes)
+        ≡ (if is_short (cert_line_of (signed_with u.certificate bytes)) then Ok (cert_line_of (signed_with u.certificate bytes)) else Err refusals.TooLong) }
 {}
 
 /// The order of refusals answers neither the device's fault nor want of memory: these are answers of the calls alone.

@@ -17,7 +17,7 @@ use Rattle.picky_target.specs.declared.error.ConvertError.{ConvertError}
 use Rattle.picky_target.specs.declared.error.ConvertError.TheVariants as errors
 use Rattle.picky_target.specs.declared.target.KeyTarget.{KeyTarget}
 use Rattle.picky_target.specs.declared.target.KeyTarget.TheVariants as targets
-use Rattle.picky_target.specs.Written.{fault_of as output_fault, written, writing_asks}
+use Rattle.picky_target.specs.Written.{target_fault, written, writing_asks}
 use Rattle.picky_conversion.specs.Convert.{AnswersKeyText, IsFaultOf, LeavesAskedSuite, asks_for, asks_to_write, conversion, converting_asks}
 use Rattle.picky_conversion.specs.Outside.{Outside, reader}
 use Rattle.picky_conversion.specs.Want.{IsFault}
@@ -45,7 +45,7 @@ form_fault forms.PublicLine = refl
 pub input_fault_is : (input : List ℕ) → IsReadFault (input_fault input)
 input_fault_is input = form_fault (form_of input)
 
-pub output_fault_is : (target : KeyTarget) → IsFault (output_fault target)
+pub output_fault_is : (target : KeyTarget) → IsFault (target_fault target)
 output_fault_is targets.OpenSsh = refl
 output_fault_is (targets.Ppk version config) = refl
 output_fault_is targets.OpenSshPublic = refl
@@ -179,7 +179,7 @@ conversion_refused o target input e refused = rw refused refl
 abbrev pub WritingAnswers : {X : Type 0} → (X → List ℕ) → Outside → KeyTarget → Meaning → Meanings → Type 0
     → Result X ConvertError → Type 0
 WritingAnswers view o target meaning m rose r =
-    GivesAsked errors.NoMemory (output_fault target) view r (written m o.output target meaning)
+    GivesAsked errors.NoMemory (target_fault target) view r (written m o.output target meaning)
     (writing_asks o.output target meaning) rose
 
 conversion_written : (o : Outside) (target : KeyTarget) (input : List ℕ) (meaning : Meaning) (m : Meanings)
@@ -203,7 +203,7 @@ written_gives view o target input meaning m before between after (Err e) means s
     inr (inr (conversion_written o target input meaning m means same ∙ refused))
 
 written_counts : (o : Outside) (target : KeyTarget) (meaning : Meaning) (m : Meanings) (rose : Type 0) (e : ConvertError)
-    → (e ≡ errors.NoMemory) ⊎ ((e ≡ output_fault target) × IsAskedFault (writing_asks o.output target meaning) rose)
+    → (e ≡ errors.NoMemory) ⊎ ((e ≡ target_fault target) × IsAskedFault (writing_asks o.output target meaning) rose)
     ⊎ (written m o.output target meaning ≡ Err e)
     → IsFault e → rose
 written_counts o target meaning m rose e (inl want) fault = absurd (subst IsFault want fault)
@@ -217,7 +217,7 @@ pub written_leaves : {S X : Type 0} (view : X → List ℕ) (meanings : S → Me
     → reading (reader o) input ≡ Ok meaning
     → LeavesSuite {A = Meaning} {E = ReadError} meanings faults (input_fault input) (asks o.pass_in input) (Ok meaning) old between
     → WritingAnswers view o target meaning (meanings between) (Rose (faults between) (faults new)) r
-    → LeavesSuite meanings faults (output_fault target) (writing_asks o.output target meaning) r between new
+    → LeavesSuite meanings faults (target_fault target) (writing_asks o.output target meaning) r between new
     → LeavesAskedSuite meanings faults (converting_asks o target input) r old new
 written_leaves view meanings faults o target input meaning (Ok text) old between new means first gives second = record {
   kept = second.kept ∙ first.kept;

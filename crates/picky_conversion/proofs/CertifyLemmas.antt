@@ -16,7 +16,7 @@ use Rattle.picky_target.specs.{declared.error.ConvertError.{ConvertError}, Judge
 use Rattle.picky_target.specs.declared.error.ConvertError.TheVariants as errors
 use Rattle.picky_target.specs.declared.target.KeyTarget.TheVariants as targets
 use Rattle.picky_conversion.specs.declared.request.CertRequest.{CertRequest}
-use Rattle.picky_conversion.specs.Certified.{Certifies, SignRelation, LeavesSigner as LeavesDevice}
+use Rattle.picky_conversion.specs.Certified.{Certifies, SignRelation, LeavesDraftSigner}
 use Rattle.picky_conversion.specs.Drafted.{drafted, drafted_of, if_line_fits, line_drafted, nonce_in, request_refusal}
 use Rattle.picky_conversion.specs.Drafted.{unsigned_line}
 use Rattle.picky_conversion.specs.{Request.{builder_asked}, Certify.{IsInputFault, certification, drafting}}
@@ -180,7 +180,7 @@ not_signed (Err e) Same none same = same
 
 pub certified_signer : {S A : Type 0} (signs : S → SignRelation) (faults : S → ℕ) (o : Outside) (request : CertRequest)
     (input : List ℕ) (m : Meaning) (r : Result A ConvertError) (old new : S) → reading (reader o) input ≡ Ok m
-    → LeavesDevice signs faults (line_drafted request m o.output.fresh) r old new
+    → LeavesDraftSigner signs faults (line_drafted request m o.output.fresh) r old new
     → LeavesAskedSigner signs faults (is_signed (map_ok ToSign (certification o request input))) r old new
 certified_signer signs faults o request input m r old new means leaves = record {
   kept = leaves.kept;

@@ -11,8 +11,8 @@ use Rattle.picky_cert_parts.specs.declared.cert_key_type.SshCertKeyType.{SshCert
 use Rattle.picky_cert_parts.specs.{CertNames.{cert_key_type_name}, CertNameTables.{cert_key_types}}
 use Rattle.picky_cert_parts.specs.declared.cert_key_type.SshCertKeyType.TheVariants as types
 use Rattle.picky_cert.specs.declared.certificate.SshCertificate.{SshCertificate}
-use Rattle.picky_cert.specs.{Line.{IsCertificateLine, IsReadBackCertificate}, LineRefusal.{line_text}}
-use Rattle.picky_cert.specs.Spelled.{blob_of, line_of}
+use Rattle.picky_cert.specs.{Line.{IsCertificateLine, IsReadBackCertificate}, LineRefusal.{cert_line_text}}
+use Rattle.picky_cert.specs.Spelled.{cert_blob_of, cert_line_of}
 use Rattle.picky_cert.proofs.ReadBackLaws.{line_says, type_name_is_word}
 use Rattle.picky_cert_builder.specs.declared.draft.CertificateDraft.{CertificateDraft}
 use Rattle.picky_cert_builder.specs.{Draft.{Unsigned, signed_with}, Drafted.{draft_shown}}
@@ -70,9 +70,9 @@ name_form types.SshEd25519V01 a b c = form_where _ (certifies types.SshEd25519V0
 name_form types.SkSshSha2Nistp256V01 a b c = form_where _ (certifies types.SkSshSha2Nistp256V01 (a ++ b ++ c))
 name_form types.SkSshEd25519V01 a b c = form_where _ (certifies types.SkSshEd25519V01 (a ++ b ++ c))
 
-line_form : (c : SshCertificate) → form_of (line_of c) ≡ forms.Certificate
-unfolding line_of
-line_form c = name_form c.cert_key_type (base64_of (blob_of c)) (32 ∷ c.comment) _
+line_form : (c : SshCertificate) → form_of (cert_line_of c) ≡ forms.Certificate
+unfolding cert_line_of
+line_form c = name_form c.cert_key_type (base64_of (cert_blob_of c)) (32 ∷ c.comment) _
 
 -- ---- what it means
 
@@ -84,7 +84,7 @@ nonce_is_string fresh bytes =
 -- Signed, it has a line that is read back.
 pub line_is_kept : (request : CertRequest) (m : Meaning) (fresh : List ℕ) (u : Unsigned) (bytes : List ℕ)
     → IsRequest (builder_asked request m) → IsBytes fresh → IsString bytes → IsDrafted request m fresh u
-    → length (line_of (signed_with u.certificate bytes)) < 2 ^ 32 → IsReadBackCertificate (without_key_comments (signed_with u.certificate bytes))
+    → length (cert_line_of (signed_with u.certificate bytes)) < 2 ^ 32 → IsReadBackCertificate (without_key_comments (signed_with u.certificate bytes))
 line_is_kept request m fresh u bytes kept are_bytes is_bytes is short =
     let b = builder_asked request m in
     let comment : m.comment ≡ u.certificate.comment = made_comment b (take 32 fresh) u is.is in
@@ -95,19 +95,19 @@ line_is_kept request m fresh u bytes kept are_bytes is_bytes is short =
 -- It means the subject's key and the comment.
 pub line_means : (request : CertRequest) (m : Meaning) (fresh : List ℕ) (u : Unsigned) (bytes text : List ℕ) (r : Reader)
     → IsDrafted request m fresh u → IsReadBackCertificate (without_key_comments (signed_with u.certificate bytes))
-    → line_text (signed_with u.certificate bytes) ≡ Ok text → Reads r text (public_meaning (public_key m))
+    → cert_line_text (signed_with u.certificate bytes) ≡ Ok text → Reads r text (public_meaning (public_key m))
 line_means request m fresh u bytes text r is kept written =
     let b = builder_asked request m in
     let c : SshCertificate = without_key_comments (signed_with u.certificate bytes) in
     let line = signed_line (signed_with u.certificate bytes) text written in
     let key : public_key m ≡ u.certificate.public_key = cc (made_key b (take 32 fresh) u is.is) in
     let comment : m.comment ≡ u.certificate.comment = made_comment b (take 32 fresh) u is.is in
-    let says = subst (λ t. IsCertificateLine t c) (append-nil (line_of c)) (line_says c [] kept) in
+    let says = subst (λ t. IsCertificateLine t c) (append-nil (cert_line_of c)) (line_says c [] kept) in
     let same : public_meaning (public_key m) ≡ certificate_meaning c =
     ap (λ k. record { key = Public k.inner_key; comment = m.comment }) key
     ∙ ap (λ t. record { key = Public u.certificate.public_key.inner_key; comment = t }) comment in
     subst (λ t. Reads r t (public_meaning (public_key m))) line.0
-    (subst (λ f. Means f r (line_of c) (public_meaning (public_key m))) (sym (line_form c)) (c, says, same))
+    (subst (λ f. Means f r (cert_line_of c) (public_meaning (public_key m))) (sym (line_form c)) (c, says, same))
 
 -- So does each text that is one.
 pub line_is_read_back : (signs : SignRelation) (request : CertRequest) (m : Meaning) (fresh : List ℕ) (u : Unsigned) (text : List ℕ)
@@ -116,7 +116,7 @@ line_is_read_back signs request m fresh u text r is line =
     let bytes = line.1.0 in
     line_means request m fresh u bytes text r is
     (subst (λ c. IsReadBackCertificate (without_key_comments c)) line.1.1 line.2)
-    (subst (λ c. line_text c ≡ Ok text) line.1.1 line.3)
+    (subst (λ c. cert_line_text c ≡ Ok text) line.1.1 line.3)
 
 -- Whatever signature a draft gets, its line is read back.
 pub draft_reads_back : (request : CertRequest) (m : Meaning) (fresh : List ℕ) (r : Result CertificateDraft ConvertError)

@@ -6,7 +6,7 @@ pub use Rattle.picky_suite.specs.Signs.{SignRelation}
 use Rattle.picky_cert_parts.specs.declared.error.SshCertificateError.TheVariants as lines
 use Rattle.picky_cert.specs.declared.certificate.SshCertificate.{SshCertificate}
 use Rattle.picky_cert.specs.Line.{IsReadBackCertificate}
-use Rattle.picky_cert.specs.LineRefusal.{line_text}
+use Rattle.picky_cert.specs.LineRefusal.{cert_line_text}
 use Rattle.picky_cert_builder.specs.declared.error.SshCertificateGenerationError.TheVariants as requests
 use Rattle.picky_cert_builder.specs.Draft.{IsSigned, Unsigned}
 use Rattle.picky_cert_builder.specs.Keeps.{without_key_comments}
@@ -17,11 +17,11 @@ use Rattle.picky_target.specs.declared.error.ConvertError.TheVariants as errors
 -- comments of its keys aside
 abbrev pub IsLineOf : SignRelation → Unsigned → (text : List ℕ) → Type 0
 IsLineOf signs u text =
-    (c : SshCertificate) × IsSigned signs u c × IsReadBackCertificate (without_key_comments c) × (line_text c ≡ Ok text)
+    (c : SshCertificate) × IsSigned signs u c × IsReadBackCertificate (without_key_comments c) × (cert_line_text c ≡ Ok text)
 
 -- there is a good signature with which the line is too long
 abbrev pub IsLineTooLong : SignRelation → Unsigned → Type 0
-IsLineTooLong signs u = (c : SshCertificate) × IsSigned signs u c × (line_text c ≡ Err lines.TooLong)
+IsLineTooLong signs u = (c : SshCertificate) × IsSigned signs u c × (cert_line_text c ≡ Err lines.TooLong)
 
 -- why a certificate that is to be signed has no line: the device's fault, or a signature with which the line is too long
 abbrev pub IsUnsigned : SignRelation → Unsigned → Type 0 → ConvertError → Type 0
@@ -36,7 +36,7 @@ Certifies signs (Err refused) rose (Ok text) = ⊥
 Certifies signs (Err refused) rose (Err e) = (e ≡ errors.NoMemory) ⊎ (e ≡ refused)
 
 -- which signatures are good stays; a fault is counted only where it is answered; a device that isn't asked is as it was
-pub record LeavesSigner {S A : Type 0} (signs : S → SignRelation) (faults : S → ℕ) (says : Result Unsigned ConvertError)
+pub record LeavesDraftSigner {S A : Type 0} (signs : S → SignRelation) (faults : S → ℕ) (says : Result Unsigned ConvertError)
     (result : Result A ConvertError) (old new : S) : Type 0 where
   pub kept : (k : PublicKey) (a : SignatureAlgorithm) (m s : List ℕ) → signs new k a m s ↔ signs old k a m s
   pub calm : result ≢ Err (errors.Request requests.SignatureError) → faults new ≡ faults old

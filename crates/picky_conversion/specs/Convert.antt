@@ -15,7 +15,7 @@ use Rattle.picky_target.specs.declared.target.KeyTarget.{KeyTarget}
 use Rattle.picky_target.specs.Carried.{Carries}
 use Rattle.picky_target.specs.ReadBack.{kept}
 use Rattle.picky_target.specs.Texts.{Spells}
-use Rattle.picky_target.specs.Written.{fault_of as output_fault, written, writing_asks}
+use Rattle.picky_target.specs.Written.{target_fault, written, writing_asks}
 use Rattle.picky_conversion.specs.Made.{AnswersPlain}
 use Rattle.picky_conversion.specs.Outside.{Outside, reader, reader_back}
 use Rattle.picky_conversion.specs.Want.{IsFault}
@@ -55,7 +55,7 @@ converting_asks o target input = asks o.pass_in input || asks_to_write o target 
 abbrev pub IsFaultOf : Outside → KeyTarget → List ℕ → ConvertError → Type 0 → Type 0
 IsFaultOf o target input e rose =
     ((e ≡ errors.Input (input_fault input)) × IsAskedFault (asks o.pass_in input) rose)
-    ⊎ ((e ≡ output_fault target) × IsAskedFault (asks_to_write o target input) rose)
+    ⊎ ((e ≡ target_fault target) × IsAskedFault (asks_to_write o target input) rose)
 
 -- what the conversion to a key's text answers: it, or the first reason; in its place want of memory may come, or the suite's
 -- fault

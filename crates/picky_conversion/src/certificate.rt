@@ -3,9 +3,9 @@
 ghost use Rattle.std.specs.Prelude.{◌≡◌, ◌≢◌, Ok, Err, IfErr, IfOk};
 ghost use Rattle.picky_wire.specs.Count.{Rose};
 ghost use Rattle.picky_cert_parts.specs.declared.error.SshCertificateError.TheVariants as lines;
-ghost use Rattle.picky_cert.specs.LineRefusal.{line_text};
+ghost use Rattle.picky_cert.specs.LineRefusal.{cert_line_text};
 ghost use Rattle.picky_cert_builder.specs.Drafted.{IsWholeDraft, draft_shown};
-ghost use Rattle.picky_conversion.specs.Certified.{Certifies, LeavesSigner};
+ghost use Rattle.picky_conversion.specs.Certified.{Certifies, LeavesDraftSigner};
 ghost use Rattle.picky_conversion.specs.Drafted.{line_drafted};
 ghost use Rattle.picky_conversion.specs.inner.Signed.{IsReadBack};
 
@@ -36,7 +36,7 @@ pub fn write_certificate<G: Signer>(
 ) -> Result<Text, ConvertError>
     ensures answers { Certifies (G.signs signer.old) (line_drafted request meaning fresh.now)
         (Rose (G.faults signer.old) (G.faults signer.new)) result }
-    ensures signer { LeavesSigner G.signs G.faults (line_drafted request meaning fresh.now) result signer.old signer.new }
+    ensures signer { LeavesDraftSigner G.signs G.faults (line_drafted request meaning fresh.now) result signer.old signer.new }
 {
     match draft_line(alloc, request, meaning, fresh) {
         Ok(draft) => sign_line(alloc, signer, draft),
@@ -53,7 +53,7 @@ fn sign_line<G: Signer>(
     requires whole { IsWholeDraft draft }
     requires back { IsReadBack draft.certificate }
     ensures answers { Certifies (G.signs signer.old) (Ok (draft_shown draft)) (Rose (G.faults signer.old) (G.faults signer.new)) result }
-    ensures signer { LeavesSigner G.signs G.faults (Ok (draft_shown draft)) result signer.old signer.new }
+    ensures signer { LeavesDraftSigner G.signs G.faults (Ok (draft_shown draft)) result signer.old signer.new }
 {
     match draft.sign(alloc, signer) {
         Ok(certificate) => {
@@ -74,8 +74,8 @@ fn sign_line<G: Signer>(
 
 /// The line of a certificate whose type and format fit. Refuses: `TooLong`.
 fn line_of(alloc: Global, certificate: &SshCertificate) -> Result<Text, ConvertError>
-    ensures ok { IfOk result (λ text. line_text certificate.now ≡ Ok text) }
-    ensures too_long { result ≡ Err ConvertError.TooLong → line_text certificate.now ≡ Err lines.TooLong }
+    ensures ok { IfOk result (λ text. cert_line_text certificate.now ≡ Ok text) }
+    ensures too_long { result ≡ Err ConvertError.TooLong → cert_line_text certificate.now ≡ Err lines.TooLong }
     ensures others { IfErr result (λ e. e ≢ ConvertError.TooLong → e ≡ ConvertError.NoMemory) }
 {
     match certificate.to_string(alloc) {

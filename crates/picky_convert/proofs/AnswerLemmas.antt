@@ -9,7 +9,7 @@ use Rattle.picky_target.specs.declared.error.ConvertError.{ConvertError}
 use Rattle.picky_target.specs.declared.error.ConvertError.TheVariants as errors
 use Rattle.picky_target.specs.declared.target.KeyTarget.{KeyTarget}
 use Rattle.picky_target.specs.declared.target.KeyTarget.TheVariants as targets
-use Rattle.picky_target.specs.Written.{fault_of, writing_asks, written}
+use Rattle.picky_target.specs.Written.{target_fault, writing_asks, written}
 use Rattle.picky_conversion.specs.Certified.{SignRelation}
 use Rattle.picky_conversion.specs.Convert.{conversion}
 use Rattle.picky_conversion.specs.Made.{AnswersMade, Whole}
@@ -33,7 +33,7 @@ pub first_is : (m : Meanings) (i : ℕ) (meaning : Meaning) (text : List ℕ) �
 first_is m i meaning text small same gives = let other = written_so m i meaning small same in cc (gives, other)
 
 pub first_wants : (m : Meanings) (i : ℕ) (meaning : Meaning) (e : ConvertError) (rose : Type 0) → i < 2 ^ 16 → meaning ≡ meaning_at i
-    → GivesAsked errors.NoMemory (fault_of targets.OpenSsh) (λ (text : List ℕ). text) (Err e)
+    → GivesAsked errors.NoMemory (target_fault targets.OpenSsh) (λ (text : List ℕ). text) (Err e)
     (written m unsealed_output targets.OpenSsh meaning) (writing_asks unsealed_output targets.OpenSsh meaning) rose → e ≡ errors.NoMemory
 first_wants m i meaning e rose small same (inl want) = want
 first_wants m i meaning e rose small same (inr (inl fault)) = cc (fault.1.0, writing_asks_none targets.OpenSsh meaning)

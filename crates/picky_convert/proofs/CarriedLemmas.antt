@@ -14,7 +14,7 @@ use Rattle.picky_key_text.specs.Key.{public_key}
 use Rattle.picky_target.specs.declared.target.KeyTarget.TheVariants as targets
 use Rattle.picky_target.specs.Carried.{Carries, HasFileRoom, Holds, Place}
 use Rattle.picky_target.specs.Carried.{PrivateKey, Kind, Comment, Derivation, Fresh, Length, Lines}
-use Rattle.picky_target.specs.Drafts.{parts_of}
+use Rattle.picky_target.specs.Drafts.{key_parts_of}
 use Rattle.picky_target.specs.Judged.{mac_len}
 use Rattle.picky_target.specs.ReadBack.{IsConfig}
 use Rattle.picky_target.proofs.FileWritten.{plain_len}
@@ -50,7 +50,7 @@ file_room version config i small =
           omega (
             arith,
             plain_len m [] version config key (comment_at i),
-            file_size version (parts_of key).algorithm (comment_at i) blob (secret_bytes key) (replicate (mac_len version) 0)
+            file_size version (key_parts_of key).algorithm (comment_at i) blob (secret_bytes key) (replicate (mac_len version) 0)
                 (comment_size i small) (omega (arith, blob_is_short i)) (secret_is_short i) (mac_is_short version),
           );
     }

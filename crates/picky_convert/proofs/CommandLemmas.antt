@@ -17,7 +17,7 @@ use Rattle.picky_conversion.proofs.IssuedLemmas.{issued_bytes_is, issued_from, i
 use Rattle.picky_conversion.proofs.ToLemmas.{can_convert, converted_is}
 use Rattle.picky_convert.specs.declared.command.Command.{Command}
 use Rattle.picky_convert.specs.Command.{CanAnswer, IsAnswer, IsCommand, Names, alone, answer, command_of_word, fingerprints}
-use Rattle.picky_convert.specs.Command.{sample_size, with_options, with_size, cert, fingerprint, openssh, ppk2, ppk3, putty_pub}
+use Rattle.picky_convert.specs.Command.{sample_size, command_with_options, with_size, cert, fingerprint, openssh, ppk2, ppk3, putty_pub}
 use Rattle.picky_convert.specs.Command.{sample, ssh_pub, tbs}
 use Rattle.picky_convert.specs.{Fingerprint.{fingerprint_text}, Sample.{sample_text}}
 use Rattle.picky_convert.specs.declared.command.Command.TheVariants as commands
@@ -94,7 +94,7 @@ word_fits word command is =
     (chosen_fits (bytes_eq word fingerprint) _ command None tt (λ none. cc none)))))) is
 
 with_fits : (make : CertOptions → Command) (options : Option CertOptions) (command : Command)
-    → ((o : CertOptions) → IsCommand (make o)) → with_options make options ≡ Some command → IsCommand command
+    → ((o : CertOptions) → IsCommand (make o)) → command_with_options make options ≡ Some command → IsCommand command
 with_fits make (Some options) command each is = let same : make options ≡ command = cc is in subst IsCommand same (each options)
 with_fits make None command each is = cc is
 

@@ -18,7 +18,7 @@ use Rattle.picky_kv.specs.Output.{block_lines, pair_line}
 use Rattle.picky_kv.specs.declared.algorithm.PpkKeyAlgorithmValue.{PpkKeyAlgorithmValue}
 use Rattle.picky_kv.specs.declared.PpkEncryptionValue.TheVariants as encryptions
 use Rattle.picky_kv.specs.declared.algorithm.PpkKeyAlgorithmValue.TheVariants as algorithms
-use Rattle.picky_ppk_file.specs.PuttyPublic.{comment_line, comment_start, footer, header, putty_public}
+use Rattle.picky_ppk_file.specs.PuttyPublic.{comment_line, comment_start, putty_footer, putty_header, putty_public}
 use Rattle.picky_ppk_file.specs.declared.file.PpkSealing.TheVariants.{Unsealed}
 use Rattle.picky_ppk_file.specs.Written.{line_end_of, file_lines, file_text, line_under, rows_under}
 use Rattle.picky_convert.proofs.BlobSizes.{name_size}
@@ -168,8 +168,8 @@ comment_line_size comment few =
       quote_size comment,
     )
 
-frame_size : length header + length footer ≤ 100
-unfolding header footer
+frame_size : length putty_header + length putty_footer ≤ 100
+unfolding putty_header putty_footer
 frame_size = omega arith
 
 pub putty_size : (blob comment : List ℕ) → length blob ≤ 1100 → length comment ≤ 9
@@ -177,12 +177,12 @@ pub putty_size : (blob comment : List ℕ) → length blob ≤ 1100 → length c
 unfolding putty_public
 putty_size blob comment short few =
     let rows = rows_of (base64_of blob) in
-    let front : List (List ℕ) = header ∷ comment_line comment ∷ rows in
+    let front : List (List ℕ) = putty_header ∷ comment_line comment ∷ rows in
     omega (
       arith,
       short,
-      text_size CrLf (front ++ footer ∷ []),
-      lines_size-append front (footer ∷ []),
+      text_size CrLf (front ++ putty_footer ∷ []),
+      lines_size-append front (putty_footer ∷ []),
       comment_line_size comment few,
       frame_size,
       rows_size (base64_of blob),

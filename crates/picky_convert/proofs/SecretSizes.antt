@@ -12,8 +12,8 @@ use Rattle.picky_suite.specs.Meanings.{Meanings}
 use Rattle.picky_keys.specs.Blob.{blob_of}
 use Rattle.picky_sshkey_blob.specs.declared.key.SshBasePrivateKey.{SshBasePrivateKey}
 use Rattle.picky_sshkey_blob.specs.declared.key.SshBasePrivateKey.TheVariants as keys
-use Rattle.picky_sshkey_blob.specs.Blob.{fields_spelled, secret_of}
-use Rattle.picky_sshkey_blob.specs.Key.{kind_of, public_part}
+use Rattle.picky_sshkey_blob.specs.Blob.{private_fields_spelled, secret_of}
+use Rattle.picky_sshkey_blob.specs.Key.{private_kind_of, public_part}
 use Rattle.picky_sshkey.specs.declared.private_key.SshPrivateKey.{SshPrivateKey}
 use Rattle.picky_sshkey.specs.Written.{count_up, envelope_of, unpadded_block, plain_block, unit_of}
 use Rattle.picky_sshkey.proofs.WrittenLemmas.{plain_len}
@@ -49,8 +49,8 @@ public_size key small = blob_size (public_part key) (public_is_small key small)
 
 -- ---- the blob
 
-fields_size : (key : SshBasePrivateKey) → IsSmallSecret key → length (fields_spelled key) ≤ 1600
-unfolding fields_spelled
+fields_size : (key : SshBasePrivateKey) → IsSmallSecret key → length (private_fields_spelled key) ≤ 1600
+unfolding private_fields_spelled
 fields_size (keys.Rsa n e d iqmp p q) small =
     omega (
       arith,
@@ -139,9 +139,9 @@ unfolding secret_of
 secret_size key small =
     omega (
       arith,
-      length-append (string_of (kind_name (kind_of key))) (fields_spelled key),
-      length-string_of (kind_name (kind_of key)),
-      name_size (kind_of key),
+      length-append (string_of (kind_name (private_kind_of key))) (private_fields_spelled key),
+      length-string_of (kind_name (private_kind_of key)),
+      name_size (private_kind_of key),
       fields_size key small,
     )
 

@@ -72,9 +72,9 @@ abbrev pub alone : List ℕ → List (List ℕ) → Option Command
 alone word [] = command_of_word word
 alone word (next ∷ more) = None
 
-abbrev pub with_options : (CertOptions → Command) → Option CertOptions → Option Command
-with_options command (Some options) = Some (command options)
-with_options command None = None
+abbrev pub command_with_options : (CertOptions → Command) → Option CertOptions → Option Command
+command_with_options command (Some options) = Some (command options)
+command_with_options command None = None
 
 -- how many keys a sample has: from 1 to 1,000
 abbrev pub sample_size : List ℕ → Option ℕ
@@ -90,8 +90,8 @@ with_size (word ∷ next ∷ more) = None
 abbrev pub command_of : List (List ℕ) → Option Command
 command_of [] = None
 command_of (word ∷ more) =
-    if bytes_eq word cert then with_options (λ options. commands.Certify options) (options_named more)
-    else if bytes_eq word tbs then with_options (λ options. commands.PrintSigned options) (options_named more)
+    if bytes_eq word cert then command_with_options (λ options. commands.Certify options) (options_named more)
+    else if bytes_eq word tbs then command_with_options (λ options. commands.PrintSigned options) (options_named more)
     else if bytes_eq word sample then with_size more
     else alone word more
 

@@ -5,7 +5,7 @@ use Rattle.std.proofs.lemmas.Bool.{false_from_ne_true}
 use Rattle.std.proofs.lemmas.List.{append_assoc, append-nil, length-append, map-append}
 use Rattle.std.specs.Str.Lines.{strip_carriage_return}
 use Rattle.picky_text.specs.Lines.{HasNo}
-use Rattle.picky_issuing.specs.Parts.{mark_word, is_mark, after_line, cut, issuer_text_of, key_text_of_cut, issuer_text_part, key_part}
+use Rattle.picky_issuing.specs.Parts.{mark_word, is_mark, with_issuer_line, cut, issuer_text_of, key_text_of_cut, issuer_text_part, key_part}
 use Rattle.picky_issuing.specs.Parts.{IsCut, HasNoMark}
 use Rattle.picky_issuing.proofs.PartsLemmas.{by_lines, lines_at_lf, one_line_left, is_or_not, stripped_is_mark}
 use Rattle.picky_issuing.proofs.PartsLemmas.{marked_line, marked_end, cut_at_mark, cut_at_end, cut_goes_on, cut_ends}
@@ -41,7 +41,7 @@ AreParts text (Some cut) = (text_parts text ≡ cut.0 ∷ text_parts cut.1) × (
 
 parts_more : (line more : List ℕ) → text_parts (line ++ 10 ∷ more) ≡ onto_part (line ++ 10 ∷ []) (text_parts more)
     → (found : Option (List ℕ × List ℕ)) → AreParts more found
-    → AreParts (line ++ 10 ∷ more) (after_line (line ++ 10 ∷ []) found)
+    → AreParts (line ++ 10 ∷ more) (with_issuer_line (line ++ 10 ∷ []) found)
 parts_more line more on None are =
     on ∙ ap (onto_part (line ++ 10 ∷ [])) are ∙ ap (λ l. l ∷ []) (append_assoc line (10 ∷ []) more)
 parts_more line more on (Some found) are =

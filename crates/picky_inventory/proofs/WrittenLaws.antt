@@ -5,7 +5,7 @@ use Rattle.std.proofs.{lemmas.Bool.{cases_Bool}, lemmas.List.{append_assoc, appe
 use Rattle.std.specs.{List.{AllByRecursion, concat}, Option.{IfSome}, Str.{IsUtf8}}
 use Rattle.picky_wire_base.specs.Outcome.{and_then, map_err, map_ok}
 use Rattle.picky_text.proofs.ListLaws.{all_weaker}
-use Rattle.picky_issuing.specs.Parts.{cut, cut_lines, after_line, is_mark, issuer_text_of, key_text_of_cut, lines_with_ends, mark_lf}
+use Rattle.picky_issuing.specs.Parts.{cut, cut_lines, with_issuer_line, is_mark, issuer_text_of, key_text_of_cut, lines_with_ends, mark_lf}
 use Rattle.picky_issuing.proofs.PartsLemmas.{lines_at_lf, lines_joined}
 use Rattle.picky_input.specs.{SourceText.{source_text_of}, declared.source_text.SourceError.{SourceError}}
 use Rattle.picky_input.proofs.TextLaws.{is_source_text}
@@ -39,7 +39,7 @@ lines_before (line ∷ lines) rest all =
 cut_past : (lines more : List (List ℕ)) (key : List ℕ) → AllByRecursion (λ line. is_mark line ≡ false) lines
     → cut_lines more ≡ Some ([], key) → cut_lines (lines ++ more) ≡ Some (concat lines, key)
 cut_past [] more key all is = is
-cut_past (line ∷ lines) more key all is = rw all.0 (ap (after_line line) (cut_past lines more key all.1 is))
+cut_past (line ∷ lines) more key all is = rw all.0 (ap (with_issuer_line line) (cut_past lines more key all.1 is))
 
 item_is_no_mark : (kind : Kind) (item : Item) → item.kind ≡ kind → is_mark (item_line item) ≡ false
 item_is_no_mark IsPrivate item is = rw is refl

@@ -10,7 +10,7 @@ use Rattle.std.specs.Str.Lines.{strip_carriage_return, lines_of_parts}
 use Rattle.picky_text.specs.Lines.{HasNo, lines}
 use Rattle.picky_text.proofs.LineLaws.{first_line}
 use Rattle.picky_text.proofs.ListLaws.{all_weaker}
-use Rattle.picky_issuing.specs.Parts.{mark_word, mark_lf, mark_cr_lf, after_line, cut, HasNoMark, IsCut}
+use Rattle.picky_issuing.specs.Parts.{mark_word, mark_lf, mark_cr_lf, with_issuer_line, cut, HasNoMark, IsCut}
 use Rattle.picky_issuing.specs.Parts.{issuer_text_of, key_text_of_cut, issuer_text_part, key_part}
 use Rattle.picky_issuing.proofs.PartsLemmas.{by_lines, is_or_not, stripped_is_mark, cut_at_mark, cut_at_lf}
 use Rattle.picky_issuing.proofs.PartsLemmas.{cut_at_cr_lf, cut_at_end, cut_goes_on, cut_ends}
@@ -114,7 +114,7 @@ cut_later line more front key none other rest = record {
 }
 
 after_line_says : (line : List ℕ) (parts : Option (List ℕ × List ℕ)) (issuer key : List ℕ)
-    → after_line line parts ≡ Some (issuer, key)
+    → with_issuer_line line parts ≡ Some (issuer, key)
     → (front : List ℕ) × (parts ≡ Some (front, key)) × (issuer ≡ line ++ front)
 after_line_says line None issuer key is = cc is
 after_line_says line (Some (front, rest)) issuer key is =
@@ -163,7 +163,7 @@ cut_after = by_lines
     let parts = no_mark_parts line more none first in
     let whole : (line ++ 10 ∷ more) ++ mark ++ key ≡ line ++ 10 ∷ (more ++ mark ++ key) = simp append_assoc in
     ap cut whole ∙ cut_goes_on line (more ++ mark ++ key) none parts.0
-    ∙ ap (after_line (line ++ 10 ∷ [])) (rest mark key is (ends_rest line more ended) parts.1)
+    ∙ ap (with_issuer_line (line ++ 10 ∷ [])) (rest mark key is (ends_rest line more ended) parts.1)
     ∙ ap (λ l. Some (l, key)) (append_assoc line (10 ∷ []) more))
 
 is_cut : (text issuer key : List ℕ) → IsCut text issuer key → cut text ≡ Some (issuer, key)
@@ -183,7 +183,7 @@ last_is_uncut (b ∷ line) none =
       λ all. cut_ends (b ∷ line) none (subst P one all).0,
     )
 
-after_line_none : (line : List ℕ) (parts : Option (List ℕ × List ℕ)) → after_line line parts ≡ None → parts ≡ None
+after_line_none : (line : List ℕ) (parts : Option (List ℕ × List ℕ)) → with_issuer_line line parts ≡ None → parts ≡ None
 after_line_none line None is = refl
 after_line_none line (Some parts) is = cc is
 
@@ -198,7 +198,7 @@ uncut_without_mark = by_lines (λ text. (cut text ≡ None) ↔ HasNoMark text) 
         λ is. no_mark_more line more none other
             (rest.0 (after_line_none (line ++ 10 ∷ []) (cut more) (sym (cut_goes_on line more none other) ∙ is))),
         λ all. cut_goes_on line more none other
-            ∙ ap (after_line (line ++ 10 ∷ [])) (rest.1 (no_mark_parts line more none all).1),
+            ∙ ap (with_issuer_line (line ++ 10 ∷ [])) (rest.1 (no_mark_parts line more none all).1),
       )
     ])
 

@@ -11,7 +11,7 @@ use Rattle.std.specs.Str.Lines.{strip_carriage_return}
 use Rattle.picky_text.specs.Lines.{HasNo}
 use Rattle.picky_text.proofs.LineLaws.{cr_is_stripped}
 use Rattle.picky_text.proofs.ListLaws.{all_append}
-use Rattle.picky_issuing.specs.Parts.{mark_word, mark_lf, mark_cr_lf, is_mark, lines_with_ends, after_line, cut_lines}
+use Rattle.picky_issuing.specs.Parts.{mark_word, mark_lf, mark_cr_lf, is_mark, lines_with_ends, with_issuer_line, cut_lines}
 use Rattle.picky_issuing.specs.Parts.{cut}
 
 -- ---- the lines of a text
@@ -141,7 +141,7 @@ cut_at_end line is = ap cut is
 
 -- past another line
 pub cut_goes_on : (line more : List ℕ) → HasNo 10 line → strip_carriage_return line ≢ mark_word
-    → cut (line ++ 10 ∷ more) ≡ after_line (line ++ 10 ∷ []) (cut more)
+    → cut (line ++ 10 ∷ more) ≡ with_issuer_line (line ++ 10 ∷ []) (cut more)
 cut_goes_on line more none other =
     let not : is_mark (line ++ 10 ∷ []) ≡ false = false_from_ne_true _ (λ is. other (marked_line line is)) in
     ap cut_lines (lines_at_lf line more none) ∙ rw not refl
@@ -153,12 +153,12 @@ cut_ends (b ∷ line) none other =
     let not : is_mark (b ∷ line) ≡ false = false_from_ne_true _ (λ is. other (marked_end (b ∷ line) none is)) in
     ap cut_lines (one_line_left b line none) ∙ rw not refl
 
-after_nothing : (parts : Option (List ℕ × List ℕ)) → after_line [] parts ≡ parts
+after_nothing : (parts : Option (List ℕ × List ℕ)) → with_issuer_line [] parts ≡ parts
 after_nothing None = refl
 after_nothing (Some parts) = refl
 
 after_both : (xs ys : List ℕ) (parts : Option (List ℕ × List ℕ))
-    → after_line xs (after_line ys parts) ≡ after_line (xs ++ ys) parts
+    → with_issuer_line xs (with_issuer_line ys parts) ≡ with_issuer_line (xs ++ ys) parts
 after_both xs ys None = refl
 after_both xs ys (Some parts) = ap (λ l. Some (l, parts.1)) (sym (append_assoc xs ys parts.0))
 
@@ -168,7 +168,7 @@ after_both xs ys (Some parts) = ap (λ l. Some (l, parts.1)) (sym (append_assoc 
 pub record IsReadTo (text rest : List ℕ) : Type 0 where
   pub before : List ℕ
   pub whole : text ≡ before ++ rest
-  pub same : cut text ≡ after_line before (cut rest)
+  pub same : cut text ≡ with_issuer_line before (cut rest)
 
 pub read_none : (text : List ℕ) → IsReadTo text text
 read_none text = record { before = []; whole = refl; same = sym (after_nothing (cut text)) }
@@ -183,8 +183,8 @@ read_more text rest line more read is none not_word not_cr =
       before = read.before ++ front;
       whole = read.whole ∙ ap (λ l. read.before ++ l) is ∙ simp append_assoc;
       same =
-          read.same ∙ ap (λ l. after_line read.before (cut l)) is
-          ∙ ap (after_line read.before) (cut_goes_on line more none other)
+          read.same ∙ ap (λ l. with_issuer_line read.before (cut l)) is
+          ∙ ap (with_issuer_line read.before) (cut_goes_on line more none other)
           ∙ after_both read.before front (cut more);
     }
 
@@ -196,14 +196,14 @@ cut_of_read text rest key read is =
     omega (arith, ap length read.whole, length-append read.before rest) in
     let front : take (length text - length rest) text ≡ read.before =
     ap (take (length text - length rest)) read.whole ∙ take_at read.before rest _ n in
-    read.same ∙ ap (after_line read.before) is
+    read.same ∙ ap (with_issuer_line read.before) is
     ∙ ap (λ l. Some (l, key)) (append-nil read.before ∙ sym front)
 
 -- and where no mark comes, there is none
 pub uncut_of_read : (text rest : List ℕ) → IsReadTo text rest → HasNo 10 rest → rest ≢ mark_word
     → cut text ≡ None
 uncut_of_read text rest read none other =
-    read.same ∙ ap (after_line read.before) (cut_ends rest none other)
+    read.same ∙ ap (with_issuer_line read.before) (cut_ends rest none other)
 
 -- what a comparison says
 pub is_word : (line word : List ℕ) → true ≡ bytes_eq line word → line ≡ word

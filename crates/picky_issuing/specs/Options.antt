@@ -2,7 +2,7 @@
 use Rattle.std.specs.Prelude.{◌++◌, List, [], ◌∷◌, ℕ, Option, Some, None}
 use Rattle.std.specs.Option.{option_map}
 use Rattle.picky_wire_base.specs.Table.{find_entry}
-use Rattle.picky_wire.specs.Moment.{moment}
+use Rattle.picky_wire.specs.Moment.{timestamp_at}
 use Rattle.picky_cert_parts.specs.CertNameTables.{cert_key_types}
 use Rattle.picky_issuing.specs.declared.option_word.OptionWord.{OptionWord}
 use Rattle.picky_issuing.specs.declared.option_word.OptionWord.TheVariants as words
@@ -43,9 +43,9 @@ with_option words.CertType value o =
 with_option words.Serial value o =
     option_map (λ n. record o { serial = Some n }) (once o.serial (number_named value))
 with_option words.ValidAfter value o =
-    option_map (λ t. record o { valid_after = Some t }) (once o.valid_after (option_map moment (number_named value)))
+    option_map (λ t. record o { valid_after = Some t }) (once o.valid_after (option_map timestamp_at (number_named value)))
 with_option words.ValidBefore value o =
-    option_map (λ t. record o { valid_before = Some t }) (once o.valid_before (option_map moment (number_named value)))
+    option_map (λ t. record o { valid_before = Some t }) (once o.valid_before (option_map timestamp_at (number_named value)))
 with_option words.KeyId value o =
     option_map (λ id. record o { key_id = Some id }) (once o.key_id (Some value))
 with_option words.Principal value o =

@@ -27,15 +27,15 @@ lines_with_ends (b ∷ bs) =
     if b == 10 then (10 ∷ []) ∷ lines_with_ends bs else onto_first b (lines_with_ends bs)
 
 -- where the text after a line is cut, the line is the issuer's too
-abbrev pub after_line : List ℕ → Option (List ℕ × List ℕ) → Option (List ℕ × List ℕ)
-after_line line None = None
-after_line line (Some parts) = Some (line ++ parts.0, parts.1)
+abbrev pub with_issuer_line : List ℕ → Option (List ℕ × List ℕ) → Option (List ℕ × List ℕ)
+with_issuer_line line None = None
+with_issuer_line line (Some parts) = Some (line ++ parts.0, parts.1)
 
 -- the lines before the first that is the mark's, and those after it
 abbrev pub cut_lines : List (List ℕ) → Option (List ℕ × List ℕ)
 cut_lines [] = None
 cut_lines (line ∷ more) =
-    if is_mark line then Some ([], concat more) else after_line line (cut_lines more)
+    if is_mark line then Some ([], concat more) else with_issuer_line line (cut_lines more)
 
 -- the issuer's text and the key text, where a line is the mark's
 abbrev pub cut : List ℕ → Option (List ℕ × List ℕ)

@@ -25,7 +25,7 @@ use Rattle.picky_sshkey.proofs.{MeaningLaws.{text_means}, ReadLaws.{text_is_kept
 use Rattle.picky_ppk_parts.specs.Algorithm.{ssh_key_of}
 use Rattle.picky_ppk_parts.specs.Material.{counted_digest, cipher_key_v2, derived_v3, flavour_named}
 use Rattle.picky_ppk_parts.specs.Parts.{StandsForKey}
-use Rattle.picky_ppk_parts.specs.Secret.{RsaSecret, rsa_key, rsa_secret, ed_secret, rsa_fields, ec_fields, ed_fields}
+use Rattle.picky_ppk_parts.specs.Secret.{RsaSecret, rsa_key, rsa_secret, ppk_ed_secret, ppk_rsa_fields, ppk_ec_fields, ppk_ed_fields}
 use Rattle.picky_ppk_parts.specs.Secret.{ppk_secret_fields}
 use Rattle.picky_ppk_file.specs.PuttyPublic.{IsPuttyPublic, SaysPuttyPublic, comment_start}
 use Rattle.picky_ppk_file.specs.{declared.file.PpkFile.{PpkFile}, declared.file.PpkSealing.{PpkSealing}}
@@ -70,14 +70,14 @@ zeros_changed a secret each same =
     let zeros = each_by_place (replicate after.0 0) (all_replicate (λ b. b < 256) after.0 0 (omega arith)) in
     subst IsBytes (sym after.1) (bytes_joined (replicate after.0 0) (without_zeros secret) zeros (subst IsBytes same number))
 
-ed_keeps : (secret bytes : List ℕ) → IsBytes bytes → ed_secret.piece secret bytes → IsEdKey secret
-unfolding ed_secret
+ed_keeps : (secret bytes : List ℕ) → IsBytes bytes → ppk_ed_secret.piece secret bytes → IsEdKey secret
+unfolding ppk_ed_secret
 ed_keeps secret bytes each (a, spells, (len, same)) =
     record { bytes = zeros_changed a secret (string_keeps a bytes each spells).bytes same; len = len }
 
 fields_keep : (public : PublicKey) (key : SshBasePrivateKey) (bytes : List ℕ) → IsBytes bytes → IsKey (ssh_key_of public)
     → (ppk_secret_fields public).piece key bytes → IsPrivateKey key
-unfolding rsa_fields ec_fields ed_fields
+unfolding ppk_rsa_fields ppk_ec_fields ppk_ed_fields
 fields_keep (plain.Rsa e n) key bytes each is (secret, x, y, spells, (same, none), joined) =
     subst IsPrivateKey (sym same) (rsa_keeps e n secret x (bytes_in_front x y (subst IsBytes joined each)) is spells)
 fields_keep (plain.Ec curve point) key bytes each is (secret, x, y, spells, (same, none), joined) =

@@ -22,7 +22,7 @@ use Rattle.picky_ppk.specs.Opened.{decrypted, is_openable, not_openable, opened_
 use Rattle.picky_ppk.proofs.CheckedLaws.{file_is_taken, taken_file_carries}
 use Rattle.picky_ppk.proofs.KeyLaws.{found_key_stands, standing_key_is_found}
 use Rattle.picky_key_text.specs.{declared.meaning.Meaning.{Meaning}, Key.{private_meaning}}
-use Rattle.picky_key_text.specs.Order.{opened, file_key, ppk_key}
+use Rattle.picky_key_text.specs.Order.{opened_ppk, file_key, ppk_key}
 use Rattle.picky_key_text.specs.{PpkText.{CanOpen, IsUnsealed, AreOpened, IsPpkText}, Reader.{Reader}}
 use Rattle.picky_ppk_parts.proofs.CountedLaws.{standing_is_counted}
 use Rattle.picky_key_text.proofs.CountedLemmas.{uncut_stands, counted_stands}
@@ -149,7 +149,7 @@ key_and_comment f meaning is =
 
 -- A file that isn't sealed is its own.
 found_plain : (r : Reader) (f g : PpkFile) (meaning : Meaning) → is_sealed f.sealing ≡ false → CarriesMac r.meanings f
-    → opened r f ≡ Ok g → file_key g ≡ Ok meaning → IsFound r f meaning
+    → opened_ppk r f ≡ Ok g → file_key g ≡ Ok meaning → IsFound r f meaning
 found_plain r f g meaning unsealed carries is reads =
     let plain = if_false (is_sealed f.sealing) (and_then (ok_or r.pass errors.Encrypted) (λ pass. decrypted r.meanings pass f))
     (Ok f) unsealed in
@@ -166,7 +166,7 @@ found_plain r f g meaning unsealed carries is reads =
 
 -- One that is sealed is of the bytes that the suite gives.
 found_sealed : (r : Reader) (f g : PpkFile) (meaning : Meaning) → is_sealed f.sealing ≡ true
-    → opened r f ≡ Ok g → file_key g ≡ Ok meaning → IsFound r f meaning
+    → opened_ppk r f ≡ Ok g → file_key g ≡ Ok meaning → IsFound r f meaning
 found_sealed r f g meaning sealed is reads =
     let steps = if_true (is_sealed f.sealing) (and_then (ok_or r.pass errors.Encrypted) (λ pass. decrypted r.meanings pass f))
     (Ok f) sealed in
@@ -186,7 +186,7 @@ found_sealed r f g meaning sealed is reads =
 
 -- A file whose key is found has its private bytes opened, and they stand for the key.
 found : (r : Reader) (f g : PpkFile) (meaning : Meaning) → (is_sealed f.sealing ≡ false → CarriesMac r.meanings f)
-    → opened r f ≡ Ok g → file_key g ≡ Ok meaning → IsFound r f meaning
+    → opened_ppk r f ≡ Ok g → file_key g ≡ Ok meaning → IsFound r f meaning
 found r f g meaning carries is reads = elim (cases_Bool (is_sealed f.sealing)) [
   | inl sealed ↦ found_sealed r f g meaning sealed is reads
   | inr unsealed ↦ found_plain r f g meaning unsealed (carries unsealed) is reads
@@ -196,8 +196,8 @@ found r f g meaning carries is reads = elim (cases_Bool (is_sealed f.sealing)) [
 pub ppk_says : (r : Reader) (text : List ℕ) (meaning : Meaning) → ppk_key r text ≡ Ok meaning → IsPpkText r text meaning
 unfolding ppk_key
 ppk_says r text meaning is =
-    let taken = and_then_ok (ppk_meaning r.meanings text) (λ f. and_then (opened r f) file_key) meaning is in
-    let both = and_then_ok (opened r taken.0) file_key meaning taken.2 in
+    let taken = and_then_ok (ppk_meaning r.meanings text) (λ f. and_then (opened_ppk r f) file_key) meaning is in
+    let both = and_then_ok (opened_ppk r taken.0) file_key meaning taken.2 in
     let file = taken_file r.meanings text taken.0 taken.1 in
     let has = found r taken.0 both.0 meaning file.1 both.1 both.2 in
     record {
@@ -214,7 +214,7 @@ ppk_says r text meaning is =
 
 plain_key_is_read : (r : Reader) (f : PpkFile) (key : SshBasePrivateKey) → is_sealed f.sealing ≡ false
     → StandsForKey f.algorithm f.public_key f.private_bytes key
-    → and_then (opened r f) file_key ≡ Ok (private_meaning key f.comment)
+    → and_then (opened_ppk r f) file_key ≡ Ok (private_meaning key f.comment)
 plain_key_is_read r f key unsealed stands =
     ap (λ o. and_then o file_key) (if_false (is_sealed f.sealing)
     (and_then (ok_or r.pass errors.Encrypted) (λ pass. decrypted r.meanings pass f)) (Ok f) unsealed)
@@ -222,7 +222,7 @@ plain_key_is_read r f key unsealed stands =
 
 sealed_key_is_read : (r : Reader) (f : PpkFile) (private pass : List ℕ) (key : SshBasePrivateKey) → r.pass ≡ Some pass
     → IsUnsealed r.meanings pass f private → StandsForKey f.algorithm f.public_key private key
-    → and_then (opened r f) file_key ≡ Ok (private_meaning key f.comment)
+    → and_then (opened_ppk r f) file_key ≡ Ok (private_meaning key f.comment)
 sealed_key_is_read r f private pass key given is stands =
     let counts = standing_is_counted f.algorithm f.public_key private key stands in
     let plain : PpkFile = unsealed r.meanings f (take counts.0 private) in
@@ -236,7 +236,7 @@ sealed_key_is_read r f private pass key given is stands =
 
 opened_key_is_read : (r : Reader) (f : PpkFile) (private : List ℕ) (key : SshBasePrivateKey) → AreOpened r f private
     → StandsForKey f.algorithm f.public_key private key
-    → and_then (opened r f) file_key ≡ Ok (private_meaning key f.comment)
+    → and_then (opened_ppk r f) file_key ≡ Ok (private_meaning key f.comment)
 opened_key_is_read r f private key (inl (carries, same)) stands =
     plain_key_is_read r f key carries.0 (subst (λ p. StandsForKey f.algorithm f.public_key p key) same stands)
 opened_key_is_read r f private key (inr (pass, given, is)) stands =
@@ -252,7 +252,7 @@ opened_is_taken r f private (inr (pass, given, is)) = inl (can_open_says f.seali
 pub ppk_is_read : (r : Reader) (text : List ℕ) (meaning : Meaning) → IsPpkText r text meaning → ppk_key r text ≡ Ok meaning
 unfolding ppk_key ppk_meaning
 ppk_is_read r text meaning says =
-    let next : PpkFile → Result Meaning PuttyError = λ f. and_then (opened r f) file_key in
+    let next : PpkFile → Result Meaning PuttyError = λ f. and_then (opened_ppk r f) file_key in
     ap (λ t. and_then (and_then t (checked r.meanings)) next) (said_is_meant text says.file says.says)
     ∙ ap (λ t. and_then t next) (file_is_taken r.meanings says.file (opened_is_taken r says.file says.private says.opened))
     ∙ opened_key_is_read r says.file says.private says.key says.opened says.stands

@@ -5,12 +5,12 @@ use Rattle.picky_wire_base.specs.{Numbers.{IsBytes}, Outcome.{and_then, map_err}
 use Rattle.picky_wire_base.specs.carried.Outcome.{and_then_ok, map_err_ok}
 use Rattle.picky_keys.specs.{declared.key.SshPublicKey.{SshPublicKey}, LineRefusal.{line_meaning}}
 use Rattle.picky_keys.proofs.{LineLaws.{line_meaning_of, line_meaning_says}, ByteLaws.{utf8_is_bytes}}
-use Rattle.picky_cert.specs.LineRefusal.{line_meaning as certificate_of}
+use Rattle.picky_cert.specs.LineRefusal.{cert_line_meaning}
 use Rattle.picky_cert.proofs.LineLaws.{line_meaning_of as certificate_is_read, line_meaning_says as certificate_says}
 use Rattle.picky_suite.specs.{Asked.{GivesAsked, LeavesSuite}, Failures.{IsAskedFault}, Meanings.{Meanings}}
 use Rattle.picky_sshkey.specs.PrivateRefusal.{text_key}
 use Rattle.picky_sshkey.proofs.MeaningLaws.{text_says, text_means}
-use Rattle.picky_ppk_file.specs.{PuttyRefusal.{putty_meaning, to_openssh}, declared.file.PpkFile.{PpkFile}}
+use Rattle.picky_ppk_file.specs.{PuttyRefusal.{putty_meaning, putty_to_openssh}, declared.file.PpkFile.{PpkFile}}
 use Rattle.picky_ppk_file.proofs.KeyLaws.{putty_key_of, putty_key_says}
 use Rattle.picky_ppk_parts.specs.declared.error.PuttyError.{PuttyError}
 use Rattle.picky_ppk_parts.specs.declared.error.PuttyError.TheVariants as putty
@@ -18,7 +18,7 @@ use Rattle.picky_ppk.specs.Checked.{ppk_meaning}
 use Rattle.picky_key_text.specs.{declared.error.ReadError.{ReadError}, declared.form.Form.{Form}}
 use Rattle.picky_key_text.specs.{declared.meaning.Meaning.{Meaning}, Form.{form_of}}
 use Rattle.picky_key_text.specs.Key.{certificate_meaning, public_key, public_meaning}
-use Rattle.picky_key_text.specs.Order.{envelope_meaning, opened, file_key, file_asks, ppk_key, ppk_asks, reading_as, reading}
+use Rattle.picky_key_text.specs.Order.{envelope_meaning, opened_ppk, file_key, file_asks, ppk_key, ppk_asks, reading_as, reading}
 use Rattle.picky_key_text.specs.Order.{asks, asks_as, fault_as, fault_of}
 use Rattle.picky_key_text.specs.{Reader.{Reader}, Reads.{Means, Reads}}
 use Rattle.picky_key_text.specs.declared.error.ReadError.TheVariants as errors
@@ -50,13 +50,13 @@ reading_as_says forms.Envelope r text meaning bytes pass is =
 reading_as_says forms.Ppk r text meaning bytes pass is =
     ppk_says r text meaning (map_err_ok errors.Putty (ppk_key r text) meaning is)
 reading_as_says forms.PuttyPublic r text meaning bytes pass is =
-    let key = public_of_reading (and_then (putty_meaning text) to_openssh) errors.Putty meaning is in
+    let key = public_of_reading (and_then (putty_meaning text) putty_to_openssh) errors.Putty meaning is in
     (putty_key_says text (public_key meaning) bytes key.0, key.1)
 reading_as_says forms.Certificate r text meaning bytes pass is =
-    let step = and_then_ok (map_err errors.Certificate (certificate_of text)) (λ c. Ok (certificate_meaning c)) meaning is in
+    let step = and_then_ok (map_err errors.Certificate (cert_line_meaning text)) (λ c. Ok (certificate_meaning c)) meaning is in
     let same : certificate_meaning step.0 ≡ meaning = cc step.2 in (
       step.0,
-      certificate_says text step.0 bytes (map_err_ok errors.Certificate (certificate_of text) step.0 step.1),
+      certificate_says text step.0 bytes (map_err_ok errors.Certificate (cert_line_meaning text) step.0 step.1),
       sym same,
     )
 reading_as_says forms.PublicLine r text meaning bytes pass is =
@@ -121,9 +121,9 @@ given_meaning (Err e) fault r text asked rose (inr (inr refused)) meaning reads 
 
 -- the key of the text is the file's
 pub file_key_is : (r : Reader) (text : List ℕ) (f : PpkFile) → ppk_meaning r.meanings text ≡ Ok f
-    → ppk_key r text ≡ and_then (opened r f) file_key
+    → ppk_key r text ≡ and_then (opened_ppk r f) file_key
 unfolding ppk_key
-file_key_is r text f is = ap (λ t. and_then t (λ f. and_then (opened r f) file_key)) is
+file_key_is r text f is = ap (λ t. and_then t (λ f. and_then (opened_ppk r f) file_key)) is
 
 -- and the suite is asked as for the file
 pub file_asks_is : (m : Meanings) (pass : Option (List ℕ)) (text : List ℕ) (f : PpkFile) → ppk_meaning m text ≡ Ok f
@@ -134,7 +134,7 @@ file_asks_is m pass text f is = ap (file_asks pass) (taken_file m text f is).0
 pub file_gives : (result : Result Meaning PuttyError) (m : Meanings) (pass : Option (List ℕ)) (text : List ℕ) (f : PpkFile)
     (rose : Type 0) → ppk_meaning m text ≡ Ok f
     → GivesAsked putty.NoMemory putty.SuiteFault (λ meaning. meaning) result
-    (and_then (opened (record { meanings = m; pass = pass }) f) file_key) (file_asks pass (Ok f)) rose
+    (and_then (opened_ppk (record { meanings = m; pass = pass }) f) file_key) (file_asks pass (Ok f)) rose
     → GivesAsked putty.NoMemory putty.SuiteFault (λ meaning. meaning) result
     (ppk_key (record { meanings = m; pass = pass }) text) (ppk_asks pass text) rose
 file_gives result m pass text f rose is gives =

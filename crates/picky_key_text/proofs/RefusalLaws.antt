@@ -13,7 +13,7 @@ use Rattle.picky_keys.specs.declared.key.SshBasePublicKey.{SshBasePublicKey}
 use Rattle.picky_keys.specs.{declared.key.SshPublicKey.{SshPublicKey}, BlobRefusal.{read_blob}}
 use Rattle.picky_keys.specs.{LineRefusal.{blob_key, line_meaning}, carried.BlobLayout.{blob_own}}
 use Rattle.picky_keys.specs.carried.SourceLine.{line_own}
-use Rattle.picky_cert.specs.LineRefusal.{line_meaning as certificate_of}
+use Rattle.picky_cert.specs.LineRefusal.{cert_line_meaning}
 use Rattle.picky_cert.proofs.LineLaws.{line_no_want as certificate_no_want}
 use Rattle.picky_keys.specs.declared.error.SshPublicKeyError.TheVariants as public
 use Rattle.picky_keys.specs.declared.key.SshBasePublicKey.TheVariants as public_keys
@@ -26,19 +26,19 @@ use Rattle.picky_kv.specs.declared.algorithm.PpkKeyAlgorithmValue.{PpkKeyAlgorit
 use Rattle.picky_kv.specs.declared.algorithm.PpkKeyAlgorithmValue.TheVariants as algorithms
 use Rattle.picky_ppk_parts.specs.declared.error.PuttyError.{PuttyError}
 use Rattle.picky_ppk_parts.specs.{Algorithm.{rsa_of, ec_of, ed_of, key_under, same_curve}, Counted.{counted}}
-use Rattle.picky_ppk_parts.specs.PartsRefusal.{flaw_error, secret_error, key_in_blob, public_key_under, key_with_secret}
+use Rattle.picky_ppk_parts.specs.PartsRefusal.{parts_flaw_error, secret_error, key_in_blob, public_key_under, key_with_secret}
 use Rattle.picky_ppk_parts.specs.PartsRefusal.{parts_key}
 use Rattle.picky_ppk_parts.specs.Unsupported.{no_such_algorithm}
 use Rattle.picky_ppk_parts.specs.declared.error.PuttyError.TheVariants as putty
-use Rattle.picky_ppk_file.specs.PuttyRefusal.{of_lines, of_blob, of_parts, after_comment, after_header, quoted, body_from}
-use Rattle.picky_ppk_file.specs.PuttyRefusal.{putty_meaning, to_openssh}
+use Rattle.picky_ppk_file.specs.PuttyRefusal.{of_lines, of_blob, of_parts, after_comment, after_putty_header, quoted, body_from}
+use Rattle.picky_ppk_file.specs.PuttyRefusal.{putty_meaning, putty_to_openssh}
 use Rattle.picky_ppk_file.specs.declared.putty_public.PuttyPublicKey.{PuttyPublicKey}
 use Rattle.picky_ppk_file.specs.{declared.file.PpkFile.{PpkFile}, File.{is_sealed}}
 use Rattle.picky_ppk.specs.{Changed.{open_file}, Checked.{ppk_meaning}, Keyed.{can_derive}}
 use Rattle.picky_ppk.specs.KeyOf.{base_key_of, base_key_and_comment_of}
 use Rattle.picky_ppk.specs.Opened.{decrypted, is_openable, not_openable}
 use Rattle.picky_key_text.specs.{declared.error.ReadError.{ReadError}, declared.form.Form.{Form}, Form.{form_of}}
-use Rattle.picky_key_text.specs.{Order.{opened, file_key, ppk_key, reading_as, reading}, Reader.{Reader}}
+use Rattle.picky_key_text.specs.{Order.{opened_ppk, file_key, ppk_key, reading_as, reading}, Reader.{Reader}}
 use Rattle.picky_key_text.specs.Want.{WantsMemory, IsFault}
 use Rattle.picky_key_text.specs.declared.error.ReadError.TheVariants as errors
 use Rattle.picky_key_text.specs.declared.form.Form.TheVariants as forms
@@ -80,7 +80,7 @@ key_under_own algorithms.EcdsaSha2Nistp521 key = ec_own NistP521 key
 key_under_own algorithms.Ed25519 key = ed_own key
 key_under_own algorithms.Ed448 key = err_as IsOwnPutty no_such_algorithm tt
 
-flaw_own : (flaw : Flaw) → IsOwnPutty (flaw_error flaw)
+flaw_own : (flaw : Flaw) → IsOwnPutty (parts_flaw_error flaw)
 flaw_own Short = tt
 flaw_own NotUtf8 = tt
 flaw_own Big = tt
@@ -113,7 +113,7 @@ not_openable_own pass f =
 counted_own : (algorithm : PpkKeyAlgorithmValue) (private : List ℕ) → Refuses IsOwnPutty (counted algorithm private)
 unfolding counted
 counted_own algorithm private =
-    then_as IsOwnPutty _ _ (map_as IsOwnPutty flaw_error _ flaw_own) (λ found. ok_as IsOwnPutty _)
+    then_as IsOwnPutty _ _ (map_as IsOwnPutty parts_flaw_error _ flaw_own) (λ found. ok_as IsOwnPutty _)
 
 decrypted_own : (m : Meanings) (pass : List ℕ) (f : PpkFile) → Refuses IsOwnPutty (decrypted m pass f)
 unfolding decrypted
@@ -124,7 +124,7 @@ decrypted_own m pass f =
     (err_as IsOwnPutty putty.MacValidation tt))
     (err_as IsOwnPutty (not_openable pass f) (not_openable_own pass f))
 
-opened_own : (r : Reader) (f : PpkFile) → Refuses IsOwnPutty (opened r f)
+opened_own : (r : Reader) (f : PpkFile) → Refuses IsOwnPutty (opened_ppk r f)
 opened_own r f =
     if_as IsOwnPutty (is_sealed f.sealing) _ _
     (then_as IsOwnPutty (ok_or r.pass putty.Encrypted) _ (some_as IsOwnPutty r.pass putty.Encrypted tt)
@@ -135,7 +135,7 @@ ppk_key_own : (r : Reader) (text : List ℕ) → Refuses IsOwnPutty (ppk_key r t
 unfolding ppk_key
 ppk_key_own r text =
     then_as IsOwnPutty (ppk_meaning r.meanings text) _ (ppk_meaning_own r.meanings text) (λ f.
-    then_as IsOwnPutty (opened r f) file_key (opened_own r f) (λ g.
+    then_as IsOwnPutty (opened_ppk r f) file_key (opened_own r f) (λ g.
     then_as IsOwnPutty (base_key_of g) _ (base_key_own g) (λ key. ok_as IsOwnPutty _)))
 
 -- ---- a public key
@@ -153,7 +153,7 @@ after_comment_own between ls =
     then_as IsOwnPutty (ok_or (body_from [] ls) putty.EndOfInput) (of_parts between)
     (some_as IsOwnPutty (body_from [] ls) putty.EndOfInput tt) (of_parts_own between)
 
-after_header_own : (ls : List (List ℕ)) → Refuses IsOwnPutty (after_header ls)
+after_header_own : (ls : List (List ℕ)) → Refuses IsOwnPutty (after_putty_header ls)
 after_header_own [] = err_as IsOwnPutty putty.EndOfInput tt
 after_header_own (line ∷ more) =
     then_as IsOwnPutty (ok_or (quoted line) putty.InvalidPublicKeyComment) _
@@ -164,8 +164,8 @@ of_lines_own [] = err_as IsOwnPutty putty.EndOfInput tt
 of_lines_own (line ∷ more) =
     if_as IsOwnPutty _ _ _ (after_header_own more) (err_as IsOwnPutty putty.InvalidPublicKeyContainer tt)
 
-to_openssh_own : (key : PuttyPublicKey) → Refuses IsOwnPutty (to_openssh key)
-unfolding to_openssh
+to_openssh_own : (key : PuttyPublicKey) → Refuses IsOwnPutty (putty_to_openssh key)
+unfolding putty_to_openssh
 to_openssh_own key =
     then_as IsOwnPutty (key_in_blob key.blob) _ (key_in_blob_own key.blob) (λ inner. ok_as IsOwnPutty _)
 
@@ -173,8 +173,8 @@ putty_meaning_own : (text : List ℕ) → Refuses IsOwnPutty (putty_meaning text
 unfolding putty_meaning
 putty_meaning_own text = of_lines_own (lines text)
 
-putty_public_own : (text : List ℕ) → Refuses IsOwnPutty (and_then (putty_meaning text) to_openssh)
-putty_public_own text = then_as IsOwnPutty (putty_meaning text) to_openssh (putty_meaning_own text) to_openssh_own
+putty_public_own : (text : List ℕ) → Refuses IsOwnPutty (and_then (putty_meaning text) putty_to_openssh)
+putty_public_own text = then_as IsOwnPutty (putty_meaning text) putty_to_openssh (putty_meaning_own text) to_openssh_own
 
 -- ---- any text
 
@@ -210,12 +210,12 @@ reading_as_own forms.Envelope r text =
 reading_as_own forms.Ppk r text =
     mapped_as IsOwnRead errors.Putty (ppk_key r text) (λ e is. putty_own e (ppk_key_own r text e is))
 reading_as_own forms.PuttyPublic r text =
-    then_as IsOwnRead (map_err errors.Putty (and_then (putty_meaning text) to_openssh)) _
-    (mapped_as IsOwnRead errors.Putty (and_then (putty_meaning text) to_openssh) (λ e is. putty_own e (putty_public_own text e is)))
+    then_as IsOwnRead (map_err errors.Putty (and_then (putty_meaning text) putty_to_openssh)) _
+    (mapped_as IsOwnRead errors.Putty (and_then (putty_meaning text) putty_to_openssh) (λ e is. putty_own e (putty_public_own text e is)))
     (λ key. ok_as IsOwnRead _)
 reading_as_own forms.Certificate r text =
-    then_as IsOwnRead (map_err errors.Certificate (certificate_of text)) _
-    (mapped_as IsOwnRead errors.Certificate (certificate_of text) (λ e is. (λ fault. fault, certificate_no_want text e is)))
+    then_as IsOwnRead (map_err errors.Certificate (cert_line_meaning text)) _
+    (mapped_as IsOwnRead errors.Certificate (cert_line_meaning text) (λ e is. (λ fault. fault, certificate_no_want text e is)))
     (λ c. ok_as IsOwnRead _)
 reading_as_own forms.PublicLine r text =
     then_as IsOwnRead (map_err errors.Public (line_meaning text)) _
@@ -252,7 +252,7 @@ pub public_no_fault : {X : Type 0} (view : X → PuttyPublicKey) (result : Resul
 public_no_fault view result text gives = gives_own view result _ (putty_meaning_own text) gives
 
 pub openssh_no_fault : {X : Type 0} (view : X → SshPublicKey) (result : Result X PuttyError) (key : PuttyPublicKey)
-    → Gives putty.NoMemory view result (to_openssh key) → result ≢ Err putty.SuiteFault
+    → Gives putty.NoMemory view result (putty_to_openssh key) → result ≢ Err putty.SuiteFault
 openssh_no_fault view result key gives = gives_own view result _ (to_openssh_own key) gives
 
 pub ruleset no_fault = (ppk_no_fault, base_key_no_fault, public_no_fault, openssh_no_fault)

@@ -6,10 +6,10 @@ use Rattle.picky_keys.specs.LineRefusal.{line_meaning}
 use Rattle.picky_sshkey_blob.specs.declared.error.SshPrivateKeyError.TheVariants as private
 use Rattle.picky_sshkey.specs.declared.private_key.SshPrivateKey.{SshPrivateKey}
 use Rattle.picky_sshkey.specs.PrivateRefusal.{text_key, text_asks}
-use Rattle.picky_cert.specs.LineRefusal.{line_meaning as certificate_of}
+use Rattle.picky_cert.specs.LineRefusal.{cert_line_meaning}
 use Rattle.picky_ppk_parts.specs.declared.error.PuttyError.{PuttyError}
 use Rattle.picky_ppk_parts.specs.declared.error.PuttyError.TheVariants as putty
-use Rattle.picky_ppk_file.specs.PuttyRefusal.{putty_meaning, to_openssh}
+use Rattle.picky_ppk_file.specs.PuttyRefusal.{putty_meaning, putty_to_openssh}
 use Rattle.picky_ppk_file.specs.declared.file.PpkFile.{PpkFile}
 use Rattle.picky_ppk_file.specs.File.{is_sealed}
 use Rattle.picky_ppk_file.specs.FileRefusal.{file_meaning}
@@ -28,8 +28,8 @@ use Rattle.picky_key_text.specs.Reader.{Reader}
 -- ---- a PuTTY private key file
 
 -- the file, opened where it is sealed
-abbrev pub opened : Reader → PpkFile → Result PpkFile PuttyError
-opened r f =
+abbrev pub opened_ppk : Reader → PpkFile → Result PpkFile PuttyError
+opened_ppk r f =
     if is_sealed f.sealing then and_then (ok_or r.pass putty.Encrypted) (λ pass. decrypted r.meanings pass f) else Ok f
 
 -- its key and comment
@@ -37,7 +37,7 @@ abbrev pub file_key : PpkFile → Result Meaning PuttyError
 file_key f = and_then (base_key_of f) (λ key. Ok (private_meaning key f.comment))
 
 unfoldable pub ppk_key : Reader → List ℕ → Result Meaning PuttyError
-ppk_key r text = and_then (ppk_meaning r.meanings text) (λ f. and_then (opened r f) file_key)
+ppk_key r text = and_then (ppk_meaning r.meanings text) (λ f. and_then (opened_ppk r f) file_key)
 
 -- the suite is asked, since the file is sealed and nothing was refused before
 abbrev pub file_asks : Option (List ℕ) → Result PpkFile PuttyError → Bool
@@ -58,9 +58,9 @@ reading_as forms.Envelope r text =
     and_then (map_err errors.Private (text_key r.meanings r.pass text)) (λ key. Ok (envelope_meaning key))
 reading_as forms.Ppk r text = map_err errors.Putty (ppk_key r text)
 reading_as forms.PuttyPublic r text =
-    and_then (map_err errors.Putty (and_then (putty_meaning text) to_openssh)) (λ key. Ok (public_meaning key))
+    and_then (map_err errors.Putty (and_then (putty_meaning text) putty_to_openssh)) (λ key. Ok (public_meaning key))
 reading_as forms.Certificate r text =
-    and_then (map_err errors.Certificate (certificate_of text)) (λ c. Ok (certificate_meaning c))
+    and_then (map_err errors.Certificate (cert_line_meaning text)) (λ c. Ok (certificate_meaning c))
 reading_as forms.PublicLine r text =
     and_then (map_err errors.Public (line_meaning text)) (λ key. Ok (public_meaning key))
 

@@ -8,7 +8,7 @@ ghost use Rattle.picky_wire.specs.Count.{Rose};
 ghost use Rattle.picky_wire_base.specs.Gives.{Gives};
 ghost use Rattle.picky_ppk_file.specs.File.{is_sealed};
 ghost use Rattle.picky_ppk.specs.Opened.{is_openable};
-ghost use Rattle.picky_key_text.specs.Order.{file_key, opened as opened_file, ppk_key as key_of_ppk, ppk_asks, file_asks};
+ghost use Rattle.picky_key_text.specs.Order.{file_key, opened_ppk, ppk_key as key_of_ppk, ppk_asks, file_asks};
 
 use crate::meaning::{Key, Meaning};
 use picky_ppk::{Ppk, PuttyError};
@@ -44,7 +44,7 @@ fn key_of_file<S: Suite>(
     pass: Option<&str>,
 ) -> Result<Meaning, PuttyError>
     ensures gives { GivesAsked PuttyError.NoMemory PuttyError.SuiteFault (λ meaning. meaning) result
-        (and_then (opened_file (record { meanings = S.meanings suite.old; pass = option_copied pass.entry }) ppk) file_key)
+        (and_then (opened_ppk (record { meanings = S.meanings suite.old; pass = option_copied pass.entry }) ppk) file_key)
         (file_asks (option_copied pass.entry) (Ok ppk)) (Rose (S.faults suite.old) (S.faults suite.new)) }
     ensures suite { LeavesSuite S.meanings S.faults PuttyError.SuiteFault (file_asks (option_copied pass.entry) (Ok ppk)) result
         suite.old suite.new }
@@ -63,7 +63,7 @@ fn opened<S: Suite>(
     pass: Option<&str>,
 ) -> Result<Ppk, PuttyError>
     ensures gives { GivesAsked PuttyError.NoMemory PuttyError.SuiteFault (λ ppk. ppk) result
-        (opened_file (record { meanings = S.meanings suite.old; pass = option_copied pass.entry }) ppk)
+        (opened_ppk (record { meanings = S.meanings suite.old; pass = option_copied pass.entry }) ppk)
         (file_asks (option_copied pass.entry) (Ok ppk)) (Rose (S.faults suite.old) (S.faults suite.new)) }
     ensures suite { LeavesSuite S.meanings S.faults PuttyError.SuiteFault (file_asks (option_copied pass.entry) (Ok ppk)) result
         suite.old suite.new }

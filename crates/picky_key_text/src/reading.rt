@@ -8,8 +8,8 @@ ghost use Rattle.picky_suite.specs.Failures.{IsAskedFault};
 ghost use Rattle.picky_wire.specs.Count.{Rose};
 ghost use Rattle.picky_wire_base.specs.Gives.{Gives};
 ghost use Rattle.picky_wire_base.specs.Outcome.{and_then, map_err};
-ghost use Rattle.picky_ppk_file.specs.PuttyRefusal.{putty_meaning, to_openssh};
-ghost use Rattle.picky_cert.specs.LineRefusal.{line_meaning as certificate_line};
+ghost use Rattle.picky_ppk_file.specs.PuttyRefusal.{putty_meaning, putty_to_openssh};
+ghost use Rattle.picky_cert.specs.LineRefusal.{cert_line_meaning};
 ghost use Rattle.picky_key_text.specs.Key.{certificate_meaning, private_meaning as private_meaning_of};
 ghost use Rattle.picky_key_text.specs.Key.{public_meaning as public_meaning_of};
 ghost use Rattle.picky_key_text.specs.Order.{asks, asks_as, fault_of, fault_as, reading, reading_as};
@@ -116,7 +116,7 @@ fn read_as<S: Suite>(
 /// The public key that PuTTY's text says.
 #[tactic(auto, using(crate::proofs::RefusalLaws::no_fault))]
 fn putty_public_key(alloc: Global, input: &str) -> Result<SshPublicKey, PuttyError>
-    ensures gives { Gives PuttyError.NoMemory (λ key. key) result (and_then (putty_meaning input.now) to_openssh) }
+    ensures gives { Gives PuttyError.NoMemory (λ key. key) result (and_then (putty_meaning input.now) putty_to_openssh) }
     ensures no_fault { result ≢ Err PuttyError.SuiteFault }
 {
     match PuttyPublicKey::from_str(alloc, input) {
@@ -129,7 +129,7 @@ fn putty_public_key(alloc: Global, input: &str) -> Result<SshPublicKey, PuttyErr
 #[tactic(auto, using(crate::proofs::SubjectLemmas::subjects))]
 fn certificate_key(alloc: Global, input: &str) -> Result<Meaning, ReadError>
     ensures { Gives ReadError.NoMemory (λ meaning. meaning) result
-        (and_then (map_err ReadError.Certificate (certificate_line input.now)) (λ c. Ok (certificate_meaning c))) }
+        (and_then (map_err ReadError.Certificate (cert_line_meaning input.now)) (λ c. Ok (certificate_meaning c))) }
 {
     match SshCertificate::subject_from_str(alloc, input) {
         Ok(key) => Ok(public_meaning(key)),

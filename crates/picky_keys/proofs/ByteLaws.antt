@@ -14,7 +14,7 @@ use Rattle.picky_wire_base.proofs.MpintLaws.{mpint_of_high, mpint_of_low}
 use Rattle.picky_wire_base.specs.Numbers.{IsBytes}
 use Rattle.picky_wire_base.proofs.Numbers.{EachByte, back_bytes, each_by_place, front_bytes}
 use Rattle.picky_text.specs.Lines.{HasNo}
-use Rattle.picky_text.specs.Words.{ends_word, first_word, after_word, IsWord}
+use Rattle.picky_text.specs.Words.{ends_word, first_word, behind_word, IsWord}
 use Rattle.picky_keys.specs.declared.curve.EcCurve.{EcCurve}
 use Rattle.picky_keys.specs.declared.curve.EcCurve.TheVariants.{NistP256, NistP384, NistP521}
 use Rattle.picky_keys.specs.declared.curve.EdAlgorithm.TheVariants.{Ed25519}
@@ -75,8 +75,8 @@ either_bytes : (b : Bool) (x y : List ℕ) → IsBytes x → IsBytes y → IsByt
 either_bytes true x y left right = left
 either_bytes false x y left right = right
 
-pub after_bytes : (text : List ℕ) → IsBytes text → IsBytes (after_word text)
-unfolding after_word
+pub after_bytes : (text : List ℕ) → IsBytes text → IsBytes (behind_word text)
+unfolding behind_word
 after_bytes text each =
     either_bytes (slice_index text (position_or_len ends_word text) == 32) _ []
     (back_bytes (position_or_len ends_word text + 1) text each) no_bytes

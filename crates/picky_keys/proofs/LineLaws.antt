@@ -7,7 +7,7 @@ use Rattle.std.proofs.{lemmas.Bool.{ltb-true, lt-ltb, and_parts}, lemmas.List.{a
 use Rattle.picky_wire_base.specs.{carried.Outcome.{and_then_ok, map_err_ok}, Outcome.{map_err}, Grammar.{Fits}}
 use Rattle.picky_wire_base.specs.{Numbers.{IsBytes}, Table.{find_entry}}
 use Rattle.picky_text.specs.{Base64.{base64_of, decoded}, declared.lines.LineEnd.TheVariants.{CrLf}}
-use Rattle.picky_text.specs.Words.{first_word, after_word, body_word, after_body, comment_of, AreParts, HasParts}
+use Rattle.picky_text.specs.Words.{first_word, behind_word, body_word, after_body, comment_of, AreParts, HasParts}
 use Rattle.picky_text.proofs.Base64Laws.{base64_is_read_back, base64_is_of_what_it_gives, decoded_is_bytes}
 use Rattle.picky_text.proofs.WordLaws.{key_line_is_read_back, key_line_alone, base64_is_word, rest_text_is, rest_text_says}
 use Rattle.picky_keys.specs.{declared.kind.KeyKind.{KeyKind}, declared.curve.EcCurve.TheVariants.{NistP256}}
@@ -143,7 +143,7 @@ line_meaning_says text key small means =
     let comment = rest_text_says (after_body text) last.0 some in
     let comment_fits = ap is_short_text (ap Some comment.1 ∙ sym some) ∙ both.1 in
     let kind = found (find_entry key_types (first_word text)) named.0 in
-    let body = body_key_says (body_word text) step.0 (word_is_bytes (after_word text) (after_bytes text small)) step.1 in
+    let body = body_key_says (body_word text) step.0 (word_is_bytes (behind_word text) (after_bytes text small)) step.1 in
     let is : record { inner_key = step.0; comment = last.0 } ≡ key = cc last.2 in
     record {
       kind = kind.0;

@@ -14,8 +14,8 @@ use Rattle.picky_text.proofs.Base64Laws.{base64_has_no, base64_is_of_what_it_giv
 use Rattle.picky_cert_parts.specs.declared.error.SshCertificateError.{SshCertificateError}
 use Rattle.picky_cert.specs.declared.certificate.SshCertificate.{SshCertificate}
 use Rattle.picky_cert.specs.Line.{IsReadBackCertificate}
-use Rattle.picky_cert.specs.LineRefusal.{line_meaning}
-use Rattle.picky_cert.specs.Spelled.{line_of}
+use Rattle.picky_cert.specs.LineRefusal.{cert_line_meaning}
+use Rattle.picky_cert.specs.Spelled.{cert_line_of}
 use Rattle.picky_keys.proofs.ByteLaws.{utf8_is_bytes}
 use Rattle.picky_cert.proofs.CanonicalLaws.{text_is_kept}
 use Rattle.picky_request.specs.Request.{cut_at_space, request_in}
@@ -89,7 +89,7 @@ read_asks id word line each reads =
 certificate_is_read : (c : SshCertificate) → IsReadBackCertificate c → certificate_in (front_of c) ≡ Some c
 unfolding certificate_in
 certificate_is_read c kept =
-    then_is (result_ok (line_meaning (front_of c))) c (if_canonical (front_of c)) (ap result_ok (front_reads_back c kept))
+    then_is (result_ok (cert_line_meaning (front_of c))) c (if_canonical (front_of c)) (ap result_ok (front_reads_back c kept))
     ∙ ap (λ (b : Bool). if b then Some c else None) (same_bytes (front_of c) (front_of c) refl)
 
 ok_read : (read : Result SshCertificate SshCertificateError) (c : SshCertificate) → result_ok read ≡ Some c → read ≡ Ok c
@@ -97,14 +97,14 @@ ok_read (Ok d) c is = ap Ok (some_same d c is)
 ok_read (Err e) c is = absurd (cc is)
 
 read_is_canonical : (text : List ℕ) (c : SshCertificate) → certificate_in text ≡ Some c
-    → (line_meaning text ≡ Ok c) × (front_of c ≡ text)
+    → (cert_line_meaning text ≡ Ok c) × (front_of c ≡ text)
 unfolding certificate_in
 read_is_canonical text c reads =
-    let read = goes_on (result_ok (line_meaning text)) (if_canonical text) c reads in
+    let read = goes_on (result_ok (cert_line_meaning text)) (if_canonical text) c reads in
     let canonical = chosen (bytes_eq (front_of read.0) text) (Some read.0) c read.2 in
     let same : read.0 ≡ c = some_same read.0 c canonical.1 in
     let is : bytes_eq (front_of c) text ≡ true = subst (λ d. bytes_eq (front_of d) text ≡ true) same canonical.0 in
-    (ok_read (line_meaning text) c (read.1 ∙ canonical.1), bytes_same (front_of c) text is)
+    (ok_read (cert_line_meaning text) c (read.1 ∙ canonical.1), bytes_same (front_of c) text is)
 
 -- ---- the entry of a line
 
@@ -131,7 +131,7 @@ entry_is_read e is short =
     let asks = (line_is_one e.request is.asks bytes).0 is.request in
     let id_parted : HasNo 32 e.id = subst (HasNo 32) is.id asks.id_parted in
     let word_parted : HasNo 32 word = base64_has_no 32 e.request bytes refl in
-    let fits : length (line_of c) < 2 ^ 32 =
+    let fits : length (cert_line_of c) < 2 ^ 32 =
     omega (arith, short, line_length c, length-append e.id (32 ∷ rest), length-append word (32 ∷ front_of c)) in
     words_are line e.id rest word (front_of c) e.request c (cut_is line e.id rest refl id_parted)
     (cut_is rest word (front_of c) refl word_parted) (request_is_read e is) (certificate_is_read c (is.kept fits))
@@ -153,8 +153,8 @@ words_say line id rest word text request c each short of_id of_word asked says =
     let parted = parted_bytes word text (subst IsBytes of_word behind) in
     let asks = read_asks id word request parted.0 asked in
     let canonical = read_is_canonical text c says in
-    let kept : length (line_of c) < 2 ^ 32 → IsReadBackCertificate c = text_is_kept text c parted.1 canonical.0 in
-    let fits : length (line_of c) < 2 ^ 32 =
+    let kept : length (cert_line_of c) < 2 ^ 32 → IsReadBackCertificate c = text_is_kept text c parted.1 canonical.0 in
+    let fits : length (cert_line_of c) < 2 ^ 32 =
     omega (
       arith,
       short,

@@ -13,7 +13,7 @@ use Rattle.picky_text.proofs.ListLaws.{all_append}
 use Rattle.picky_cert_parts.specs.CertNames.{cert_key_type_name}
 use Rattle.picky_cert.specs.declared.certificate.SshCertificate.{SshCertificate}
 use Rattle.picky_cert.specs.Line.{IsReadBackCertificate}
-use Rattle.picky_cert.specs.Spelled.{blob_of, line_of}
+use Rattle.picky_cert.specs.Spelled.{cert_blob_of, cert_line_of}
 use Rattle.picky_cert.proofs.ByteLaws.{blob_bytes}
 use Rattle.picky_keys.proofs.ByteLaws.{utf8_is_bytes}
 use Rattle.picky_cert.proofs.ReadBackLaws.{type_name_is_word}
@@ -42,11 +42,11 @@ unfolding front_of
 front_has_no_lf c kept =
     let P : ℕ → Type 0 = λ b. b ≢ 10 in
     let name : List ℕ = cert_key_type_name c.cert_key_type in
-    let body : List ℕ = base64_of (blob_of c) in
+    let body : List ℕ = base64_of (cert_blob_of c) in
     let space : 32 ≢ 10 = λ same. omega (arith, same) in
     all_append P (name ++ 32 ∷ body) (32 ∷ c.comment)
     (all_append P name (32 ∷ body) (type_name_is_word c.cert_key_type).2
-    (space, base64_has_no 10 (blob_of c) (blob_bytes c kept.is) refl))
+    (space, base64_has_no 10 (cert_blob_of c) (blob_bytes c kept.is) refl))
     (space, kept.no_lf)
 
 pub entry_has_no_lf : (e : Entry) → IsEntry e → length (entry_front e) < 2 ^ 32 → HasNo 10 (entry_front e)
@@ -56,7 +56,7 @@ entry_has_no_lf e is short =
     let front : List ℕ = front_of e.certificate in
     let word : List ℕ = base64_of e.request in
     let behind : List ℕ = word ++ 32 ∷ front in
-    let fits : length (line_of e.certificate) < 2 ^ 32 =
+    let fits : length (cert_line_of e.certificate) < 2 ^ 32 =
     omega (arith, short, line_length e.certificate, length-append e.id (32 ∷ behind), length-append word (32 ∷ front)) in
     let space : 32 ≢ 10 = λ same. omega (arith, same) in
     all_append P e.id (32 ∷ behind) (id_has_no_lf e is) (

@@ -15,7 +15,7 @@ use Rattle.picky_cert_parts.specs.Signature.{IsSignature}
 use Rattle.picky_cert.specs.declared.certificate.SshCertificate.{SshCertificate}
 use Rattle.picky_cert.specs.Certificate.{bare}
 use Rattle.picky_cert.specs.Line.{IsReadBackCertificate}
-use Rattle.picky_cert.specs.Spelled.{line_of}
+use Rattle.picky_cert.specs.Spelled.{cert_line_of}
 use Rattle.picky_keys.proofs.ByteLaws.{utf8_is_bytes}
 use Rattle.picky_cert_builder.specs.Built.{IsBuilt}
 use Rattle.picky_cert_builder.specs.declared.error.SshCertificateGenerationError.{SshCertificateGenerationError}
@@ -94,7 +94,7 @@ signed_string c u bytes is kept = subst (λ (d : SshCertificate). IsSignature d.
 signed_has_line : (signs : SignRelation) (issuer : SshBasePublicKey) (serial : ℕ) (r : CertRequestLine) (nonce line : List ℕ)
     (u : Unsigned) (c : SshCertificate) → IsUtf8 line → request_in line ≡ Some r → IsRequest (asked_of issuer serial r)
     → IsString nonce → IsSignature c.signature → requested (asked_of issuer serial r) nonce ≡ Ok u → IsSigned signs u c
-    → length (line_of c) < 2 ^ 32 → IsReadBackCertificate c
+    → length (cert_line_of c) < 2 ^ 32 → IsReadBackCertificate c
 signed_has_line signs issuer serial r nonce line u c utf8 asks kept is_nonce is_signature is signed short =
     let b = asked_of issuer serial r in
     let bytes = signed.0 in
@@ -107,7 +107,7 @@ signed_has_line signs issuer serial r nonce line u c utf8 asks kept is_nonce is_
     (signed_is_kept b nonce u bytes kept is_nonce (signed_string c u bytes signed.1 is_signature) is
     (subst (HasNo 13) comment carried.no_cr) (subst (HasNo 10) comment carried.no_lf)
     (subst (λ (t : List ℕ). trim_end t ≡ t) comment carried.trimmed)
-    (subst (λ (d : SshCertificate). length (line_of d) < 2 ^ 32) signed.1 short))
+    (subst (λ (d : SshCertificate). length (cert_line_of d) < 2 ^ 32) signed.1 short))
 
 -- Signed, it is an entry's.
 signed_is_entry : (signs : SignRelation) (issuer : SshBasePublicKey) (serial : ℕ) (r : CertRequestLine) (nonce line : List ℕ)

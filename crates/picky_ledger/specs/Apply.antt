@@ -83,7 +83,7 @@ Applies signs old line (Err says) rose (Err errors.SignerFault) new = ⊥
 Applies signs old line says rose (Err errors.NoMemory) new = new ≡ old
 
 -- which signatures are good stays; a fault is counted only where it is answered; a device that isn't asked is as it was
-pub record LeavesSigner {S A B : Type 0} (signs : S → SignRelation) (faults : S → ℕ) (says : Result A Reply)
+pub record LeavesLedgerSigner {S A B : Type 0} (signs : S → SignRelation) (faults : S → ℕ) (says : Result A Reply)
     (result : Result B LedgerError) (old new : S) : Type 0 where
   pub kept : (k : PublicKey) (a : SignatureAlgorithm) (m s : List ℕ) → signs new k a m s ↔ signs old k a m s
   pub calm : result ≢ Err errors.SignerFault → faults new ≡ faults old

@@ -6,8 +6,8 @@ use Rattle.std.specs.Str.{is_utf8, IsUtf8}
 use Rattle.picky_text.specs.Base64.{base64_of, decoded}
 use Rattle.picky_cert.specs.declared.certificate.SshCertificate.{SshCertificate}
 use Rattle.picky_cert.specs.Line.{IsReadBackCertificate}
-use Rattle.picky_cert.specs.LineRefusal.{line_meaning}
-use Rattle.picky_cert.specs.Spelled.{blob_of, line_of}
+use Rattle.picky_cert.specs.LineRefusal.{cert_line_meaning}
+use Rattle.picky_cert.specs.Spelled.{cert_blob_of, cert_line_of}
 use Rattle.picky_cert_parts.specs.CertNames.{cert_key_type_name}
 use Rattle.picky_issuing.specs.Steps.{some_then}
 use Rattle.picky_request.specs.Request.{cut_at_space, request_in}
@@ -23,13 +23,13 @@ pub record IsEntry (e : Entry) : Type 0 where
   pub text : IsUtf8 e.request
   pub serial : e.certificate.serial ≡ e.serial
   pub fits : e.serial < 2 ^ 64
-  pub kept : length (line_of e.certificate) < 2 ^ 32 → IsReadBackCertificate e.certificate
+  pub kept : length (cert_line_of e.certificate) < 2 ^ 32 → IsReadBackCertificate e.certificate
 
 -- ---- the line of an entry
 
 -- the certificate's line without its CR LF
 unfoldable pub front_of : SshCertificate → List ℕ
-front_of c = cert_key_type_name c.cert_key_type ++ 32 ∷ base64_of (blob_of c) ++ 32 ∷ c.comment
+front_of c = cert_key_type_name c.cert_key_type ++ 32 ∷ base64_of (cert_blob_of c) ++ 32 ∷ c.comment
 
 -- id SP base64 SP certificate, with the request line in base64
 unfoldable pub entry_front : Entry → List ℕ
@@ -67,7 +67,7 @@ abbrev pub if_canonical : (text : List ℕ) → SshCertificate → Option SshCer
 if_canonical text c = if bytes_eq (front_of c) text then Some c else None
 
 unfoldable pub certificate_in : (text : List ℕ) → Option SshCertificate
-certificate_in text = some_then (result_ok (line_meaning text)) (if_canonical text)
+certificate_in text = some_then (result_ok (cert_line_meaning text)) (if_canonical text)
 
 abbrev pub entry_of : (id request : List ℕ) → SshCertificate → Entry
 entry_of id request c = record { id = id; serial = c.serial; request = request; certificate = c }

@@ -12,7 +12,7 @@ ghost use Rattle.picky_cert_builder.specs.Keeps.{IsRequest};
 ghost use Rattle.picky_request.specs.Builder.{asked_of};
 ghost use Rattle.picky_request.specs.Request.{request_in};
 ghost use Rattle.picky_ledger.specs.Apply.{added, issuing, judged_request_line, kept_reply as kept_reply_of};
-ghost use Rattle.picky_ledger.specs.Apply.{unless_kept, Applies, LeavesSigner};
+ghost use Rattle.picky_ledger.specs.Apply.{unless_kept, Applies, LeavesLedgerSigner};
 ghost use Rattle.picky_ledger.specs.Entry.{entry_of as entry_by, IsEntry};
 ghost use Rattle.picky_ledger.specs.State.{entry_named as entry_with_id, IsNew};
 
@@ -61,7 +61,7 @@ impl Ledger {
         ensures applies { Applies (G.signs signer.old) self.old line.now
             (judged_request_line (record { issuer = issuer.now.inner_key; nonce = nonce.now }) self.old line.now)
             (Rose (G.faults signer.old) (G.faults signer.new)) result self.new }
-        ensures signer { LeavesSigner G.signs G.faults
+        ensures signer { LeavesLedgerSigner G.signs G.faults
             (judged_request_line (record { issuer = issuer.now.inner_key; nonce = nonce.now }) self.old line.now) result signer.old signer.new }
     {
         match CertRequestLine::from_str(alloc, line) {
@@ -86,7 +86,7 @@ impl Ledger {
             (unless_kept (record { issuer = issuer.now.inner_key; nonce = nonce.now }) line.now self.old.next request
             (entry_with_id request.id self.old.entries))
             (Rose (G.faults signer.old) (G.faults signer.new)) result self.new }
-        ensures signer { LeavesSigner G.signs G.faults
+        ensures signer { LeavesLedgerSigner G.signs G.faults
             (unless_kept (record { issuer = issuer.now.inner_key; nonce = nonce.now }) line.now self.old.next request
             (entry_with_id request.id self.old.entries)) result signer.old signer.new }
     {
@@ -112,7 +112,7 @@ impl Ledger {
         ensures applies { Applies (G.signs signer.old) self.old line.now
             (issuing (record { issuer = issuer.now.inner_key; nonce = nonce.now }) self.old.next request)
             (Rose (G.faults signer.old) (G.faults signer.new)) result self.new }
-        ensures signer { LeavesSigner G.signs G.faults
+        ensures signer { LeavesLedgerSigner G.signs G.faults
             (issuing (record { issuer = issuer.now.inner_key; nonce = nonce.now }) self.old.next request) result signer.old signer.new }
     {
         if self.next == u64::MAX {

@@ -5,7 +5,7 @@ ghost use Rattle.std.specs.Prelude.{string_bytes, vec_len};
 ghost use Rattle.std.specs.Prelude.{Err, IfOk, MatchBool, OnOk};
 ghost use Rattle.picky_text.specs.Base64.{base64_of};
 ghost use Rattle.picky_cert.specs.Line.{IsReadBackCertificate};
-ghost use Rattle.picky_cert.specs.Spelled.{line_of};
+ghost use Rattle.picky_cert.specs.Spelled.{cert_line_of};
 ghost use Rattle.picky_request.specs.Request.{request_in};
 ghost use Rattle.picky_ledger.specs.Entry.{certificate_in, entry_in, entry_line, front_of, if_text, is_named};
 ghost use Rattle.picky_ledger.specs.Entry.{request_under, base64_text_in, IsEntry};
@@ -121,7 +121,7 @@ fn certificate_of(alloc: Global, text: &str) -> Result<Option<SshCertificate>, N
 /// Whether the text is the certificate's line without its CR LF. Refuses: `NoMemory`.
 #[tactic(auto, using(crate::proofs::CertificateLineLemmas::lines))]
 fn is_line(alloc: Global, certificate: &SshCertificate, text: &str) -> Result<bool, NoMemory>
-    requires kept { length (line_of certificate.now) < 2 ^ 32 → IsReadBackCertificate certificate.now }
+    requires kept { length (cert_line_of certificate.now) < 2 ^ 32 → IsReadBackCertificate certificate.now }
     requires short { length text.now + 2 < 2 ^ 32 }
     ensures { IfOk result (λ is. is ≡ bytes_eq (front_of certificate.now) text.now) }
 {
@@ -149,9 +149,9 @@ pub fn push_entry(alloc: Global, text: &mut String, entry: &Entry) -> Result<(),
 /// The certificate's line. Refuses: `TooLong`, where that has 2^32 bytes or more.
 #[tactic(auto, using(crate::proofs::CertificateLineLemmas::lines))]
 fn certificate_line(alloc: Global, certificate: &SshCertificate) -> Result<Text, SizeError>
-    requires { length (line_of certificate.now) < 2 ^ 32 → IsReadBackCertificate certificate.now }
-    ensures line { IfOk result (λ line. line ≡ line_of certificate.now) }
-    ensures too_long { result ≡ Err SizeError.TooLong → 2 ^ 32 ≤ length (line_of certificate.now) }
+    requires { length (cert_line_of certificate.now) < 2 ^ 32 → IsReadBackCertificate certificate.now }
+    ensures line { IfOk result (λ line. line ≡ cert_line_of certificate.now) }
+    ensures too_long { result ≡ Err SizeError.TooLong → 2 ^ 32 ≤ length (cert_line_of certificate.now) }
 {
     match certificate.to_string(alloc) {
         Ok(line) => Ok(line),

@@ -9,7 +9,7 @@ use Rattle.picky_keys.specs.LineRefusal.{line_meaning}
 use Rattle.picky_keys.proofs.LineLaws.{line_meaning_of, line_meaning_says}
 use Rattle.picky_cert.specs.Certificate.{certificate, certified, said, signed_in}
 use Rattle.picky_cert.specs.Line.{IsCertificateLine}
-use Rattle.picky_cert.specs.LineRefusal.{line_meaning as certificate_of}
+use Rattle.picky_cert.specs.LineRefusal.{cert_line_meaning}
 use Rattle.picky_cert.specs.declared.certificate.SshCertificate.{SshCertificate}
 use Rattle.picky_cert.proofs.LineLaws.{line_meaning_of as certificate_meaning_of, line_meaning_says as certificate_meaning_says}
 use Rattle.picky_cert.proofs.SignedLaws.{signed_binds}
@@ -38,7 +38,7 @@ says_as text offer forms.Envelope each at is = absurd (cc is)
 says_as text offer forms.Ppk each at is = absurd (cc is)
 says_as text offer forms.PuttyPublic each at is = absurd (cc is)
 says_as text offer forms.Certificate each at is =
-    let read = both_ok (λ c. offers.Certificate c (message_in text)) errors.Certificate (certificate_of text) offer is in
+    let read = both_ok (λ c. offers.Certificate c (message_in text)) errors.Certificate (cert_line_meaning text) offer is in
     let line = certificate_meaning_says text read.0 each read.1 in
     subst (IsOffer text) read.2 (
       line.blob_bytes,

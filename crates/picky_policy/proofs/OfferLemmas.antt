@@ -9,10 +9,10 @@ use Rattle.picky_wire_base.specs.Outcome.{and_then, map_err}
 use Rattle.picky_text.specs.Words.{body_word, first_word}
 use Rattle.picky_keys.specs.LineRefusal.{comment_text, is_short, is_short_text}
 use Rattle.picky_cert_blob.specs.Layout.{body as signed_layout}
-use Rattle.picky_cert_blob.specs.Reason.{CertReason, why_in}
+use Rattle.picky_cert_blob.specs.Reason.{CertReason, cert_why_in}
 use Rattle.picky_cert.specs.Certificate.{certificate, signed_in}
 use Rattle.picky_cert.specs.CertRefusal.{cert_error}
-use Rattle.picky_cert.specs.LineRefusal.{blob_certificate, body_certificate, line_meaning, word_type, words_meaning}
+use Rattle.picky_cert.specs.LineRefusal.{blob_certificate, body_certificate, cert_line_meaning, word_type, cert_words_meaning}
 use Rattle.picky_cert.specs.View.{CertLies}
 use Rattle.picky_cert.specs.declared.certificate.SshCertificate.{SshCertificate}
 use Rattle.picky_cert.specs.declared.view.CertView.{CertView}
@@ -27,9 +27,9 @@ ok_is : {A E : Type 0} (r : Result A E) (x : A) → r ≡ Ok x → IsOk r
 ok_is r x is = ap is_ok is
 
 -- a line that is read says a short body, of a certificate
-pub line_has_body : (text : List ℕ) → IsOk (line_meaning text)
+pub line_has_body : (text : List ℕ) → IsOk (cert_line_meaning text)
     → (length (body_word text) < 2 ^ 32) × IsOk (body_certificate (body_word text))
-unfolding line_meaning words_meaning
+unfolding cert_line_meaning cert_words_meaning
 line_has_body text is =
     let first = ok_first (word_type (first_word text)) _ is in
     elim (cases_Bool (is_short (body_word text) && is_short_text (comment_text text))) [
@@ -42,12 +42,12 @@ line_has_body text is =
     ]
 
 -- a blob that is refused is no certificate's
-read_refused : (read : Result (SshCertificate × List ℕ) CertReason) (why : Why) → map_err why_in read ≡ Err why
+read_refused : (read : Result (SshCertificate × List ℕ) CertReason) (why : Why) → map_err cert_why_in read ≡ Err why
     → IsOk (map_err cert_error (and_then read (λ found. Ok found.0))) → ⊥
 read_refused (Ok found) why refused is = cc refused
 read_refused (Err reason) why refused is = cc is
 
-pub blob_refused : (blob : List ℕ) (why : Why) → map_err why_in (certificate.read blob) ≡ Err why
+pub blob_refused : (blob : List ℕ) (why : Why) → map_err cert_why_in (certificate.read blob) ≡ Err why
     → IsOk (blob_certificate blob) → ⊥
 unfolding blob_certificate
 blob_refused blob why refused is = read_refused (certificate.read blob) why refused is

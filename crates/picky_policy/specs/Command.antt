@@ -1,7 +1,7 @@
 -- What the words of a command line ask for.
 use Rattle.std.specs.Prelude.{◌≡◌, ℕ, List, [], ◌∷◌, Option, Some, None, bytes_eq, codes, if◌then◌else◌}
 use Rattle.std.specs.Option.{option_map}
-use Rattle.picky_wire.specs.Moment.{moment}
+use Rattle.picky_wire.specs.Moment.{timestamp_at}
 use Rattle.picky_wire.specs.declared.timestamp.Timestamp.{Timestamp}
 use Rattle.picky_issuing.specs.Value.{number_named}
 use Rattle.picky_policy.specs.declared.command.Command.{Command}
@@ -29,7 +29,7 @@ printing word = if bytes_eq word message_word then Some Printing else None
 -- the moment is a number below 2^64, in decimal
 abbrev pub deciding : (word user number : List ℕ) → Option Asked
 deciding word user number =
-    if bytes_eq word decide_word then option_map (λ secs. Deciding user (moment secs)) (number_named number) else None
+    if bytes_eq word decide_word then option_map (λ secs. Deciding user (timestamp_at secs)) (number_named number) else None
 
 -- decide USER MOMENT, or message
 abbrev pub asked_for : (words : List (List ℕ)) → Option Asked

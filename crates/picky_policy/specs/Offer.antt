@@ -9,7 +9,7 @@ use Rattle.picky_keys.specs.LineRefusal.{line_meaning}
 use Rattle.picky_keys.specs.declared.error.SshPublicKeyError.TheVariants as public
 use Rattle.picky_cert.specs.Certificate.{signed_in}
 use Rattle.picky_cert.specs.Line.{IsCertificateLine}
-use Rattle.picky_cert.specs.LineRefusal.{line_meaning as certificate_of}
+use Rattle.picky_cert.specs.LineRefusal.{cert_line_meaning}
 use Rattle.picky_key_text.specs.Form.{form_of}
 use Rattle.picky_key_text.specs.declared.error.ReadError.{ReadError}
 use Rattle.picky_key_text.specs.declared.error.ReadError.TheVariants as errors
@@ -45,7 +45,7 @@ offer_as forms.Envelope text = Err (errors.Public public.UnknownKeyType)
 offer_as forms.Ppk text = Err (errors.Public public.UnknownKeyType)
 offer_as forms.PuttyPublic text = Err (errors.Public public.UnknownKeyType)
 offer_as forms.Certificate text =
-    map_ok (λ c. offers.Certificate c (message_in text)) (map_err errors.Certificate (certificate_of text))
+    map_ok (λ c. offers.Certificate c (message_in text)) (map_err errors.Certificate (cert_line_meaning text))
 offer_as forms.PublicLine text = map_ok offers.Key (map_err errors.Public (line_meaning text))
 
 unfoldable pub offer_in : (text : List ℕ) → Result Offer ReadError

@@ -3,7 +3,7 @@
 ghost use Rattle.std.specs.Prelude.{◌≡◌, ◌^◌, ◌<◌, length, IfOk, IsOk};
 ghost use Rattle.picky_wire_base.specs.Gives.{Gives};
 ghost use Rattle.picky_cert.specs.Certificate.{signed_in};
-ghost use Rattle.picky_cert.specs.LineRefusal.{blob_certificate, body_certificate, line_meaning as certificate_meaning};
+ghost use Rattle.picky_cert.specs.LineRefusal.{blob_certificate, body_certificate, cert_line_meaning};
 ghost use Rattle.picky_text.specs.Base64.{decoded};
 ghost use Rattle.picky_key_text.specs.declared.form.Form.TheVariants as forms;
 ghost use Rattle.picky_policy.specs.Offer.{message_in, message_of, offer_as, offer_in, signed_or_none};
@@ -92,7 +92,7 @@ fn certificate_offer(alloc: Global, text: &str) -> Result<Offer, ReadError>
 /// What is signed of a certificate's line, as it was read. Refuses: `NoMemory`.
 #[tactic(auto, unfolding(crate::specs::Offer::message_in), using(crate::proofs::OfferLemmas::line_has_body))]
 fn signed_part(alloc: Global, text: &str) -> Result<Bytes, NoMemory>
-    requires { IsOk (certificate_meaning text.now) }
+    requires { IsOk (cert_line_meaning text.now) }
     ensures { IfOk result (λ message. message ≡ message_in text.now) }
 {
     let (_, after_name) = split_word(text.as_bytes());

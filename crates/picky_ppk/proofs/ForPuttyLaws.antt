@@ -17,7 +17,7 @@ use Rattle.picky_sshkey_blob.specs.declared.key.SshBasePrivateKey.TheVariants as
 use Rattle.picky_ppk_parts.specs.declared.error.PuttyError.{PuttyError}
 use Rattle.picky_ppk_parts.specs.declared.error.PuttyError.TheVariants as errors
 use Rattle.picky_ppk_parts.specs.Algorithm.{algorithm_of, curve_algorithm}
-use Rattle.picky_ppk_parts.specs.Secret.{ed_secret, ed_fields, ppk_secret_fields}
+use Rattle.picky_ppk_parts.specs.Secret.{ppk_ed_secret, ppk_ed_fields, ppk_secret_fields}
 use Rattle.picky_ppk_parts.specs.Parts.{StandsForKey}
 use Rattle.picky_ppk_parts.proofs.PartsLaws.{parts_stand_for_one}
 use Rattle.picky_ppk_file.specs.declared.file.PpkFile.{PpkFile}
@@ -31,8 +31,8 @@ use Rattle.picky_ppk.proofs.KeyLaws.{found_key_stands, standing_key_is_found}
 
 -- The string of 32 bytes is the secret that they are.
 pub secret_string_spells : (secret public : List ℕ) → length secret ≡ 32
-    → (ed_fields public).piece (keys.Ed secret public) (string_of secret)
-unfolding ed_fields ed_secret
+    → (ppk_ed_fields public).piece (keys.Ed secret public) (string_of secret)
+unfolding ppk_ed_fields ppk_ed_secret
 secret_string_spells secret public len =
     let short : length secret < 2 ^ 32 = omega (arith, len) in
     (secret, string_of secret, [], (secret, string_spells secret short, (len, refl)), (refl, refl), sym (append-nil (string_of secret)))
@@ -45,9 +45,9 @@ pub record IsEdKey (public : PublicKey) (key : SshBasePrivateKey) : Type 0 where
   pub is_public : public ≡ plain.Ed point
   pub is_key : key ≡ keys.Ed secret point
 
-ed_key_spelled : (public bytes : List ℕ) (key : SshBasePrivateKey) → (ed_fields public).piece key bytes
+ed_key_spelled : (public bytes : List ℕ) (key : SshBasePrivateKey) → (ppk_ed_fields public).piece key bytes
     → IsEdKey (plain.Ed public) key
-unfolding ed_fields ed_secret
+unfolding ppk_ed_fields ppk_ed_secret
 ed_key_spelled public bytes key (secret, x, y, (number, spells, (len, same)), (is, none), joined) =
     record { point = public; secret = secret; len = len; is_public = refl; is_key = is }
 

@@ -46,5 +46,5 @@ unfoldable pub private_key_of : PpkFile → Result PrivateKey PuttyError
 private_key_of f = and_then (base_key_of f) plain_private
 
 -- the public key in the file's blob
-unfoldable pub public_key_of : PpkFile → Result PublicKey PuttyError
-public_key_of f = and_then (key_in_blob f.public_key) plain_key
+unfoldable pub ppk_public_key_of : PpkFile → Result PublicKey PuttyError
+ppk_public_key_of f = and_then (key_in_blob f.public_key) plain_key

@@ -10,7 +10,7 @@ ghost use Rattle.picky_ppk_file.specs.PuttyRefusal.{plain_key as plain_key_of};
 ghost use Rattle.picky_ppk.specs.Mac.{CarriesMac};
 ghost use Rattle.picky_ppk.specs.Changed.{of_openssh, of_base_key, file_of_parts as file_of_parts_of};
 ghost use Rattle.picky_ppk.specs.KeyOf.{base_key_of, base_key_and_comment_of, to_openssh, private_key_of};
-ghost use Rattle.picky_ppk.specs.KeyOf.{public_key_of, made_error};
+ghost use Rattle.picky_ppk.specs.KeyOf.{ppk_public_key_of, made_error};
 ghost use Rattle.picky_ppk.specs.KeyOf.{plain_private as plain_private_of};
 
 use crate::changing::remade;
@@ -121,9 +121,9 @@ impl Ppk {
 
     /// The public key in the file's blob, sealed or not. Refuses, in order: `SshPublicKey` with what is wrong with the
     /// blob; `NotSupported` (`SK keys`) for a key whose secret a device keeps.
-    #[tactic(auto, unfolding(crate::specs::KeyOf::public_key_of))]
+    #[tactic(auto, unfolding(crate::specs::KeyOf::ppk_public_key_of))]
     pub fn public_key(&self, alloc: Global) -> Result<PublicKey, PuttyError>
-        ensures { Gives PuttyError.NoMemory (λ key. key) result (public_key_of self.now) }
+        ensures { Gives PuttyError.NoMemory (λ key. key) result (ppk_public_key_of self.now) }
     {
         plain_in_blob(alloc, &self.file().public_key)
     }

@@ -16,8 +16,8 @@ use Rattle.picky_keys.proofs.LineLaws.{some_of, chosen}
 use Rattle.picky_keys.specs.LineRefusal.{is_short}
 use Rattle.picky_ppk_parts.specs.declared.error.PuttyError.TheVariants as errors
 use Rattle.picky_ppk_file.specs.declared.putty_public.PuttyPublicKey.{PuttyPublicKey}
-use Rattle.picky_ppk_file.specs.PuttyPublic.{header, footer, comment_start, putty_public, SaysPuttyPublic}
-use Rattle.picky_ppk_file.specs.PuttyRefusal.{quoted, body_from, of_parts, after_comment, after_header, of_lines}
+use Rattle.picky_ppk_file.specs.PuttyPublic.{putty_header, putty_footer, comment_start, putty_public, SaysPuttyPublic}
+use Rattle.picky_ppk_file.specs.PuttyRefusal.{quoted, body_from, of_parts, after_comment, after_putty_header, of_lines}
 use Rattle.picky_ppk_file.specs.PuttyRefusal.{putty_meaning}
 use Rattle.picky_ppk_file.proofs.CommentLaws.{quoted_of, quoted_says}
 use Rattle.picky_ppk_file.proofs.BodyLaws.{same_line, line_is, body_of, body_says}
@@ -27,18 +27,18 @@ use Rattle.picky_ppk_file.proofs.PuttyLaws.{putty_public_says}
 -- ---- a text means what it says
 
 -- Lines that begin with a header mean what stands after it.
-pub header_first : (line : List ℕ) (more : List (List ℕ)) → bytes_eq line header ≡ true
-    → of_lines (line ∷ more) ≡ after_header more
+pub header_first : (line : List ℕ) (more : List (List ℕ)) → bytes_eq line putty_header ≡ true
+    → of_lines (line ∷ more) ≡ after_putty_header more
 header_first line more same = rw same refl
 
 -- Lines that begin with another line mean nothing.
-pub other_first : (line : List ℕ) (more : List (List ℕ)) → bytes_eq line header ≡ false
+pub other_first : (line : List ℕ) (more : List (List ℕ)) → bytes_eq line putty_header ≡ false
     → of_lines (line ∷ more) ≡ Err errors.InvalidPublicKeyContainer
 other_first line more other = rw other refl
 
 -- the steps after a header
 comment_read : (line between : List ℕ) (more : List (List ℕ)) → quoted line ≡ Some between
-    → after_header (line ∷ more) ≡ after_comment between more
+    → after_putty_header (line ∷ more) ≡ after_comment between more
 comment_read line between more is = rw is refl
 
 body_read : (between joined : List ℕ) (ls : List (List ℕ)) → body_from [] ls ≡ Some joined
@@ -55,11 +55,11 @@ pub putty_meaning_of : (text blob comment : List ℕ) → SaysPuttyPublic text b
     → putty_meaning text ≡ Ok (record { blob = blob; comment = comment })
 unfolding putty_meaning
 putty_meaning_of text blob comment says =
-    let rest : List (List ℕ) = says.body ++ footer ∷ says.more in
+    let rest : List (List ℕ) = says.body ++ putty_footer ∷ says.more in
     let line : List ℕ = comment_start ++ says.before ++ 34 ∷ says.between ++ 34 ∷ says.after in
     let some = ap decoded says.body_is ∙ base64_is_read_back blob says.bytes in
     let short = subst (λ c. length c < 2 ^ 32) says.comment_is says.comment_short in
-    ap of_lines says.whole ∙ header_first header (line ∷ rest) (same_line header header refl)
+    ap of_lines says.whole ∙ header_first putty_header (line ∷ rest) (same_line putty_header putty_header refl)
     ∙ comment_read line says.between rest (quoted_of says.before says.between says.after says.first_quote says.last_quote)
     ∙ body_read says.between (concat says.body) rest (body_of [] says.body says.more says.first_footer)
     ∙ parts_read says.between (concat says.body) blob some says.blob_short short
@@ -83,10 +83,10 @@ lines_say : (text : List ℕ) (key : PuttyPublicKey) (ls : List (List ℕ)) → 
     → of_lines ls ≡ Ok key → SaysPuttyPublic text key.blob key.comment
 lines_say text key [] are each means = cc means
 lines_say text key (first ∷ []) are each means =
-    let head = chosen (bytes_eq first header) (after_header []) errors.InvalidPublicKeyContainer key means in
+    let head = chosen (bytes_eq first putty_header) (after_putty_header []) errors.InvalidPublicKeyContainer key means in
     cc head.1
 lines_say text key (first ∷ second ∷ ls) are each means =
-    let head = chosen (bytes_eq first header) (after_header (second ∷ ls)) errors.InvalidPublicKeyContainer key means in
+    let head = chosen (bytes_eq first putty_header) (after_putty_header (second ∷ ls)) errors.InvalidPublicKeyContainer key means in
     let comment = and_then_ok (ok_or (quoted second) errors.InvalidPublicKeyComment) _ key head.1 in
     let between = comment.0 in
     let line = quoted_says second between (some_of (quoted second) errors.InvalidPublicKeyComment between comment.1) in
@@ -98,7 +98,7 @@ lines_say text key (first ∷ second ∷ ls) are each means =
     let some = some_of (decoded joined) errors.InvalidPublicKeyData blob step.1 in
     let passed = passed_ok (is_short blob && is_short (unquote between)) errors.TooLong _ key step.2 in
     let short = and_parts (is_short blob) (is_short (unquote between)) passed.0 in
-    let front = all_front _ body.body (footer ∷ body.more) (subst AreBytes body.are each.1.1) in
+    let front = all_front _ body.body (putty_footer ∷ body.more) (subst AreBytes body.are each.1.1) in
     let small = subst IsBytes (sym body.joined_is) (joined_is_bytes body.body front) in
     subst (λ k. SaysPuttyPublic text k.blob k.comment) passed.1 (record {
       before = line.before;
@@ -106,7 +106,7 @@ lines_say text key (first ∷ second ∷ ls) are each means =
       after = line.after;
       body = body.body;
       more = body.more;
-      whole = are ∙ three_parts first second header _ ls _ (line_is first header head.0) line.is body.are;
+      whole = are ∙ three_parts first second putty_header _ ls _ (line_is first putty_header head.0) line.is body.are;
       first_quote = line.first;
       last_quote = line.last;
       comment_is = refl;

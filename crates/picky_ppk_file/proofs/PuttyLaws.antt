@@ -20,7 +20,7 @@ use Rattle.picky_keys.specs.Blob.{blob_of}
 use Rattle.picky_keys.specs.carried.Blob.{blob_spells}
 use Rattle.picky_keys.proofs.LineLaws.{blob_is_bytes}
 use Rattle.picky_keys.proofs.ByteLaws.{no_by_test}
-use Rattle.picky_ppk_file.specs.PuttyPublic.{header, footer, comment_start, comment_line, putty_public}
+use Rattle.picky_ppk_file.specs.PuttyPublic.{putty_header, putty_footer, comment_start, comment_line, putty_public}
 use Rattle.picky_ppk_file.specs.PuttyPublic.{SpellsPuttyPublic, SaysPuttyPublic, IsPuttyPublic}
 
 -- ---- the one spelling
@@ -38,17 +38,17 @@ unfolding putty_public
 putty_public_only blob comment other spells =
     let rows = rows_of (base64_of blob) in
     let same = rows_are_one (base64_of blob) spells.rows rows spells.body (rows_of_are_rows (base64_of blob)) in
-    spells.whole ∙ ap (λ ls. text_of CrLf (header ∷ comment_line comment ∷ ls ++ footer ∷ [])) same
+    spells.whole ∙ ap (λ ls. text_of CrLf (putty_header ∷ comment_line comment ∷ ls ++ putty_footer ∷ [])) same
 
 -- ---- what is written says the blob and the comment
 
 -- the first and the last line
-header_line : HasNo 10 header
-unfolding header
+header_line : HasNo 10 putty_header
+unfolding putty_header
 header_line = no_by_test 10 (codes "---- BEGIN SSH2 PUBLIC KEY ----") refl
 
-footer_line : HasNo 10 footer
-unfolding footer
+footer_line : HasNo 10 putty_footer
+unfolding putty_footer
 footer_line = no_by_test 10 (codes "---- END SSH2 PUBLIC KEY ----") refl
 
 -- the comment line of a comment without LF is one line
@@ -61,18 +61,18 @@ comment_is_line comment none =
     all_append (λ c. c ≢ 10) (codes "Comment: \"" ++ quote comment) (34 ∷ []) front (no_by_test 10 (34 ∷ []) refl)
 
 -- a row of a text without dashes is no footer
-rows_no_footer : (rows : List (List ℕ)) → AllByRecursion (HasNo 45) rows → AllByRecursion (λ line. line ≢ footer) rows
-unfolding footer
+rows_no_footer : (rows : List (List ℕ)) → AllByRecursion (HasNo 45) rows → AllByRecursion (λ line. line ≢ putty_footer) rows
+unfolding putty_footer
 rows_no_footer [] none = tt
 rows_no_footer (row ∷ rows) none =
     (λ is. let first = subst (HasNo 45) is none.0 in first.0 refl, rows_no_footer rows none.1)
 
 -- the lines that are written
 written_lines : (blob comment : List ℕ) → IsBytes blob → HasNo 10 comment
-    → AreLines CrLf (header ∷ comment_line comment ∷ rows_of (base64_of blob) ++ footer ∷ [])
+    → AreLines CrLf (putty_header ∷ comment_line comment ∷ rows_of (base64_of blob) ++ putty_footer ∷ [])
 written_lines blob comment small none =
     let rows = rows_have_no 10 (base64_of blob) (base64_has_no 10 blob small refl) in
-    let last = all_append (HasNo 10) (rows_of (base64_of blob)) (footer ∷ []) rows (footer_line, tt) in
+    let last = all_append (HasNo 10) (rows_of (base64_of blob)) (putty_footer ∷ []) rows (footer_line, tt) in
     (header_line, (comment_is_line comment none, last))
 
 -- What is written says the blob and the comment.
@@ -81,7 +81,7 @@ pub putty_public_says : (blob comment : List ℕ) → IsBytes blob → HasNo 10 
 unfolding putty_public comment_line comment_start
 putty_public_says blob comment small none blob_short comment_short =
     let rows = rows_of (base64_of blob) in
-    let ls = header ∷ comment_line comment ∷ rows ++ footer ∷ [] in
+    let ls = putty_header ∷ comment_line comment ∷ rows ++ putty_footer ∷ [] in
     record {
       before = [];
       between = quote comment;

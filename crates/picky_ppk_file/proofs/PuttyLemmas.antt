@@ -7,7 +7,7 @@ use Rattle.picky_text.specs.Lines.{text_of, end_bytes}
 use Rattle.picky_text.specs.Quote.{quote}
 use Rattle.picky_text.specs.declared.lines.LineEnd.{LineEnd}
 use Rattle.picky_text.specs.declared.lines.LineEnd.TheVariants.{CrLf}
-use Rattle.picky_ppk_file.specs.PuttyPublic.{header, footer, comment_start, comment_line, putty_public}
+use Rattle.picky_ppk_file.specs.PuttyPublic.{putty_header, putty_footer, comment_start, comment_line, putty_public}
 
 -- the text of some lines and one more
 text_of-push : (end : LineEnd) (ls : List (List ℕ)) (line : List ℕ)
@@ -27,11 +27,11 @@ failed false e f x same = refl
 pub putty_public_is : (blob comment : List ℕ) → putty_public blob comment
     ≡ ((((codes "---- BEGIN SSH2 PUBLIC KEY ----\r\n" ++ codes "Comment: \"") ++ quote comment) ++ codes "\"\r\n")
     ++ text_of CrLf (rows_of (base64_of blob))) ++ codes "---- END SSH2 PUBLIC KEY ----\r\n"
-unfolding putty_public header footer comment_start comment_line text_of
+unfolding putty_public putty_header putty_footer comment_start comment_line text_of
 putty_public_is blob comment =
     let rows = text_of CrLf (rows_of (base64_of blob)) in
     let end = codes "---- END SSH2 PUBLIC KEY ----\r\n" in
-    text_of-push CrLf (header ∷ comment_line comment ∷ rows_of (base64_of blob)) footer
+    text_of-push CrLf (putty_header ∷ comment_line comment ∷ rows_of (base64_of blob)) putty_footer
     ∙ ap (λ line. codes "---- BEGIN SSH2 PUBLIC KEY ----\r\nComment: \"" ++ ((line ++ rows) ++ end))
     (append_assoc (quote comment) (34 ∷ []) (13 ∷ 10 ∷ []))
 

@@ -12,11 +12,11 @@ use Rattle.picky_text.specs.declared.lines.LineEnd.TheVariants.{CrLf}
 use Rattle.picky_keys.specs.declared.key.SshPublicKey.{SshPublicKey}
 use Rattle.picky_keys.specs.Blob.{blob as layout}
 
-unfoldable pub header : List ℕ
-header = codes "---- BEGIN SSH2 PUBLIC KEY ----"
+unfoldable pub putty_header : List ℕ
+putty_header = codes "---- BEGIN SSH2 PUBLIC KEY ----"
 
-unfoldable pub footer : List ℕ
-footer = codes "---- END SSH2 PUBLIC KEY ----"
+unfoldable pub putty_footer : List ℕ
+putty_footer = codes "---- END SSH2 PUBLIC KEY ----"
 
 unfoldable pub comment_start : List ℕ
 comment_start = codes "Comment: "
@@ -31,12 +31,12 @@ comment_line comment = comment_start ++ 34 ∷ quote comment ++ 34 ∷ []
 pub record SpellsPuttyPublic (blob comment text : List ℕ) : Type 0 where
   pub rows : List (List ℕ)
   pub body : IsRowsOf (base64_of blob) rows
-  pub whole : text ≡ text_of CrLf (header ∷ comment_line comment ∷ rows ++ footer ∷ [])
+  pub whole : text ≡ text_of CrLf (putty_header ∷ comment_line comment ∷ rows ++ putty_footer ∷ [])
 
 -- the same, as a function
 unfoldable pub putty_public : List ℕ → List ℕ → List ℕ
 putty_public blob comment =
-    text_of CrLf (header ∷ comment_line comment ∷ rows_of (base64_of blob) ++ footer ∷ [])
+    text_of CrLf (putty_header ∷ comment_line comment ∷ rows_of (base64_of blob) ++ putty_footer ∷ [])
 
 -- ---- read
 
@@ -48,11 +48,11 @@ pub record SaysPuttyPublic (text blob comment : List ℕ) : Type 0 where
   pub after : List ℕ
   pub body : List (List ℕ)
   pub more : List (List ℕ)
-  pub whole : lines text ≡ header ∷ (comment_start ++ before ++ 34 ∷ between ++ 34 ∷ after) ∷ body ++ footer ∷ more
+  pub whole : lines text ≡ putty_header ∷ (comment_start ++ before ++ 34 ∷ between ++ 34 ∷ after) ∷ body ++ putty_footer ∷ more
   pub first_quote : HasNo 34 before
   pub last_quote : HasNo 34 after
   pub comment_is : comment ≡ unquote between
-  pub first_footer : AllByRecursion (λ line. line ≢ footer) body
+  pub first_footer : AllByRecursion (λ line. line ≢ putty_footer) body
   pub body_is : concat body ≡ base64_of blob
   pub bytes : IsBytes blob
   pub blob_short : length blob < 2 ^ 32

@@ -20,7 +20,7 @@ use Rattle.picky_ppk_parts.specs.declared.error.PuttyError.TheVariants as errors
 use Rattle.picky_ppk_parts.specs.PartsRefusal.{key_in_blob}
 use Rattle.picky_ppk_parts.specs.Unsupported.{no_security_keys}
 use Rattle.picky_ppk_file.specs.declared.putty_public.PuttyPublicKey.{PuttyPublicKey}
-use Rattle.picky_ppk_file.specs.PuttyPublic.{header, footer, comment_start, putty_public}
+use Rattle.picky_ppk_file.specs.PuttyPublic.{putty_header, putty_footer, comment_start, putty_public}
 
 -- ---- a text
 
@@ -41,7 +41,7 @@ quoted line = option_and_then between_quotes (behind comment_start line)
 unfoldable pub body_from : List ℕ → List (List ℕ) → Option (List ℕ)
 body_from so_far [] = None
 body_from so_far (line ∷ more) =
-    if bytes_eq line footer then Some so_far else body_from (so_far ++ line) more
+    if bytes_eq line putty_footer then Some so_far else body_from (so_far ++ line) more
 
 -- the key of what is quoted and of a blob
 abbrev pub of_blob : List ℕ → List ℕ → Result PuttyPublicKey PuttyError
@@ -58,14 +58,14 @@ abbrev pub after_comment : List ℕ → List (List ℕ) → Result PuttyPublicKe
 after_comment between ls = and_then (ok_or (body_from [] ls) errors.EndOfInput) (of_parts between)
 
 -- after the header
-abbrev pub after_header : List (List ℕ) → Result PuttyPublicKey PuttyError
-after_header [] = Err errors.EndOfInput
-after_header (line ∷ more) =
+abbrev pub after_putty_header : List (List ℕ) → Result PuttyPublicKey PuttyError
+after_putty_header [] = Err errors.EndOfInput
+after_putty_header (line ∷ more) =
     and_then (ok_or (quoted line) errors.InvalidPublicKeyComment) (λ between. after_comment between more)
 
 abbrev pub of_lines : List (List ℕ) → Result PuttyPublicKey PuttyError
 of_lines [] = Err errors.EndOfInput
-of_lines (line ∷ more) = if bytes_eq line header then after_header more else Err errors.InvalidPublicKeyContainer
+of_lines (line ∷ more) = if bytes_eq line putty_header then after_putty_header more else Err errors.InvalidPublicKeyContainer
 
 -- what the text says, or the first reason why it says nothing
 unfoldable pub putty_meaning : List ℕ → Result PuttyPublicKey PuttyError
@@ -84,15 +84,15 @@ abbrev pub is_security_key : SshBasePublicKey → Bool
 is_security_key key = is_security_key_kind (kind_of key)
 
 -- PuTTY's public key for an OpenSSH one
-unfoldable pub of_openssh : SshPublicKey → Result PuttyPublicKey PuttyError
-of_openssh key =
+unfoldable pub putty_of_openssh : SshPublicKey → Result PuttyPublicKey PuttyError
+putty_of_openssh key =
     if is_security_key key.inner_key then Err no_security_keys
     else if is_short (blob_of key.inner_key)
     then Ok (record { blob = blob_of key.inner_key; comment = key.comment }) else Err errors.TooLong
 
 -- OpenSSH's public key for PuTTY's
-unfoldable pub to_openssh : PuttyPublicKey → Result SshPublicKey PuttyError
-to_openssh key =
+unfoldable pub putty_to_openssh : PuttyPublicKey → Result SshPublicKey PuttyError
+putty_to_openssh key =
     and_then (key_in_blob key.blob) (λ inner. Ok (record { inner_key = inner; comment = key.comment }))
 
 -- the key in the blob, of a kind that PuTTY has
@@ -103,6 +103,6 @@ unfoldable pub plain_key_of : PuttyPublicKey → Result PublicKey PuttyError
 plain_key_of key = and_then (key_in_blob key.blob) plain_key
 
 -- the key with another comment
-unfoldable pub commented : PuttyPublicKey → List ℕ → Result PuttyPublicKey PuttyError
-commented key comment =
+unfoldable pub putty_commented : PuttyPublicKey → List ℕ → Result PuttyPublicKey PuttyError
+putty_commented key comment =
     if is_short comment then Ok (record key { comment = comment }) else Err errors.TooLong

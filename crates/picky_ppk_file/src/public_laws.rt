@@ -10,7 +10,7 @@ ghost use Rattle.picky_keys.specs.Key.{IsKey};
 ghost use Rattle.picky_keys.specs.Blob.{blob_of};
 ghost use Rattle.picky_ppk_file.specs.declared.putty_public.PuttyPublicKey.{PuttyPublicKey as Key};
 ghost use Rattle.picky_ppk_file.specs.PuttyPublic.{putty_public, IsPuttyPublic, SaysPuttyPublic, SpellsPuttyPublic};
-ghost use Rattle.picky_ppk_file.specs.PuttyRefusal.{putty_meaning, of_openssh, to_openssh};
+ghost use Rattle.picky_ppk_file.specs.PuttyRefusal.{putty_meaning, putty_of_openssh, putty_to_openssh};
 
 use crate::putty_public::PuttyPublicKey;
 
@@ -42,7 +42,7 @@ pub fn text_is_read_back()
 /// An OpenSSH key is read back from PuTTY's key for it.
 #[tactic(auto, using(crate::proofs::LawLemmas::key_laws))]
 pub fn openssh_key_is_read_back()
-    ensures { (key : SshKey) (putty : Key) → IsKey key.inner_key → of_openssh key ≡ Ok putty → to_openssh putty ≡ Ok key }
+    ensures { (key : SshKey) (putty : Key) → IsKey key.inner_key → putty_of_openssh key ≡ Ok putty → putty_to_openssh putty ≡ Ok key }
 {}
 
 /// What is written for a key means that key, and a text means a key exactly where it is read as it.
@@ -51,8 +51,8 @@ pub fn written_text_means_its_key()
     ensures written { (key : SshKey) → IsKey key.inner_key → HasNo 10 key.comment
         → length (blob_of key.inner_key) < 2 ^ 32 → length key.comment < 2 ^ 32
         → IsPuttyPublic (putty_public (blob_of key.inner_key) key.comment) key }
-    ensures means { (text : List ℕ) (key : SshKey) → IsPuttyPublic text key → and_then (putty_meaning text) to_openssh ≡ Ok key }
-    ensures says { (text : List ℕ) (key : SshKey) → IsBytes text → and_then (putty_meaning text) to_openssh ≡ Ok key
+    ensures means { (text : List ℕ) (key : SshKey) → IsPuttyPublic text key → and_then (putty_meaning text) putty_to_openssh ≡ Ok key }
+    ensures says { (text : List ℕ) (key : SshKey) → IsBytes text → and_then (putty_meaning text) putty_to_openssh ≡ Ok key
         → IsPuttyPublic text key }
 {}
 

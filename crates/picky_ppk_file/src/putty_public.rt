@@ -6,12 +6,12 @@ ghost use Rattle.picky_text.specs.Lines.{HasNo};
 ghost use Rattle.picky_wire_base.specs.Gives.{Gives};
 ghost use Rattle.picky_kv.specs.Joined.{joined_text};
 ghost use Rattle.picky_ppk_file.specs.PuttyPublic.{putty_public as text_of};
-ghost use Rattle.picky_ppk_file.specs.PuttyRefusal.{quoted as quoted_in, after_header as after_header_of};
+ghost use Rattle.picky_ppk_file.specs.PuttyRefusal.{quoted as quoted_in, after_putty_header};
 ghost use Rattle.picky_ppk_file.specs.PuttyRefusal.{after_comment as after_comment_of, body_from};
 ghost use Rattle.picky_ppk_file.specs.PuttyRefusal.{of_blob as of_blob_of, of_parts as of_parts_of, putty_meaning};
-ghost use Rattle.picky_ppk_file.specs.PuttyRefusal.{putty_text, is_security_key as is_security_key_of, of_openssh};
-ghost use Rattle.picky_ppk_file.specs.PuttyRefusal.{to_openssh as to_openssh_of, plain_key_of, plain_key as plain_of};
-ghost use Rattle.picky_ppk_file.specs.PuttyRefusal.{commented};
+ghost use Rattle.picky_ppk_file.specs.PuttyRefusal.{putty_text, is_security_key as is_security_key_of, putty_of_openssh};
+ghost use Rattle.picky_ppk_file.specs.PuttyRefusal.{putty_to_openssh, plain_key_of, plain_key as plain_of};
+ghost use Rattle.picky_ppk_file.specs.PuttyRefusal.{putty_commented};
 
 use picky_keys::{PublicKey, SshBasePublicKey, SshPublicKey};
 use picky_kv::JoinedLines;
@@ -92,7 +92,7 @@ impl PuttyPublicKey {
     /// The key in its one blob, and the comment. Refuses, in order: `NotSupported` (`SK keys`) for a key whose
     /// secret a device keeps; `TooLong`, where the blob has 2^32 bytes or more.
     pub fn from_openssh(alloc: Global, key: &SshPublicKey) -> Result<PuttyPublicKey, PuttyError>
-        ensures { Gives PuttyError.NoMemory (λ key. key) result (of_openssh key.now) }
+        ensures { Gives PuttyError.NoMemory (λ key. key) result (putty_of_openssh key.now) }
     {
         let comment = key.comment.try_clone(alloc)?;
         putty_key(alloc, &key.inner_key, comment)
@@ -100,7 +100,7 @@ impl PuttyPublicKey {
 
     /// The same of a key that is handed over, whose comment is moved and not copied. Refuses as `from_openssh`.
     pub fn take_openssh(alloc: Global, key: SshPublicKey) -> Result<PuttyPublicKey, PuttyError>
-        ensures { Gives PuttyError.NoMemory (λ key. key) result (of_openssh key) }
+        ensures { Gives PuttyError.NoMemory (λ key. key) result (putty_of_openssh key) }
     {
         let SshPublicKey { inner_key, comment } = key;
         let putty = putty_key(alloc, &inner_key, comment);
@@ -111,9 +111,9 @@ impl PuttyPublicKey {
     /// The key in the blob and the comment. What follows the blob's last field says nothing.
     ///
     /// Refuses, in order: `SshPublicKey` with what is wrong with the blob.
-    #[tactic(auto, unfolding(crate::specs::PuttyRefusal::to_openssh))]
+    #[tactic(auto, unfolding(crate::specs::PuttyRefusal::putty_to_openssh))]
     pub fn to_openssh(&self, alloc: Global) -> Result<SshPublicKey, PuttyError>
-        ensures { Gives PuttyError.NoMemory (λ key. key) result (to_openssh_of self.now) }
+        ensures { Gives PuttyError.NoMemory (λ key. key) result (putty_to_openssh self.now) }
     {
         match key_in_blob(alloc, &self.blob) {
             Ok(inner_key) => match self.comment.try_clone(alloc) {
@@ -128,9 +128,9 @@ impl PuttyPublicKey {
     }
 
     /// The same of a key that is handed over, whose comment is moved and not copied. Refuses as `to_openssh`.
-    #[tactic(auto, unfolding(crate::specs::PuttyRefusal::to_openssh))]
+    #[tactic(auto, unfolding(crate::specs::PuttyRefusal::putty_to_openssh))]
     pub fn into_openssh(self, alloc: Global) -> Result<SshPublicKey, PuttyError>
-        ensures { Gives PuttyError.NoMemory (λ key. key) result (to_openssh_of self) }
+        ensures { Gives PuttyError.NoMemory (λ key. key) result (putty_to_openssh self) }
     {
         match key_in_blob(alloc, &self.blob) {
             Ok(inner_key) => Ok(SshPublicKey {
@@ -149,9 +149,9 @@ impl PuttyPublicKey {
     }
 
     /// The same blob with another comment. Refuses, in order: `TooLong`, where it has 2^32 bytes or more.
-    #[tactic(auto, unfolding(crate::specs::PuttyRefusal::commented))]
+    #[tactic(auto, unfolding(crate::specs::PuttyRefusal::putty_commented))]
     pub fn with_comment(&self, alloc: Global, comment: &str) -> Result<PuttyPublicKey, PuttyError>
-        ensures { Gives PuttyError.NoMemory (λ key. key) result (commented self.now comment.now) }
+        ensures { Gives PuttyError.NoMemory (λ key. key) result (putty_commented self.now comment.now) }
     {
         let comment = match Text::new(alloc, comment) {
             Ok(comment) => comment,
@@ -185,7 +185,7 @@ impl TryClone for PuttyPublicKey {
 
 /// What a text says after its header.
 fn after_header(alloc: Global, lines: &mut LineReader<'_>) -> Result<PuttyPublicKey, PuttyError>
-    ensures { Gives PuttyError.NoMemory (λ key. key) result (after_header_of lines.old) }
+    ensures { Gives PuttyError.NoMemory (λ key. key) result (after_putty_header lines.old) }
 {
     match lines.next_line() {
         Some(line) => match quoted(line) {
@@ -299,13 +299,13 @@ fn text_string(alloc: Global, key: &PuttyPublicKey) -> Result<String, AllocError
 }
 
 /// The key in its one blob, with the comment.
-#[tactic(auto, unfolding(crate::specs::PuttyRefusal::of_openssh))]
+#[tactic(auto, unfolding(crate::specs::PuttyRefusal::putty_of_openssh))]
 fn putty_key(
     alloc: Global,
     inner_key: &SshBasePublicKey,
     comment: Text,
 ) -> Result<PuttyPublicKey, PuttyError>
-    ensures { Gives PuttyError.NoMemory (λ key. key) result (of_openssh (record { inner_key = inner_key.now; comment = comment })) }
+    ensures { Gives PuttyError.NoMemory (λ key. key) result (putty_of_openssh (record { inner_key = inner_key.now; comment = comment })) }
 {
     if is_security_key(inner_key) {
         return Err(no_security_keys(alloc));

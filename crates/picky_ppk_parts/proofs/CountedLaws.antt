@@ -17,10 +17,10 @@ use Rattle.picky_sshkey_blob.specs.declared.key.SshBasePrivateKey.{SshBasePrivat
 use Rattle.picky_sshkey_blob.specs.Key.{IsPrivateKey}
 use Rattle.picky_ppk_parts.specs.declared.key_parts.KeyParts.{KeyParts}
 use Rattle.picky_ppk_parts.specs.Algorithm.{algorithm_of, curve_algorithm}
-use Rattle.picky_ppk_parts.specs.Secret.{RsaSecret, rsa_secret, ed_secret, secret_bytes}
-use Rattle.picky_ppk_parts.specs.Secret.{rsa_fields, ec_fields, ed_fields, ppk_secret_fields}
+use Rattle.picky_ppk_parts.specs.Secret.{RsaSecret, rsa_secret, ppk_ed_secret, secret_bytes}
+use Rattle.picky_ppk_parts.specs.Secret.{ppk_rsa_fields, ppk_ec_fields, ppk_ed_fields, ppk_secret_fields}
 use Rattle.picky_ppk_parts.specs.Parts.{StandsForKey}
-use Rattle.picky_ppk_parts.specs.PartsRefusal.{flaw_error}
+use Rattle.picky_ppk_parts.specs.PartsRefusal.{parts_flaw_error}
 use Rattle.picky_ppk_parts.specs.KeyParts.{key_parts}
 use Rattle.picky_ppk_parts.specs.Counted.{strings, counted}
 use Rattle.picky_ppk_parts.proofs.CountedLemmas.{len_taken}
@@ -42,8 +42,8 @@ counted_front : (algorithm : PpkKeyAlgorithmValue) (private : List ℕ) (n : ℕ
 unfolding counted
 counted_front algorithm private n is =
     let layout = strings (mpint_values_count algorithm) in
-    let both = and_then_ok (map_err flaw_error (layout.read private)) (len_taken (length private)) n is in
-    let read = map_err_ok flaw_error (layout.read private) both.0 both.1 in
+    let both = and_then_ok (map_err parts_flaw_error (layout.read private)) (len_taken (length private)) n is in
+    let read = map_err_ok parts_flaw_error (layout.read private) both.0 both.1 in
     let taken : length private - length both.0.1 ≡ n = cc both.2 in
     let fits = layout.sound private both.0.0 both.0.1 read in
     record {
@@ -63,7 +63,7 @@ front_counted algorithm values front rest spells =
     let layout = strings (mpint_values_count algorithm) in
     let whole = length (front ++ rest) in
     let taken : whole - length rest ≡ length front = omega (arith, length-append front rest) in
-    ap (λ r. and_then (map_err flaw_error r) (len_taken whole)) (layout.complete values front rest spells) ∙ ap Ok taken
+    ap (λ r. and_then (map_err parts_flaw_error r) (len_taken whole)) (layout.complete values front rest spells) ∙ ap Ok taken
 
 front_taken : (private front rest : List ℕ) (n : ℕ) → private ≡ front ++ rest → length front ≡ n → take n private ≡ front
 front_taken private front rest n are len =
@@ -103,8 +103,8 @@ rsa_are_strings secret bytes (d, x1, y1, d_is, (p, x2, y2, p_is, (q, x3, y3, q_i
     mpint_then 3 d x1 y1 bytes d_is j1 (mpint_then 2 p x2 y2 y1 p_is j2
     (mpint_then 1 q x3 y3 y2 q_is j3 (mpint_then 0 iqmp x4 y4 y3 iqmp_is j4 (none_left y4 none))))
 
-ed_is_string : (secret bytes : List ℕ) → ed_secret.piece secret bytes → AreStrings 1 bytes
-unfolding ed_secret
+ed_is_string : (secret bytes : List ℕ) → ppk_ed_secret.piece secret bytes → AreStrings 1 bytes
+unfolding ppk_ed_secret
 ed_is_string secret bytes (a, spells, number) =
     (a ∷ [], subst (λ b. (strings 1).piece (a ∷ []) b) (append-nil bytes) (more_strings 0 a [] bytes [] spells (refl, refl)))
 
@@ -121,7 +121,7 @@ curve_counts_one NistP521 bytes are = are
 -- The secret's fields are the counted strings.
 fields_are_strings : (public : PublicKey) (key : SshBasePrivateKey) (bytes : List ℕ) → (ppk_secret_fields public).piece key bytes
     → AreStrings (mpint_values_count (algorithm_of public)) bytes
-unfolding rsa_fields ec_fields ed_fields
+unfolding ppk_rsa_fields ppk_ec_fields ppk_ed_fields
 fields_are_strings (plain.Rsa e n) key bytes (secret, x, y, spells, (is, none), joined) =
     whole 4 x y bytes (rsa_are_strings secret x spells) none joined
 fields_are_strings (plain.Ec curve point) key bytes (secret, x, y, spells, (is, none), joined) =

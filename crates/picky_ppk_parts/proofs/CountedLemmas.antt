@@ -13,13 +13,13 @@ use Rattle.picky_kv.specs.declared.algorithm.PpkKeyAlgorithmValue.{PpkKeyAlgorit
 use Rattle.picky_kv.specs.Algorithm.{mpint_values_count}
 use Rattle.picky_ppk_parts.specs.declared.error.PuttyError.{PuttyError}
 use Rattle.picky_ppk_parts.specs.declared.error.PuttyError.TheVariants as errors
-use Rattle.picky_ppk_parts.specs.PartsRefusal.{flaw_error}
+use Rattle.picky_ppk_parts.specs.PartsRefusal.{parts_flaw_error}
 use Rattle.picky_ppk_parts.specs.Counted.{strings, counted}
 
 -- how many bytes are taken once so many strings are read from a place on
 unfoldable pub end_from : ℕ → ℕ → List ℕ → Result ℕ PuttyError
 end_from more place private =
-    and_then (map_err flaw_error ((strings more).read (drop place private))) (λ found. Ok (length private - length found.1))
+    and_then (map_err parts_flaw_error ((strings more).read (drop place private))) (λ found. Ok (length private - length found.1))
 
 pub end_begins : (count left : ℕ) (algorithm : PpkKeyAlgorithmValue) (private : List ℕ)
     → count ≡ mpint_values_count algorithm → left ≡ count → end_from left 0 private ≡ counted algorithm private
@@ -36,7 +36,7 @@ abbrev pub len_taken : ℕ → List (List ℕ) × List ℕ → Result ℕ PuttyE
 len_taken n found = Ok (n - length found.1)
 
 tail_same : (r : Result (List (List ℕ) × List ℕ) Flaw) (v : List ℕ) (n : ℕ)
-    → and_then (map_err flaw_error (and_then r (with_first v))) (len_taken n) ≡ and_then (map_err flaw_error r) (len_taken n)
+    → and_then (map_err parts_flaw_error (and_then r (with_first v))) (len_taken n) ≡ and_then (map_err parts_flaw_error r) (len_taken n)
 tail_same (Ok x) v n = refl
 tail_same (Err flaw) v n = refl
 
@@ -44,7 +44,7 @@ end_next : (more place next : ℕ) (v private : List ℕ) → string.read (drop 
     → end_from (suc more) place private ≡ end_from more next private
 unfolding end_from
 end_next more place next v private is =
-    ap (λ r. and_then (map_err flaw_error (and_then r (string_then more))) (len_taken (length private))) is
+    ap (λ r. and_then (map_err parts_flaw_error (and_then r (string_then more))) (len_taken (length private))) is
     ∙ tail_same ((strings more).read (drop next private)) v (length private)
 
 -- a string is taken
@@ -65,7 +65,7 @@ end_short : (more place : ℕ) (private : List ℕ) → string.read (drop place 
     → end_from (suc more) place private ≡ Err (errors.IoError kinds.UnexpectedEnd)
 unfolding end_from
 end_short more place private is =
-    ap (λ r. and_then (map_err flaw_error (and_then r (string_then more))) (len_taken (length private))) is
+    ap (λ r. and_then (map_err parts_flaw_error (and_then r (string_then more))) (len_taken (length private))) is
 
 flaw_of : (r : Result (List ℕ × List ℕ) Flaw) (stuck : Stuck) → map_err Flawed r ≡ Err (why_of stuck)
     → (flaw : Flaw) × (r ≡ Err flaw)

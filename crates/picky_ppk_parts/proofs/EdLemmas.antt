@@ -21,7 +21,7 @@ use Rattle.picky_wire_base.specs.View.{Seen, Lies, Places, end_of, part_bytes, w
 use Rattle.picky_ppk_parts.specs.Number.{padded_number}
 use Rattle.picky_ppk_parts.specs.carried.Number.{padded_len, number_complete}
 use Rattle.picky_ppk_parts.specs.EdSecret.{as_number}
-use Rattle.picky_ppk_parts.specs.Secret.{ed_secret}
+use Rattle.picky_ppk_parts.specs.Secret.{ppk_ed_secret}
 use Rattle.picky_ppk_parts.specs.inner.View.{ed_seen}
 
 -- the number of an mpint is what follows the zeros of its string
@@ -44,8 +44,8 @@ string_in bytes v rest is =
 -- ---- read
 
 ed_reads : (bytes v rest secret : List ℕ) → HasNumber bytes v rest → length v ≤ 32 → secret ≡ padded_number v
-    → ed_secret.read bytes ≡ Ok (secret, rest)
-unfolding ed_secret
+    → ppk_ed_secret.read bytes ≡ Ok (secret, rest)
+unfolding ppk_ed_secret
 ed_reads bytes v rest secret has short is =
     let number = number_is has.content v has.stands in
     let len : length secret ≡ 32 = ap length is ∙ padded_len v short in
@@ -57,8 +57,8 @@ ed_reads bytes v rest secret has short is =
 
 pub ed_is_seen : (private : List ℕ) (part : Part) (next : ℕ)
     → Seen part_bytes (Lies private (end_of mpint private 0)) Flawed mpint private 0 (Ok (part, next))
-    → length part.bytes.now ≤ 32 → Seen {X = Part} ed_seen (λ _. ⊤) why_in ed_secret private 0 (Ok (part, next))
-unfolding mpint ed_secret
+    → length part.bytes.now ≤ 32 → Seen {X = Part} ed_seen (λ _. ⊤) why_in ppk_ed_secret private 0 (Ok (part, next))
+unfolding mpint ppk_ed_secret
 ed_is_seen private part next seen short = record {
   sees = ed_reads private part.bytes.now (drop next private) (ed_seen part)
       (string_in private part.bytes.now (drop next private) seen.sees) short refl;
@@ -67,8 +67,8 @@ ed_is_seen private part next seen short = record {
 
 -- ---- too long
 
-ed_refuses : (bytes v rest : List ℕ) → HasNumber bytes v rest → 32 < length v → ed_secret.read bytes ≡ Err (0, Length)
-unfolding ed_secret
+ed_refuses : (bytes v rest : List ℕ) → HasNumber bytes v rest → 32 < length v → ppk_ed_secret.read bytes ≡ Err (0, Length)
+unfolding ppk_ed_secret
 ed_refuses bytes v rest has long =
     let number = number_is has.content v has.stands in
     ap (λ r. and_then (map_err (placed 0) r) (meant (as_number (0, Length)))) has.read
@@ -78,7 +78,7 @@ ed_refuses bytes v rest has long =
 pub ed_is_long : (private : List ℕ) (part : Part) (next : ℕ)
     → Seen part_bytes (Lies private (end_of mpint private 0)) Flawed mpint private 0 (Ok (part, next))
     → 32 < length part.bytes.now
-    → Seen {X = Part} ed_seen (λ _. ⊤) why_in ed_secret private 0 (Err stucks.Length)
+    → Seen {X = Part} ed_seen (λ _. ⊤) why_in ppk_ed_secret private 0 (Err stucks.Length)
 ed_is_long private part next seen long = record {
   sees = ap (map_err why_in) (ed_refuses private part.bytes.now (drop next private)
       (string_in private part.bytes.now (drop next private) seen.sees) long);
@@ -101,8 +101,8 @@ short_why bytes why few refused =
       | inr big ↦ absurd (mpint_within_is_not_big bytes few (found.1 ∙ ap Err big))
     ]
 
-ed_is_cut : (bytes : List ℕ) → mpint.read bytes ≡ Err Short → ed_secret.read bytes ≡ Err (0, Flawed Short)
-unfolding ed_secret
+ed_is_cut : (bytes : List ℕ) → mpint.read bytes ≡ Err Short → ppk_ed_secret.read bytes ≡ Err (0, Flawed Short)
+unfolding ppk_ed_secret
 ed_is_cut bytes short =
     let cut = (string_is_short.short bytes).1 ((mpint_is_short bytes).0 short) in
     ap (λ r. and_then (map_err (placed 0) r) (meant (as_number (0, Length)))) cut
@@ -117,12 +117,12 @@ no_name blob end (stucks.Number n) is = tt
 
 pub ed_is_short : (private : List ℕ) (stuck : Stuck) → length private < 2 ^ 32
     → Seen part_bytes (Lies private (end_of mpint private 0)) Flawed mpint private 0 (Err stuck)
-    → Seen {X = Part} ed_seen (λ _. ⊤) why_in ed_secret private 0 (Err stuck)
+    → Seen {X = Part} ed_seen (λ _. ⊤) why_in ppk_ed_secret private 0 (Err stuck)
 ed_is_short private stuck few seen =
     let found = short_why private (why_of stuck) few seen.sees in
     record {
       sees = ap (map_err why_in) (ed_is_cut private found.0) ∙ ap Err found.1;
-      placed = no_name private (end_of ed_secret private 0) stuck found.1;
+      placed = no_name private (end_of ppk_ed_secret private 0) stuck found.1;
     }
 
 pub ruleset ed_at_front = (ed_is_seen, ed_is_long, ed_is_short)

@@ -18,7 +18,7 @@ use Rattle.picky_sshkey_blob.proofs.KeyLaws.{public_part_is_key}
 use Rattle.picky_ppk_parts.specs.declared.error.PuttyError.TheVariants as errors
 use Rattle.picky_ppk_parts.specs.declared.key_parts.KeyParts.{KeyParts}
 use Rattle.picky_ppk_parts.specs.Algorithm.{algorithm_of, curve_algorithm, ssh_key_of}
-use Rattle.picky_ppk_parts.specs.Secret.{rsa_secret, ed_secret, rsa_fields, ec_fields, ed_fields, ppk_secret_fields}
+use Rattle.picky_ppk_parts.specs.Secret.{rsa_secret, ppk_ed_secret, ppk_rsa_fields, ppk_ec_fields, ppk_ed_fields, ppk_secret_fields}
 use Rattle.picky_ppk_parts.specs.Secret.{secret_bytes}
 use Rattle.picky_ppk_parts.specs.{Parts.{StandsForKey}, PartsRefusal.{parts_key}}
 use Rattle.picky_ppk_parts.specs.KeyParts.{blob_within, parts_under, key_parts}
@@ -37,8 +37,8 @@ without_zeros_within v =
     omega (arith, ap length front.1, length_with_zeros front.0 (without_zeros v))
 
 -- Also with zeros in front, and where all is zero.
-ed_spells : (secret : List ℕ) → length secret ≡ 32 → ed_secret.piece secret (mpint_of (without_zeros secret))
-unfolding ed_secret mpint_of
+ed_spells : (secret : List ℕ) → length secret ≡ 32 → ppk_ed_secret.piece secret (mpint_of (without_zeros secret))
+unfolding ppk_ed_secret mpint_of
 ed_spells secret len =
     let number = without_zeros secret in
     let begins = no_zero_begins secret in
@@ -48,8 +48,8 @@ ed_spells secret len =
     (with_sign number, string_spells (with_sign number) short, (len, both.0))
 
 rsa_spells : (n e d iqmp p q : List ℕ) → IsMagnitude d → IsMagnitude p → IsMagnitude q → IsMagnitude iqmp
-    → (rsa_fields e n).piece (keys.Rsa n e d iqmp p q) (secret_bytes (keys.Rsa n e d iqmp p q))
-unfolding rsa_fields rsa_secret secret_bytes
+    → (ppk_rsa_fields e n).piece (keys.Rsa n e d iqmp p q) (secret_bytes (keys.Rsa n e d iqmp p q))
+unfolding ppk_rsa_fields rsa_secret secret_bytes
 rsa_spells n e d iqmp p q d_is p_is q_is iqmp_is = (
   record { d = d; p = p; q = q; iqmp = iqmp },
   _,
@@ -60,14 +60,14 @@ rsa_spells n e d iqmp p q d_is p_is q_is iqmp_is = (
 )
 
 ec_spells : (curve : EcCurve) (point secret : List ℕ) → IsMagnitude secret
-    → (ec_fields curve point).piece (keys.Ec curve point secret) (secret_bytes (keys.Ec curve point secret))
-unfolding ec_fields secret_bytes
+    → (ppk_ec_fields curve point).piece (keys.Ec curve point secret) (secret_bytes (keys.Ec curve point secret))
+unfolding ppk_ec_fields secret_bytes
 ec_spells curve point secret is =
     (secret, mpint_of secret, [], mpint_spells secret is, (refl, refl), sym (append-nil (mpint_of secret)))
 
 ed_fields_spell : (secret public : List ℕ) → length secret ≡ 32
-    → (ed_fields public).piece (keys.Ed secret public) (secret_bytes (keys.Ed secret public))
-unfolding ed_fields secret_bytes
+    → (ppk_ed_fields public).piece (keys.Ed secret public) (secret_bytes (keys.Ed secret public))
+unfolding ppk_ed_fields secret_bytes
 ed_fields_spell secret public len =
     let bytes = mpint_of (without_zeros secret) in
     (secret, bytes, [], ed_spells secret len, (refl, refl), sym (append-nil bytes))

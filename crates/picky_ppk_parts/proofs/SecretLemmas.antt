@@ -13,8 +13,8 @@ use Rattle.picky_keys.specs.declared.curve.EcCurve.{EcCurve}
 use Rattle.picky_keys.specs.declared.public_key.PublicKey.TheVariants as plain
 use Rattle.picky_sshkey_blob.specs.declared.key.SshBasePrivateKey.{SshBasePrivateKey}
 use Rattle.picky_sshkey_blob.specs.declared.key.SshBasePrivateKey.TheVariants as keys
-use Rattle.picky_ppk_parts.specs.Secret.{RsaSecret, rsa_secret, ed_secret, rsa_key, rsa_fields, ec_fields, ed_fields}
-use Rattle.picky_ppk_parts.specs.PartsRefusal.{why_error, secret_error, key_with_secret}
+use Rattle.picky_ppk_parts.specs.Secret.{RsaSecret, rsa_secret, ppk_ed_secret, rsa_key, ppk_rsa_fields, ppk_ec_fields, ppk_ed_fields}
+use Rattle.picky_ppk_parts.specs.PartsRefusal.{parts_why_error, secret_error, key_with_secret}
 use Rattle.picky_ppk_parts.specs.inner.View.{AreNumbers}
 
 -- ---- a secret, and the key that is made of it
@@ -27,10 +27,10 @@ key_in_front first = Ok first.0
 
 made_refused : {A : Type 0} (f : A → SshBasePrivateKey) (r : Result (A × List ℕ) Reason) (why : Why)
     → map_err why_in r ≡ Err why
-    → map_err secret_error (and_then (and_then r (made f)) key_in_front) ≡ Err (why_error why)
+    → map_err secret_error (and_then (and_then r (made f)) key_in_front) ≡ Err (parts_why_error why)
 made_refused f (Ok x) why refused = cc refused
 made_refused f (Err reason) why refused =
-    let same : reason.1 ≡ why = cc refused in ap (λ w. Err (why_error w)) same
+    let same : reason.1 ≡ why = cc refused in ap (λ w. Err (parts_why_error w)) same
 
 key_of_read : {A : Type 0} (G : Grammar Reason A) (f : A → SshBasePrivateKey) (bytes rest : List ℕ) (a : A)
     → G.read bytes ≡ Ok (a, rest) → map_err secret_error (read_front (G >>= (λ s. done (f s))) bytes) ≡ Ok (f a)
@@ -38,19 +38,19 @@ key_of_read G f bytes rest a is = ap (λ r. map_err secret_error (and_then (and_
 
 key_of_refused : {A : Type 0} (G : Grammar Reason A) (f : A → SshBasePrivateKey) (bytes : List ℕ) (why : Why)
     → map_err why_in (G.read bytes) ≡ Err why
-    → map_err secret_error (read_front (G >>= (λ s. done (f s))) bytes) ≡ Err (why_error why)
+    → map_err secret_error (read_front (G >>= (λ s. done (f s))) bytes) ≡ Err (parts_why_error why)
 key_of_refused G f bytes why refused = made_refused f (G.read bytes) why refused
 
 -- ---- RSA
 
 pub rsa_key_read : (e n private rest : List ℕ) (secret : RsaSecret) → rsa_secret.read private ≡ Ok (secret, rest)
     → key_with_secret (plain.Rsa e n) private ≡ Ok (rsa_key e n secret)
-unfolding key_with_secret rsa_fields
+unfolding key_with_secret ppk_rsa_fields
 rsa_key_read e n private rest secret is = key_of_read rsa_secret (rsa_key e n) private rest secret is
 
 pub rsa_key_refused : (e n private : List ℕ) (why : Why) → map_err why_in (rsa_secret.read private) ≡ Err why
-    → key_with_secret (plain.Rsa e n) private ≡ Err (why_error why)
-unfolding key_with_secret rsa_fields
+    → key_with_secret (plain.Rsa e n) private ≡ Err (parts_why_error why)
+unfolding key_with_secret ppk_rsa_fields
 rsa_key_refused e n private why refused = key_of_refused rsa_secret (rsa_key e n) private why refused
 
 mpint_is : (v bytes : List ℕ) → mpint.piece v bytes → IsMagnitude v
@@ -84,14 +84,14 @@ same_why i (Err flaw) = refl
 
 pub ec_key_read : (curve : EcCurve) (point private rest secret : List ℕ) → mpint.read private ≡ Ok (secret, rest)
     → key_with_secret (plain.Ec curve point) private ≡ Ok (keys.Ec curve point secret)
-unfolding key_with_secret ec_fields
+unfolding key_with_secret ppk_ec_fields
 ec_key_read curve point private rest secret is =
     key_of_read (at 0 mpint) (keys.Ec curve point) private rest secret (ap (map_err (placed 0)) is)
 
 pub ec_key_refused : (curve : EcCurve) (point private : List ℕ) (why : Why)
     → map_err Flawed (mpint.read private) ≡ Err why
-    → key_with_secret (plain.Ec curve point) private ≡ Err (why_error why)
-unfolding key_with_secret ec_fields
+    → key_with_secret (plain.Ec curve point) private ≡ Err (parts_why_error why)
+unfolding key_with_secret ppk_ec_fields
 ec_key_refused curve point private why refused =
     key_of_refused (at 0 mpint) (keys.Ec curve point) private why (same_why 0 (mpint.read private) ∙ refused)
 
@@ -104,16 +104,16 @@ pub ruleset ec_keys = (ec_key_read, ec_key_refused, ec_number)
 
 -- ---- Ed25519
 
-pub ed_key_read : (public private rest secret : List ℕ) → ed_secret.read private ≡ Ok (secret, rest)
+pub ed_key_read : (public private rest secret : List ℕ) → ppk_ed_secret.read private ≡ Ok (secret, rest)
     → key_with_secret (plain.Ed public) private ≡ Ok (keys.Ed secret public)
-unfolding key_with_secret ed_fields
+unfolding key_with_secret ppk_ed_fields
 ed_key_read public private rest secret is =
-    key_of_read ed_secret (λ s. keys.Ed s public) private rest secret is
+    key_of_read ppk_ed_secret (λ s. keys.Ed s public) private rest secret is
 
-pub ed_key_refused : (public private : List ℕ) (why : Why) → map_err why_in (ed_secret.read private) ≡ Err why
-    → key_with_secret (plain.Ed public) private ≡ Err (why_error why)
-unfolding key_with_secret ed_fields
+pub ed_key_refused : (public private : List ℕ) (why : Why) → map_err why_in (ppk_ed_secret.read private) ≡ Err why
+    → key_with_secret (plain.Ed public) private ≡ Err (parts_why_error why)
+unfolding key_with_secret ppk_ed_fields
 ed_key_refused public private why refused =
-    key_of_refused ed_secret (λ s. keys.Ed s public) private why refused
+    key_of_refused ppk_ed_secret (λ s. keys.Ed s public) private why refused
 
 pub ruleset ed_keys = (ed_key_read, ed_key_refused)

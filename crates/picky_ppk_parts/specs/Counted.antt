@@ -8,7 +8,7 @@ use Rattle.picky_wire_base.specs.Wire.{string}
 use Rattle.picky_kv.specs.declared.algorithm.PpkKeyAlgorithmValue.{PpkKeyAlgorithmValue}
 use Rattle.picky_kv.specs.Algorithm.{mpint_values_count}
 use Rattle.picky_ppk_parts.specs.declared.error.PuttyError.{PuttyError}
-use Rattle.picky_ppk_parts.specs.PartsRefusal.{flaw_error}
+use Rattle.picky_ppk_parts.specs.PartsRefusal.{parts_flaw_error}
 
 -- so many strings, one after another
 abbrev pub strings : ℕ → Grammar Flaw (List (List ℕ))
@@ -21,5 +21,5 @@ strings (suc more) = do
 -- how many bytes the counted strings take
 unfoldable pub counted : PpkKeyAlgorithmValue → List ℕ → Result ℕ PuttyError
 counted algorithm private =
-    and_then (map_err flaw_error ((strings (mpint_values_count algorithm)).read private))
+    and_then (map_err parts_flaw_error ((strings (mpint_values_count algorithm)).read private))
     (λ found. Ok (length private - length found.1))

@@ -15,21 +15,21 @@ use Rattle.picky_ppk_parts.specs.Algorithm.{key_under}
 use Rattle.picky_ppk_parts.specs.Secret.{ppk_secret_fields}
 
 -- the error for what is wrong with a field of the private bytes, which have no text
-abbrev pub flaw_error : Flaw → PuttyError
-flaw_error Short = errors.IoError kinds.UnexpectedEnd
-flaw_error NotUtf8 = errors.InvalidPrivateKeyData
-flaw_error Big = errors.TooLong
+abbrev pub parts_flaw_error : Flaw → PuttyError
+parts_flaw_error Short = errors.IoError kinds.UnexpectedEnd
+parts_flaw_error NotUtf8 = errors.InvalidPrivateKeyData
+parts_flaw_error Big = errors.TooLong
 
 -- and no name, no magic and no number; a length is that of an Ed25519 secret
-abbrev pub why_error : Why → PuttyError
-why_error (Flawed flaw) = flaw_error flaw
-why_error Length = errors.InvalidPrivateKeyData
-why_error Magic = errors.InvalidPrivateKeyData
-why_error (Name name) = errors.InvalidPrivateKeyData
-why_error (Number n) = errors.InvalidPrivateKeyData
+abbrev pub parts_why_error : Why → PuttyError
+parts_why_error (Flawed flaw) = parts_flaw_error flaw
+parts_why_error Length = errors.InvalidPrivateKeyData
+parts_why_error Magic = errors.InvalidPrivateKeyData
+parts_why_error (Name name) = errors.InvalidPrivateKeyData
+parts_why_error (Number n) = errors.InvalidPrivateKeyData
 
 abbrev pub secret_error : Reason → PuttyError
-secret_error reason = why_error reason.1
+secret_error reason = parts_why_error reason.1
 
 -- the key of a public key and the secret that the private bytes begin with
 unfoldable pub key_with_secret : PublicKey → List ℕ → Result SshBasePrivateKey PuttyError

@@ -36,35 +36,35 @@ rsa_secret = do
   done (record { d = d; p = p; q = q; iqmp = iqmp })
 
 -- a string whose bytes are, as a number, the 32 of the secret
-unfoldable pub ed_secret : Grammar Reason (List ℕ)
-ed_secret = narrow (at 0 string) (as_number (0, Length))
+unfoldable pub ppk_ed_secret : Grammar Reason (List ℕ)
+ppk_ed_secret = narrow (at 0 string) (as_number (0, Length))
 
 -- ---- the key of a public key and its secret
 
 abbrev pub rsa_key : (e n : List ℕ) → RsaSecret → SshBasePrivateKey
 rsa_key e n s = keys.Rsa n e s.d s.iqmp s.p s.q
 
-unfoldable pub rsa_fields : (e n : List ℕ) → Grammar Reason SshBasePrivateKey
-rsa_fields e n = do
+unfoldable pub ppk_rsa_fields : (e n : List ℕ) → Grammar Reason SshBasePrivateKey
+ppk_rsa_fields e n = do
   secret ← rsa_secret
   done (rsa_key e n secret)
 
 -- mpint secret
-unfoldable pub ec_fields : EcCurve → List ℕ → Grammar Reason SshBasePrivateKey
-ec_fields curve point = do
+unfoldable pub ppk_ec_fields : EcCurve → List ℕ → Grammar Reason SshBasePrivateKey
+ppk_ec_fields curve point = do
   secret ← at 0 mpint
   done (keys.Ec curve point secret)
 
-unfoldable pub ed_fields : List ℕ → Grammar Reason SshBasePrivateKey
-ed_fields public = do
-  secret ← ed_secret
+unfoldable pub ppk_ed_fields : List ℕ → Grammar Reason SshBasePrivateKey
+ppk_ed_fields public = do
+  secret ← ppk_ed_secret
   done (keys.Ed secret public)
 
 -- the public key says which secret follows
 abbrev pub ppk_secret_fields : PublicKey → Grammar Reason SshBasePrivateKey
-ppk_secret_fields (plain.Rsa e n) = rsa_fields e n
-ppk_secret_fields (plain.Ec curve point) = ec_fields curve point
-ppk_secret_fields (plain.Ed public) = ed_fields public
+ppk_secret_fields (plain.Rsa e n) = ppk_rsa_fields e n
+ppk_secret_fields (plain.Ec curve point) = ppk_ec_fields curve point
+ppk_secret_fields (plain.Ed public) = ppk_ed_fields public
 
 -- ---- the one spelling that is written; PuTTY has no key whose secret a device keeps
 

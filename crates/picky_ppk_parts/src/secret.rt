@@ -7,8 +7,8 @@ ghost use Rattle.picky_wire_base.specs.Mpint.{mpint};
 ghost use Rattle.picky_wire_base.specs.View.{Seen, part_bytes, why_in, why_of};
 ghost use Rattle.picky_wire_base.specs.Gives.{Gives};
 ghost use Rattle.picky_ppk_parts.specs.Number.{padded_number as padded_of};
-ghost use Rattle.picky_ppk_parts.specs.Secret.{rsa_secret, ed_secret, rsa_key as rsa_key_of};
-ghost use Rattle.picky_ppk_parts.specs.PartsRefusal.{why_error, key_with_secret as key_with_secret_of};
+ghost use Rattle.picky_ppk_parts.specs.Secret.{rsa_secret, ppk_ed_secret, rsa_key as rsa_key_of};
+ghost use Rattle.picky_ppk_parts.specs.PartsRefusal.{parts_why_error, key_with_secret as key_with_secret_of};
 ghost use Rattle.picky_ppk_parts.specs.inner.View.{rsa_seen, ed_seen, AreNumbers};
 ghost use Rattle.picky_keys.specs.declared.public_key.PublicKey.TheVariants as plain;
 
@@ -131,7 +131,7 @@ fn rsa_at<'a>(private: &'a [u8]) -> Result<(RsaParts<'a>, usize), Stuck<'a>>
 #[tactic(auto, using(crate::proofs::EdLemmas::ed_at_front))]
 fn ed_at<'a>(private: &'a [u8]) -> Result<(Part<'a>, usize), Stuck<'a>>
     requires { length private.now < 2 ^ 32 }
-    ensures seen { Seen ed_seen (λ _. ⊤) why_in ed_secret private.now 0 result }
+    ensures seen { Seen ed_seen (λ _. ⊤) why_in ppk_ed_secret private.now 0 result }
     ensures short { IfOk result (λ found. length found.0.bytes.now ≤ 32) }
 {
     match mpint_at(private, 0) {
@@ -182,7 +182,7 @@ fn rsa_copy(
 
 /// The error of private bytes that are stuck at a field.
 fn private_bytes_refusal(stuck: Stuck<'_>) -> PuttyError
-    ensures { result ≡ why_error (why_of stuck.entry) }
+    ensures { result ≡ parts_why_error (why_of stuck.entry) }
 {
     match stuck {
         Stuck::Short => PuttyError::IoError(IoKind::UnexpectedEnd),

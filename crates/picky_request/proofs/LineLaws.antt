@@ -12,7 +12,7 @@ use Rattle.picky_text.specs.Lines.{HasNo}
 use Rattle.picky_text.proofs.ListLaws.{all_append, cut_at_first}
 use Rattle.picky_cert_parts.specs.declared.cert_type.SshCertType.{SshCertType}
 use Rattle.picky_cert_parts.specs.declared.cert_type.SshCertType.TheVariants.{Client, Host}
-use Rattle.picky_wire.specs.Moment.{moment}
+use Rattle.picky_wire.specs.Moment.{timestamp_at}
 use Rattle.picky_keys.specs.declared.error.SshPublicKeyError.{SshPublicKeyError}
 use Rattle.picky_keys.specs.{declared.key.SshPublicKey.{SshPublicKey}, LineRefusal.{is_short, line_meaning}}
 use Rattle.picky_keys.proofs.LineLaws.{line_meaning_of, line_meaning_says}
@@ -220,8 +220,8 @@ request_of_words line w r each short are id says =
       id = w.id;
       cert_type = cert_type.0;
       principals = principals.0;
-      valid_after = moment after.0;
-      valid_before = moment before.0;
+      valid_after = timestamp_at after.0;
+      valid_before = timestamp_at before.0;
       key = key.0;
     } in
     let is : IsRequestLine line request = record {
@@ -269,8 +269,8 @@ said_is w r id kind principals after before key =
       id = name;
       cert_type = q.cert_type;
       principals = q.principals;
-      valid_after = moment q.valid_after.0;
-      valid_before = moment q.valid_before.0;
+      valid_after = timestamp_at q.valid_after.0;
+      valid_before = timestamp_at q.valid_before.0;
       key = q.key;
     }
 

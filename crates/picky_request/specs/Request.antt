@@ -5,7 +5,7 @@ use Rattle.std.specs.Fmt.{decimal}
 use Rattle.std.specs.List.{after_first, before_first, position_or_len}
 use Rattle.std.specs.Result.{result_ok}
 use Rattle.picky_text.specs.Lines.{HasNo}
-use Rattle.picky_wire.specs.Moment.{moment}
+use Rattle.picky_wire.specs.Moment.{timestamp_at}
 use Rattle.picky_keys.specs.Line.{IsPublicLine}
 use Rattle.picky_keys.specs.LineRefusal.{is_short, line_meaning}
 use Rattle.picky_issuing.specs.Steps.{some_then}
@@ -81,8 +81,8 @@ said_by w =
       id = w.id;
       cert_type = cert_type;
       principals = principals;
-      valid_after = moment after;
-      valid_before = moment before;
+      valid_after = timestamp_at after;
+      valid_before = timestamp_at before;
       key = key;
     }))))))
 

@@ -10,7 +10,7 @@ use Rattle.picky_sshkey_blob.specs.declared.error.SshPrivateKeyError.TheVariants
 use Rattle.picky_sshkey.specs.declared.private_key.SshPrivateKey.{SshPrivateKey}
 use Rattle.picky_sshkey.specs.Encodes.{Encodes}
 use Rattle.picky_sshkey.specs.Opened.{Lock}
-use Rattle.picky_sshkey.specs.Written.{content_under, is_kept, key_content, sealable, writing_asks}
+use Rattle.picky_sshkey.specs.Written.{content_under, is_kept, key_content, sealable, key_writing_asks}
 
 -- a suite that is asked is asked for some content
 asked_has : {A : Type 0} (r : Result (Option Lock) SshPrivateKeyError) (next : Option Lock → A) (e : SshPrivateKeyError)
@@ -33,9 +33,9 @@ refused_answer A tells written faults (Err f) asked rose e s has (inr (inr is)) 
 -- where no content is made, nothing is written
 pub nothing_encoded : (A : Type 0) {X W : Type 0} (tells : W → Type 0) (written : W → List ℕ) (faults : W → ℕ) (m : Meanings)
     (key : SshPrivateKey) (view : X → List ℕ) (rose : Type 0) (e : SshPrivateKeyError) (s : W)
-    → GivesAsked errors.NoMemory errors.SuiteFault view (Err e) (key_content m key) (writing_asks key) rose
-    → Encodes {A = A} tells written faults (key_content m key) (writing_asks key) rose (Err e) s s
-unfolding key_content writing_asks
+    → GivesAsked errors.NoMemory errors.SuiteFault view (Err e) (key_content m key) (key_writing_asks key) rose
+    → Encodes {A = A} tells written faults (key_content m key) (key_writing_asks key) rose (Err e) s s
+unfolding key_content key_writing_asks
 nothing_encoded A tells written faults m key view rose e s gives =
     refused_answer A tells written faults _ _ rose e s
     (λ asked f is. asked_has (sealable length key) (content_under m key) f asked is) gives

@@ -7,15 +7,15 @@ use Rattle.picky_keys.specs.declared.curve.EcCurve.TheVariants.{NistP256}
 use Rattle.picky_keys.proofs.ByteLaws.{bytes_joined, string_bytes_each, mpint_bytes_each, no_bytes, name_bytes, identifier_bytes}
 use Rattle.picky_sshkey_blob.specs.declared.key.SshBasePrivateKey.{SshBasePrivateKey}
 use Rattle.picky_sshkey_blob.specs.declared.key.SshBasePrivateKey.TheVariants as keys
-use Rattle.picky_sshkey_blob.specs.Key.{IsPrivateKey, kind_of}
-use Rattle.picky_sshkey_blob.specs.Blob.{fields_spelled, secret_of}
+use Rattle.picky_sshkey_blob.specs.Key.{IsPrivateKey, private_kind_of}
+use Rattle.picky_sshkey_blob.specs.Blob.{private_fields_spelled, secret_of}
 
 byte_bytes : (n : ℕ) → IsBytes (to_be_bytes w8 n)
 byte_bytes n zero = omega arith
 byte_bytes n (suc i) = omega arith
 
-private_fields_bytes : (key : SshBasePrivateKey) → IsPrivateKey key → IsBytes (fields_spelled key)
-unfolding fields_spelled
+private_fields_bytes : (key : SshBasePrivateKey) → IsPrivateKey key → IsBytes (private_fields_spelled key)
+unfolding private_fields_spelled
 private_fields_bytes (keys.Rsa n e d iqmp p q) is =
     bytes_joined _ _ (mpint_bytes_each n is.0.bytes) (bytes_joined _ _ (mpint_bytes_each e is.1.bytes)
     (bytes_joined _ _ (mpint_bytes_each d is.2.bytes) (bytes_joined _ _ (mpint_bytes_each iqmp is.3.bytes)
@@ -44,4 +44,4 @@ private_fields_bytes (keys.SkEd25519 key application flags handle) is =
 pub secret_is_bytes : (key : SshBasePrivateKey) → IsPrivateKey key → IsBytes (secret_of key)
 unfolding secret_of
 secret_is_bytes key is =
-    bytes_joined _ _ (string_bytes_each _ (name_bytes (kind_of key))) (private_fields_bytes key is)
+    bytes_joined _ _ (string_bytes_each _ (name_bytes (private_kind_of key))) (private_fields_bytes key is)

@@ -12,7 +12,7 @@ use Rattle.picky_sshkey.specs.Opened.{Lock}
 use Rattle.picky_sshkey.specs.Envelope.{Envelope}
 use Rattle.picky_sshkey.specs.PrivateBlock.{PrivateBlock}
 use Rattle.picky_sshkey_blob.specs.Key.{public_part}
-use Rattle.picky_sshkey_blob.specs.View.{key_seen}
+use Rattle.picky_sshkey_blob.specs.View.{private_key_seen}
 
 -- the salt and the rounds that are seen
 abbrev pub kdf_option_seen : OptionView → KdfOption
@@ -30,7 +30,7 @@ envelope_seen v = record {
 
 -- the block that is seen
 abbrev pub block_seen : BlockView → PrivateBlock
-block_seen v = record { check = v.check; key = key_seen v.key; comment = v.comment.now }
+block_seen v = record { check = v.check; key = private_key_seen v.key; comment = v.comment.now }
 
 -- the lock of a cipher and a passphrase
 abbrev pub lock_seen : LockView → Lock

@@ -104,8 +104,8 @@ content_under m key lock = envelope_of key (sealed_block m lock key)
 unfoldable pub key_content : Meanings → SshPrivateKey → Result (List ℕ) SshPrivateKeyError
 key_content m key = and_then (sealable length key) (λ lock. Ok (content_under m key lock))
 
-unfoldable pub writing_asks : SshPrivateKey → Bool
-writing_asks key = is_kept (sealable length key)
+unfoldable pub key_writing_asks : SshPrivateKey → Bool
+key_writing_asks key = is_kept (sealable length key)
 
 -- the same of the text
 abbrev pub text_len : List ℕ → ℕ

@@ -6,7 +6,7 @@ ghost use Rattle.picky_wire_base.specs.Front.{read_front};
 ghost use Rattle.picky_wire_base.specs.Gives.{Gives};
 ghost use Rattle.picky_wire_base.specs.View.{why_of};
 ghost use Rattle.picky_sshkey_blob.specs.Key.{IsPrivateKey};
-ghost use Rattle.picky_sshkey_blob.specs.View.{key_seen};
+ghost use Rattle.picky_sshkey_blob.specs.View.{private_key_seen};
 ghost use Rattle.picky_sshkey.specs.PrivateBlock.{check_numbers, flaw_error, private_block};
 ghost use Rattle.picky_sshkey.specs.View.{block_seen};
 
@@ -31,7 +31,7 @@ pub struct BlockView<'a> {
 pub fn block_in(alloc: Global, block: &[u8]) -> Result<BlockView<'_>, SshPrivateKeyError>
     requires { length block.now < 2 ^ 32 }
     ensures gives { Gives SshPrivateKeyError.NoMemory block_seen result (read_front private_block block.now) }
-    ensures is_key { IfOk result (λ seen. IsPrivateKey (key_seen seen.key)) }
+    ensures is_key { IfOk result (λ seen. IsPrivateKey (private_key_seen seen.key)) }
     ensures short { IfOk result (λ seen. length seen.comment.now < 2 ^ 32) }
 {
     let (check, next) = match check_at(block) {

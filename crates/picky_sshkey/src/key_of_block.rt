@@ -6,7 +6,7 @@ ghost use Rattle.picky_wire_base.specs.Gives.{Gives};
 ghost use Rattle.picky_keys.specs.LineRefusal.{is_short_text};
 ghost use Rattle.picky_keys.specs.View.{key_seen as public_seen};
 ghost use Rattle.picky_sshkey_blob.specs.Key.{IsPrivateKey, public_part};
-ghost use Rattle.picky_sshkey_blob.specs.View.{key_seen};
+ghost use Rattle.picky_sshkey_blob.specs.View.{private_key_seen};
 ghost use Rattle.picky_sshkey.specs.PrivateRefusal.{is_public_part, key_of_block as key_of_block_of};
 ghost use Rattle.picky_sshkey.specs.View.{block_seen, envelope_seen, found_seen, kdf_option_seen};
 ghost use Rattle.picky_sshkey.specs.inner.Short.{IsShortEnvelope};
@@ -29,7 +29,7 @@ pub fn key_of_block<'a>(
     block: &BlockView<'_>,
     pass: Option<&'a str>,
 ) -> Result<FoundKey<'a>, SshPrivateKeyError>
-    requires key { IsPrivateKey (key_seen block.now.key) }
+    requires key { IsPrivateKey (private_key_seen block.now.key) }
     requires short { IsShortEnvelope envelope.now }
     requires comment { length block.now.comment.now < 2 ^ 32 }
     requires pass { is_short_text (option_copied pass) ≡ true }
@@ -54,9 +54,9 @@ pub fn key_of_block<'a>(
 
 /// Whether the bytes begin with the blob of the key's public part.
 fn has_public_part(outer: &[u8], key: &PrivateView<'_>) -> bool
-    requires key { IsPrivateKey (key_seen key.now) }
+    requires key { IsPrivateKey (private_key_seen key.now) }
     requires outer { length outer.now < 2 ^ 32 }
-    ensures { result ≡ is_public_part outer.now (key_seen key.now) }
+    ensures { result ≡ is_public_part outer.now (private_key_seen key.now) }
 {
     match PublicView::read(outer) {
         Ok((said, _)) => is_public_part_of(&said, key),
@@ -66,8 +66,8 @@ fn has_public_part(outer: &[u8], key: &PrivateView<'_>) -> bool
 
 /// Whether the public key is the private key's public part.
 fn is_public_part_of(said: &PublicView<'_>, key: &PrivateView<'_>) -> bool
-    ensures same { result ≡ true → public_seen said.now ≡ public_part (key_seen key.now) }
-    ensures other { result ≡ false → public_seen said.now ≡ public_part (key_seen key.now) → ⊥ }
+    ensures same { result ≡ true → public_seen said.now ≡ public_part (private_key_seen key.now) }
+    ensures other { result ≡ false → public_seen said.now ≡ public_part (private_key_seen key.now) → ⊥ }
 {
     match key {
         PrivateView::Rsa { n, e, .. } => match said {

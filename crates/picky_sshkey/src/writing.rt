@@ -18,7 +18,8 @@ ghost use Rattle.picky_sshkey.specs.Kept.{IsSshPrivateKey, read_again};
 ghost use Rattle.picky_sshkey.specs.PrivateRefusal.{content_key, text_key};
 ghost use Rattle.picky_sshkey.specs.Written.{content_under, envelope_of, key_content, key_text, lock_kept};
 ghost use Rattle.picky_sshkey.specs.Written.{block_padding, plain_block};
-ghost use Rattle.picky_sshkey.specs.Written.{text_writing_asks, writing_asks, written_cipher, written_kdf, written_option};
+ghost use Rattle.picky_sshkey.specs.Written.{text_writing_asks, key_writing_asks, written_cipher, written_kdf};
+ghost use Rattle.picky_sshkey.specs.Written.{written_option};
 ghost use Rattle.picky_sshkey.specs.Written.{may_derive as may_derive_of};
 ghost use Rattle.picky_sshkey.specs.inner.Draft.{IsDraft};
 
@@ -43,8 +44,8 @@ impl SshPrivateKey {
     #[tactic(auto, using(crate::proofs::KeptLaws::content_reads_back))]
     pub fn to_pem<S: Suite>(&self, alloc: Global, suite: &mut S) -> Result<Pem, SshPrivateKeyError>
         ensures gives { GivesAsked SshPrivateKeyError.NoMemory SshPrivateKeyError.SuiteFault (λ pem. pem.content) result
-            (key_content (S.meanings suite.old) self.now) (writing_asks self.now) (Rose (S.faults suite.old) (S.faults suite.new)) }
-        ensures suite { LeavesSuite S.meanings S.faults SshPrivateKeyError.SuiteFault (writing_asks self.now) result
+            (key_content (S.meanings suite.old) self.now) (key_writing_asks self.now) (Rose (S.faults suite.old) (S.faults suite.new)) }
+        ensures suite { LeavesSuite S.meanings S.faults SshPrivateKeyError.SuiteFault (key_writing_asks self.now) result
             suite.old suite.new }
 
         // It is read back under the key's own passphrase, whatever follows.
@@ -86,9 +87,9 @@ impl SshPrivateKey {
         suite: &mut S,
         stream: &mut W,
     ) -> Result<(), SshPrivateKeyError>
-        ensures puts { Encodes W.tells W.written W.faults (key_content (S.meanings suite.old) self.now) (writing_asks self.now)
+        ensures puts { Encodes W.tells W.written W.faults (key_content (S.meanings suite.old) self.now) (key_writing_asks self.now)
             (Rose (S.faults suite.old) (S.faults suite.new)) result stream.old stream.new }
-        ensures suite { LeavesSuite S.meanings S.faults SshPrivateKeyError.SuiteFault (writing_asks self.now) result
+        ensures suite { LeavesSuite S.meanings S.faults SshPrivateKeyError.SuiteFault (key_writing_asks self.now) result
             suite.old suite.new }
     {
         match self.to_pem(alloc, suite) {
@@ -102,15 +103,15 @@ impl SshPrivateKey {
 }
 
 /// The content of a key's envelope.
-#[tactic(auto, unfolding(crate::specs::Written::key_content, crate::specs::Written::writing_asks, crate::specs::Written::sealable))]
+#[tactic(auto, unfolding(crate::specs::Written::key_content, crate::specs::Written::key_writing_asks, crate::specs::Written::sealable))]
 fn content_of_key<S: Suite>(
     alloc: Global,
     suite: &mut S,
     key: &SshPrivateKey,
 ) -> Result<Bytes, SshPrivateKeyError>
     ensures gives { GivesAsked SshPrivateKeyError.NoMemory SshPrivateKeyError.SuiteFault (λ content. content) result
-        (key_content (S.meanings suite.old) key.now) (writing_asks key.now) (Rose (S.faults suite.old) (S.faults suite.new)) }
-    ensures suite { LeavesSuite S.meanings S.faults SshPrivateKeyError.SuiteFault (writing_asks key.now) result
+        (key_content (S.meanings suite.old) key.now) (key_writing_asks key.now) (Rose (S.faults suite.old) (S.faults suite.new)) }
+    ensures suite { LeavesSuite S.meanings S.faults SshPrivateKeyError.SuiteFault (key_writing_asks key.now) result
         suite.old suite.new }
     ensures kept { OnOk result (IsSshPrivateKey key.now) }
 {

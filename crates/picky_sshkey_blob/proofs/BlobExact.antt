@@ -16,10 +16,10 @@ use Rattle.picky_keys.proofs.KeyNames.{key_is_name}
 use Rattle.picky_keys.specs.Blob.{key_type}
 use Rattle.picky_keys.proofs.BlobExact.{number_exact, any_text, ed_exact, joined_is}
 use Rattle.picky_sshkey_blob.specs.declared.key.SshBasePrivateKey.{SshBasePrivateKey}
-use Rattle.picky_sshkey_blob.specs.Key.{kind_of}
-use Rattle.picky_sshkey_blob.specs.Blob.{ed_secret, rsa_fields, ec_fields, ed_fields, sk_ecdsa_fields, sk_ed_fields}
+use Rattle.picky_sshkey_blob.specs.Key.{private_kind_of}
+use Rattle.picky_sshkey_blob.specs.Blob.{ed_secret, private_rsa_fields, private_ec_fields, private_ed_fields, private_sk_ecdsa_fields, private_sk_ed_fields}
 use Rattle.picky_sshkey_blob.specs.Blob.{private_key_fields, secret}
-use Rattle.picky_sshkey_blob.specs.SecretSpelled.{AnyString, FieldsSpelled, SecretSpelled}
+use Rattle.picky_sshkey_blob.specs.SecretSpelled.{AnyString, SecretFieldsSpelled, SecretSpelled}
 
 any_string : (v bytes : List ℕ) → IsBytes bytes → string.piece v bytes → AnyString bytes
 any_string v bytes each spells =
@@ -38,10 +38,10 @@ parts_are bytes x y v w is first second = is ∙ ap (λ l. l ++ y) first ∙ ap 
 
 -- the key is what the fields make, and has the kind
 abbrev Spells : KeyKind → SshBasePrivateKey → List ℕ → Type 0
-Spells kind key bytes = FieldsSpelled key bytes × (kind_of key ≡ kind)
+Spells kind key bytes = SecretFieldsSpelled key bytes × (private_kind_of key ≡ kind)
 
-rsa_exact : (key : SshBasePrivateKey) (bytes : List ℕ) → IsBytes bytes → rsa_fields.piece key bytes → Spells kinds.Rsa key bytes
-unfolding rsa_fields
+rsa_exact : (key : SshBasePrivateKey) (bytes : List ℕ) → IsBytes bytes → private_rsa_fields.piece key bytes → Spells kinds.Rsa key bytes
+unfolding private_rsa_fields
 rsa_exact key bytes each (n, x1, y1, n_is, (e, x2, y2, e_is, (d, x3, y3, d_is, (iqmp, x4, y4, iqmp_is, (p, x5, y5, p_is, (q, x6, y6, q_is, (is, none), j6), j5), j4), j3), j2), j1) =
     let b1 = subst IsBytes j1 each in
     let b2 = subst IsBytes j2 (bytes_behind x1 y1 b1) in
@@ -84,9 +84,9 @@ rsa_exact key bytes each (n, x1, y1, n_is, (e, x2, y2, e_is, (d, x3, y3, d_is, (
       refl,
     )
 
-ec_exact : (curve : EcCurve) (key : SshBasePrivateKey) (bytes : List ℕ) → IsBytes bytes → (ec_fields curve).piece key bytes
+ec_exact : (curve : EcCurve) (key : SshBasePrivateKey) (bytes : List ℕ) → IsBytes bytes → (private_ec_fields curve).piece key bytes
     → Spells (kinds.Ec curve) key bytes
-unfolding ec_fields
+unfolding private_ec_fields
 ec_exact curve key bytes each (name, x1, y1, name_is, (point, x2, y2, point_is, (number, x3, y3, number_is, (is, none), j3), j2), j1) =
     let b1 = subst IsBytes j1 each in
     let b2 = subst IsBytes j2 (bytes_behind x1 y1 b1) in
@@ -104,9 +104,9 @@ ec_exact curve key bytes each (name, x1, y1, name_is, (point, x2, y2, point_is, 
       refl,
     )
 
-ed_fields_exact : (key : SshBasePrivateKey) (bytes : List ℕ) → IsBytes bytes → ed_fields.piece key bytes
+ed_fields_exact : (key : SshBasePrivateKey) (bytes : List ℕ) → IsBytes bytes → private_ed_fields.piece key bytes
     → Spells (kinds.Ed Ed25519) key bytes
-unfolding ed_fields
+unfolding private_ed_fields
 ed_fields_exact key bytes each (public, x1, y1, public_is, (seed, x2, y2, seed_is, (is, none), j2), j1) =
     let b1 = subst IsBytes j1 each in
     let b2 = subst IsBytes j2 (bytes_behind x1 y1 b1) in
@@ -116,9 +116,9 @@ ed_fields_exact key bytes each (public, x1, y1, public_is, (seed, x2, y2, seed_i
       refl,
     )
 
-sk_ecdsa_exact : (key : SshBasePrivateKey) (bytes : List ℕ) → IsBytes bytes → sk_ecdsa_fields.piece key bytes
+sk_ecdsa_exact : (key : SshBasePrivateKey) (bytes : List ℕ) → IsBytes bytes → private_sk_ecdsa_fields.piece key bytes
     → Spells kinds.SkEcdsaSha2NistP256 key bytes
-unfolding sk_ecdsa_fields
+unfolding private_sk_ecdsa_fields
 sk_ecdsa_exact key bytes each (name, x1, y1, name_is, (point, x2, y2, point_is, (application, x3, y3, application_is, (flags, x4, y4, flags_is, (handle, x5, y5, handle_is, (reserved, x6, y6, reserved_is, (is, none), j6), j5), j4), j3), j2), j1) =
     let b1 = subst IsBytes j1 each in
     let b2 = subst IsBytes j2 (bytes_behind x1 y1 b1) in
@@ -142,9 +142,9 @@ sk_ecdsa_exact key bytes each (name, x1, y1, name_is, (point, x2, y2, point_is, 
       refl,
     )
 
-sk_ed_exact : (key : SshBasePrivateKey) (bytes : List ℕ) → IsBytes bytes → sk_ed_fields.piece key bytes
+sk_ed_exact : (key : SshBasePrivateKey) (bytes : List ℕ) → IsBytes bytes → private_sk_ed_fields.piece key bytes
     → Spells kinds.SkEd25519 key bytes
-unfolding sk_ed_fields
+unfolding private_sk_ed_fields
 sk_ed_exact key bytes each (public, x1, y1, public_is, (application, x2, y2, application_is, (flags, x3, y3, flags_is, (handle, x4, y4, handle_is, (reserved, x5, y5, reserved_is, (is, none), j5), j4), j3), j2), j1) =
     let b1 = subst IsBytes j1 each in
     let b2 = subst IsBytes j2 (bytes_behind x1 y1 b1) in

@@ -16,7 +16,7 @@ use Rattle.picky_sshkey_blob.specs.Blob.{secret, secret_of}
 use Rattle.picky_sshkey_blob.specs.BlobRefusal.{private_error, read_secret, refused_place}
 use Rattle.picky_sshkey_blob.specs.carried.Blob.{secret_spells}
 use Rattle.picky_wire_base.specs.View.{SeesAt}
-use Rattle.picky_sshkey_blob.specs.View.{key_seen, answer_of}
+use Rattle.picky_sshkey_blob.specs.View.{private_key_seen, answer_of}
 use Rattle.picky_sshkey_blob.proofs.KeyLaws.{spelled_is_key}
 
 -- What is read in front is spelled there.
@@ -46,14 +46,14 @@ read_is_key bytes key rest each read =
 
 -- A view answers as the reader does.
 pub view_reads : (bytes : List ℕ) (from : ℕ) (r : Result (PrivateView × ℕ) (Stopped ℕ))
-    → SeesAt key_seen secret bytes from r → read_secret (drop from bytes) ≡ answer_of bytes r
+    → SeesAt private_key_seen secret bytes from r → read_secret (drop from bytes) ≡ answer_of bytes r
 unfolding read_secret
 view_reads bytes from (Ok (view, next)) sees = ap (map_err private_error) sees
 view_reads bytes from (Err stopped) sees = ap (map_err private_error) sees
 
 -- So does one that is read at the front.
 pub front_reads : (bytes : List ℕ) (view : PrivateView) (next : ℕ)
-    → Sees key_seen why_in secret bytes 0 (Ok (view, next)) → read_secret bytes ≡ Ok (key_seen view, drop next bytes)
+    → Sees private_key_seen why_in secret bytes 0 (Ok (view, next)) → read_secret bytes ≡ Ok (private_key_seen view, drop next bytes)
 unfolding read_secret
 front_reads bytes view next sees = ap (map_err private_error) sees
 

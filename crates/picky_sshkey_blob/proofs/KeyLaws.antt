@@ -10,8 +10,8 @@ use Rattle.picky_keys.specs.Key.{IsKey, IsEdKey, kind_of}
 use Rattle.picky_keys.proofs.KeyLaws.{number_keeps, string_keeps, text_keeps, ed_keeps}
 use Rattle.picky_sshkey_blob.specs.declared.key.SshBasePrivateKey.{SshBasePrivateKey}
 use Rattle.picky_sshkey_blob.specs.declared.key.SshBasePrivateKey.TheVariants as keys
-use Rattle.picky_sshkey_blob.specs.Key.{IsPrivateKey, kind_of as private_kind, public_part}
-use Rattle.picky_sshkey_blob.specs.Blob.{ed_secret, rsa_fields, ec_fields, ed_fields, sk_ecdsa_fields, sk_ed_fields}
+use Rattle.picky_sshkey_blob.specs.Key.{IsPrivateKey, private_kind_of, public_part}
+use Rattle.picky_sshkey_blob.specs.Blob.{ed_secret, private_rsa_fields, private_ec_fields, private_ed_fields, private_sk_ecdsa_fields, private_sk_ed_fields}
 use Rattle.picky_sshkey_blob.specs.Blob.{private_key_fields, secret}
 
 -- the secret before a copy of the public key
@@ -20,8 +20,8 @@ unfolding ed_secret
 secret_keeps public v bytes each (both, spells, (are, len)) =
     record { bytes = bytes_in_front v public (subst IsBytes are (string_keeps both bytes each spells).bytes); len = len }
 
-rsa_keeps : (key : SshBasePrivateKey) (bytes : List ℕ) → IsBytes bytes → rsa_fields.piece key bytes → IsPrivateKey key
-unfolding rsa_fields
+rsa_keeps : (key : SshBasePrivateKey) (bytes : List ℕ) → IsBytes bytes → private_rsa_fields.piece key bytes → IsPrivateKey key
+unfolding private_rsa_fields
 rsa_keeps key bytes each (n, x1, y1, n_is, (e, x2, y2, e_is, (d, x3, y3, d_is, (iqmp, x4, y4, iqmp_is, (p, x5, y5, p_is, (q, x6, y6, q_is, (is, none), j6), j5), j4), j3), j2), j1) =
     let b1 = subst IsBytes j1 each in
     let b2 = subst IsBytes j2 (bytes_behind x1 y1 b1) in
@@ -38,9 +38,9 @@ rsa_keeps key bytes each (n, x1, y1, n_is, (e, x2, y2, e_is, (d, x3, y3, d_is, (
       number_keeps q x6 (bytes_in_front x6 y6 b6) q_is,
     )
 
-ec_keeps : (curve : EcCurve) (key : SshBasePrivateKey) (bytes : List ℕ) → IsBytes bytes → (ec_fields curve).piece key bytes
+ec_keeps : (curve : EcCurve) (key : SshBasePrivateKey) (bytes : List ℕ) → IsBytes bytes → (private_ec_fields curve).piece key bytes
     → IsPrivateKey key
-unfolding ec_fields
+unfolding private_ec_fields
 ec_keeps curve key bytes each (name, x1, y1, name_is, (point, x2, y2, point_is, (number, x3, y3, number_is, (is, none), j3), j2), j1) =
     let b2 = subst IsBytes j2 (bytes_behind x1 y1 (subst IsBytes j1 each)) in
     let b3 = subst IsBytes j3 (bytes_behind x2 y2 b2) in
@@ -49,8 +49,8 @@ ec_keeps curve key bytes each (name, x1, y1, name_is, (point, x2, y2, point_is, 
       number_keeps number x3 (bytes_in_front x3 y3 b3) number_is,
     )
 
-ed_fields_keep : (key : SshBasePrivateKey) (bytes : List ℕ) → IsBytes bytes → ed_fields.piece key bytes → IsPrivateKey key
-unfolding ed_fields
+ed_fields_keep : (key : SshBasePrivateKey) (bytes : List ℕ) → IsBytes bytes → private_ed_fields.piece key bytes → IsPrivateKey key
+unfolding private_ed_fields
 ed_fields_keep key bytes each (public, x1, y1, public_is, (seed, x2, y2, seed_is, (is, none), j2), j1) =
     let b1 = subst IsBytes j1 each in
     let b2 = subst IsBytes j2 (bytes_behind x1 y1 b1) in
@@ -59,9 +59,9 @@ ed_fields_keep key bytes each (public, x1, y1, public_is, (seed, x2, y2, seed_is
       ed_keeps public x1 (bytes_in_front x1 y1 b1) public_is,
     )
 
-sk_ecdsa_keeps : (key : SshBasePrivateKey) (bytes : List ℕ) → IsBytes bytes → sk_ecdsa_fields.piece key bytes
+sk_ecdsa_keeps : (key : SshBasePrivateKey) (bytes : List ℕ) → IsBytes bytes → private_sk_ecdsa_fields.piece key bytes
     → IsPrivateKey key
-unfolding sk_ecdsa_fields
+unfolding private_sk_ecdsa_fields
 sk_ecdsa_keeps key bytes each (name, x1, y1, name_is, (point, x2, y2, point_is, (application, x3, y3, application_is, (flags, x4, y4, flags_is, (handle, x5, y5, handle_is, (reserved, x6, y6, reserved_is, (is, none), j6), j5), j4), j3), j2), j1) =
     let b2 = subst IsBytes j2 (bytes_behind x1 y1 (subst IsBytes j1 each)) in
     let b3 = subst IsBytes j3 (bytes_behind x2 y2 b2) in
@@ -74,8 +74,8 @@ sk_ecdsa_keeps key bytes each (name, x1, y1, name_is, (point, x2, y2, point_is, 
       string_keeps handle x5 (bytes_in_front x5 y5 b5) handle_is,
     )
 
-sk_ed_keeps : (key : SshBasePrivateKey) (bytes : List ℕ) → IsBytes bytes → sk_ed_fields.piece key bytes → IsPrivateKey key
-unfolding sk_ed_fields
+sk_ed_keeps : (key : SshBasePrivateKey) (bytes : List ℕ) → IsBytes bytes → private_sk_ed_fields.piece key bytes → IsPrivateKey key
+unfolding private_sk_ed_fields
 sk_ed_keeps key bytes each (public, x1, y1, public_is, (application, x2, y2, application_is, (flags, x3, y3, flags_is, (handle, x4, y4, handle_is, (reserved, x5, y5, reserved_is, (is, none), j5), j4), j3), j2), j1) =
     let b1 = subst IsBytes j1 each in
     let b2 = subst IsBytes j2 (bytes_behind x1 y1 b1) in
@@ -112,7 +112,7 @@ public_part_is_key (keys.SkEcdsaSha2NistP256 point application flags handle) is 
 public_part_is_key (keys.SkEd25519 key application flags handle) is = (is.0, is.1)
 
 -- a private key is of the kind of its public part
-pub same_kind : (key : SshBasePrivateKey) → private_kind key ≡ kind_of (public_part key)
+pub same_kind : (key : SshBasePrivateKey) → private_kind_of key ≡ kind_of (public_part key)
 same_kind (keys.Rsa n e d iqmp p q) = refl
 same_kind (keys.Ec curve point secret) = refl
 same_kind (keys.Ed secret public) = refl

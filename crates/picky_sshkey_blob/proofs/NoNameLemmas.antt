@@ -12,7 +12,7 @@ use Rattle.picky_keys.specs.declared.kind.KeyKind.TheVariants as kinds
 use Rattle.picky_keys.specs.declared.curve.EcCurve.{EcCurve}
 use Rattle.picky_keys.specs.Blob.{ed_key}
 use Rattle.picky_sshkey_blob.specs.Copy.{before_copy}
-use Rattle.picky_sshkey_blob.specs.Blob.{ed_secret, rsa_fields, ec_fields, ed_fields, sk_ecdsa_fields, sk_ed_fields}
+use Rattle.picky_sshkey_blob.specs.Blob.{ed_secret, private_rsa_fields, private_ec_fields, private_ed_fields, private_sk_ecdsa_fields, private_sk_ed_fields}
 use Rattle.picky_sshkey_blob.specs.Blob.{private_key_fields}
 use Rattle.picky_sshkey_blob.proofs.RefusedLemmas.{RefusesAs, NotName, done_refuses, both_refuses, narrow_refuses}
 use Rattle.picky_sshkey_blob.proofs.RefusedLemmas.{at_refuses, test_refused}
@@ -32,8 +32,8 @@ ed_secret_no_name public =
     narrow_refuses NotName (at 2 string) (before_copy (2, Length) public) (field 2 string)
     (λ both e is. subst NotName (test_refused (nat_le 32 (length both) && bytes_eq (drop 32 both) public) (take 32 both) (2, Length) e is) tt)
 
-rsa_no_name : RefusesAs NotName rsa_fields.read
-unfolding rsa_fields
+rsa_no_name : RefusesAs NotName private_rsa_fields.read
+unfolding private_rsa_fields
 rsa_no_name =
     both_refuses NotName (at 1 mpint).read _ (field 1 mpint) (λ n.
     both_refuses NotName (at 2 mpint).read _ (field 2 mpint) (λ e.
@@ -42,21 +42,21 @@ rsa_no_name =
     both_refuses NotName (at 5 mpint).read _ (field 5 mpint) (λ p.
     both_refuses NotName (at 6 mpint).read _ (field 6 mpint) (λ q. done_refuses NotName _))))))
 
-ec_no_name : (curve : EcCurve) → RefusesAs NotName (ec_fields curve).read
-unfolding ec_fields
+ec_no_name : (curve : EcCurve) → RefusesAs NotName (private_ec_fields curve).read
+unfolding private_ec_fields
 ec_no_name curve =
     both_refuses NotName (at 1 text).read _ (field 1 text) (λ identifier.
     both_refuses NotName (at 2 string).read _ (field 2 string) (λ point.
     both_refuses NotName (at 3 mpint).read _ (field 3 mpint) (λ number. done_refuses NotName _)))
 
-ed_no_name : RefusesAs NotName ed_fields.read
-unfolding ed_fields
+ed_no_name : RefusesAs NotName private_ed_fields.read
+unfolding private_ed_fields
 ed_no_name =
     both_refuses NotName (ed_key 1).read _ ed_key_no_name (λ public.
     both_refuses NotName (ed_secret public).read _ (ed_secret_no_name public) (λ seed. done_refuses NotName _))
 
-sk_ecdsa_no_name : RefusesAs NotName sk_ecdsa_fields.read
-unfolding sk_ecdsa_fields
+sk_ecdsa_no_name : RefusesAs NotName private_sk_ecdsa_fields.read
+unfolding private_sk_ecdsa_fields
 sk_ecdsa_no_name =
     both_refuses NotName (at 1 text).read _ (field 1 text) (λ identifier.
     both_refuses NotName (at 2 string).read _ (field 2 string) (λ point.
@@ -65,8 +65,8 @@ sk_ecdsa_no_name =
     both_refuses NotName (at 5 string).read _ (field 5 string) (λ handle.
     both_refuses NotName (at 6 string).read _ (field 6 string) (λ reserved. done_refuses NotName _))))))
 
-sk_ed_no_name : RefusesAs NotName sk_ed_fields.read
-unfolding sk_ed_fields
+sk_ed_no_name : RefusesAs NotName private_sk_ed_fields.read
+unfolding private_sk_ed_fields
 sk_ed_no_name =
     both_refuses NotName (ed_key 1).read _ ed_key_no_name (λ public.
     both_refuses NotName (at 2 text).read _ (field 2 text) (λ application.

@@ -21,19 +21,19 @@ use Rattle.picky_wire.proofs.CauseLemmas.{mpint_is_too_long, first_is_too_long}
 use Rattle.picky_keys.specs.Blob.{key_type, ed_key}
 use Rattle.picky_sshkey_blob.specs.declared.error.SshPrivateKeyError.TheVariants as errors
 use Rattle.picky_sshkey_blob.specs.FromWire.{private_key_error}
-use Rattle.picky_sshkey_blob.specs.Blob.{secret, private_key_fields, rsa_fields, ed_fields, ed_secret}
-use Rattle.picky_sshkey_blob.specs.BlobRefusal.{read_secret, private_error, stop_error}
+use Rattle.picky_sshkey_blob.specs.Blob.{secret, private_key_fields, private_rsa_fields, private_ed_fields, ed_secret}
+use Rattle.picky_sshkey_blob.specs.BlobRefusal.{read_secret, private_error, private_stop_error}
 use Rattle.picky_sshkey_blob.specs.inner.Stop.{secret_stop}
 use Rattle.picky_sshkey_blob.proofs.RefusedLemmas.{NotName}
 use Rattle.picky_sshkey_blob.proofs.NamedLemmas.{SaysStops, name_alone_is_refused}
 
 length_says : (b : Bool) → (if b then errors.InvalidKeyFormat else errors.KeyError)
-    ≡ stop_error (if b then stops.Magic else stops.Length)
+    ≡ private_stop_error (if b then stops.Magic else stops.Length)
 length_says true = refl
 length_says false = refl
 
 -- the errors of a blob say what its readers stop at
-stop_says : (r : Reason) → NotName r → private_error r ≡ stop_error (secret_stop r)
+stop_says : (r : Reason) → NotName r → private_error r ≡ private_stop_error (secret_stop r)
 stop_says (i, Flawed Short) is = refl
 stop_says (i, Flawed NotUtf8) is = refl
 stop_says (i, Flawed Big) is = refl
@@ -42,12 +42,12 @@ stop_says (i, Magic) is = refl
 stop_says (i, Name name) is = absurd is
 stop_says (i, Number n) is = refl
 
-flaw_says : (i : ℕ) (flaw : Flaw) → private_error (i, Flawed flaw) ≡ stop_error (secret_stop (i, Flawed flaw))
+flaw_says : (i : ℕ) (flaw : Flaw) → private_error (i, Flawed flaw) ≡ private_stop_error (secret_stop (i, Flawed flaw))
 flaw_says i Short = refl
 flaw_says i NotUtf8 = refl
 flaw_says i Big = refl
 
-only_fault : (s : Stop) → stop_error s ≡ private_key_error wire.ReadFault → s ≡ stops.Fault
+only_fault : (s : Stop) → private_stop_error s ≡ private_key_error wire.ReadFault → s ≡ stops.Fault
 only_fault stops.Fault is = refl
 only_fault stops.NoMemory is = cc is
 only_fault stops.Short is = cc is
@@ -58,7 +58,7 @@ only_fault stops.Magic is = cc is
 only_fault stops.Name is = cc is
 only_fault stops.Number is = cc is
 
-pub says_stops : SaysStops private_key_error secret_stop stop_error private_error
+pub says_stops : SaysStops private_key_error secret_stop private_stop_error private_error
 says_stops = record {
   reason = stop_says;
   flaw = flaw_says;
@@ -90,21 +90,21 @@ after_name kind rest r refused = (
 )
 
 public_is_empty : Refuses read_secret errors.KeyError
-unfolding ed_fields ed_key string uint32 byte_array
+unfolding private_ed_fields ed_key string uint32 byte_array
 public_is_empty = after_name (kinds.Ed Ed25519) (0 ∷ 0 ∷ 0 ∷ 0 ∷ []) (1, Length) refl
 
 secret_is_empty : Refuses read_secret errors.InvalidKeyFormat
-unfolding ed_fields ed_key ed_secret string uint32 byte_array
+unfolding private_ed_fields ed_key ed_secret string uint32 byte_array
 secret_is_empty =
     after_name (kinds.Ed Ed25519) (0 ∷ 0 ∷ 0 ∷ 32 ∷ (replicate 32 0 ++ 0 ∷ 0 ∷ 0 ∷ 0 ∷ [])) (2, Length) refl
 
 number_is_too_long : Refuses read_secret errors.TooLong
-unfolding rsa_fields
+unfolding private_rsa_fields
 number_is_too_long = after_name kinds.Rsa mpint_is_too_long.0 (1, Flawed Big) (first_is_too_long 1 _)
 
 -- Each stop has its cause.
 pub stop_has_cause : (s : Stop) (fault : Type 0) → (s ≡ stops.Fault → fault)
-    → HasCause (causes_of private_key_error) read_secret fault (stop_error s)
+    → HasCause (causes_of private_key_error) read_secret fault (private_stop_error s)
 stop_has_cause stops.Fault fault counted = inl (refl, counted refl)
 stop_has_cause stops.NoMemory fault counted = inr (inl refl)
 stop_has_cause stops.Short fault counted = inr (inr no_blob_is_short)

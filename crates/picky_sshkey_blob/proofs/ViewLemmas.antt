@@ -15,7 +15,7 @@ use Rattle.picky_wire_base.specs.declared.view.Stuck.TheVariants as stucks
 use Rattle.picky_keys.proofs.KeyLaws.{text_keeps}
 use Rattle.picky_sshkey_blob.specs.{declared.view.PrivateView.{PrivateView}, Key.{IsPrivateKey}, Copy.{before_copy}}
 use Rattle.picky_sshkey_blob.specs.{carried.Before.{before_complete}, Blob.{ed_secret, private_key_fields, secret}}
-use Rattle.picky_sshkey_blob.specs.View.{key_seen, PartsLie, NamesText, IsRefusal}
+use Rattle.picky_sshkey_blob.specs.View.{private_key_seen, PrivatePartsLie, NamesText, IsPrivateRefusal}
 use Rattle.picky_sshkey_blob.proofs.{KeyLaws.{spelled_is_key}, NoNameLemmas.{fields_no_name}}
 use Rattle.picky_sshkey_blob.proofs.RefusedLemmas.{RefusesAs, and_then_err, narrow_refuses, at_refuses, entry_refused}
 use Rattle.picky_sshkey_blob.proofs.RefusedLemmas.{test_refused}
@@ -156,17 +156,17 @@ stuck_names_text bytes i (stucks.Number n) each refused = tt
 
 -- what is seen in bytes is a key
 pub seen_is_key : (bytes : List ℕ) (from : ℕ) (r : Result (PrivateView × ℕ) (Stopped ℕ)) → IsBytes bytes
-    → SeenAt key_seen (PartsLie bytes (end_of key_type bytes from)) secret bytes from r
-    → IfOk r (λ found. IsPrivateKey (key_seen found.0))
+    → SeenAt private_key_seen (PrivatePartsLie bytes (end_of key_type bytes from)) secret bytes from r
+    → IfOk r (λ found. IsPrivateKey (private_key_seen found.0))
 seen_is_key bytes from (Ok (view, next)) each seen =
-    let fits = secret.sound (drop from bytes) (key_seen view) (drop next bytes) seen.sees in
-    spelled_is_key (key_seen view) fits.0
+    let fits = secret.sound (drop from bytes) (private_key_seen view) (drop next bytes) seen.sees in
+    spelled_is_key (private_key_seen view) fits.0
     (bytes_in_front fits.0 (drop next bytes) (subst IsBytes fits.2 (back_bytes from bytes each))) fits.1
 seen_is_key bytes from (Err stopped) each seen = tt
 
 -- what stops a view has a name that is text, where it has one
 pub seen_is_refusal : (bytes : List ℕ) (from : ℕ) (r : Result (PrivateView × ℕ) (Stopped ℕ)) → IsBytes bytes
-    → SeenAt key_seen (PartsLie bytes (end_of key_type bytes from)) secret bytes from r → IfErr r IsRefusal
+    → SeenAt private_key_seen (PrivatePartsLie bytes (end_of key_type bytes from)) secret bytes from r → IfErr r IsPrivateRefusal
 seen_is_refusal bytes from (Ok found) each seen = tt
 seen_is_refusal bytes from (Err stopped) each seen =
     stuck_names_text (drop from bytes) stopped.place stopped.stuck (back_bytes from bytes each) seen.sees

@@ -16,7 +16,7 @@ use Rattle.picky_keys.specs.KeyNames.{kind_name, curve_identifier}
 use Rattle.picky_keys.specs.Blob.{key_type, ed_key}
 use Rattle.picky_sshkey_blob.specs.declared.key.SshBasePrivateKey.{SshBasePrivateKey}
 use Rattle.picky_sshkey_blob.specs.declared.key.SshBasePrivateKey.TheVariants as keys
-use Rattle.picky_sshkey_blob.specs.Key.{kind_of}
+use Rattle.picky_sshkey_blob.specs.Key.{private_kind_of}
 use Rattle.picky_sshkey_blob.specs.Copy.{before_copy}
 
 -- mpint n
@@ -25,8 +25,8 @@ use Rattle.picky_sshkey_blob.specs.Copy.{before_copy}
 -- mpint iqmp, which is the inverse of q modulo p
 -- mpint p
 -- mpint q
-unfoldable pub rsa_fields : Grammar Reason SshBasePrivateKey
-rsa_fields = do
+unfoldable pub private_rsa_fields : Grammar Reason SshBasePrivateKey
+private_rsa_fields = do
   n ← at 1 mpint
   e ← at 2 mpint
   d ← at 3 mpint
@@ -38,8 +38,8 @@ rsa_fields = do
 -- string identifier, which is text and says nothing more: the name says the curve
 -- string point
 -- mpint secret
-unfoldable pub ec_fields : EcCurve → Grammar Reason SshBasePrivateKey
-ec_fields curve = do
+unfoldable pub private_ec_fields : EcCurve → Grammar Reason SshBasePrivateKey
+private_ec_fields curve = do
   identifier ← at 1 text
   point ← at 2 string
   secret ← at 3 mpint
@@ -51,8 +51,8 @@ ed_secret public = narrow (at 2 string) (before_copy (2, Length) public)
 
 -- string public, of 32 bytes
 -- string secret and public
-unfoldable pub ed_fields : Grammar Reason SshBasePrivateKey
-ed_fields = do
+unfoldable pub private_ed_fields : Grammar Reason SshBasePrivateKey
+private_ed_fields = do
   public ← ed_key 1
   secret ← ed_secret public
   done (keys.Ed secret public)
@@ -63,8 +63,8 @@ ed_fields = do
 -- byte flags
 -- string handle
 -- string reserved, which says nothing
-unfoldable pub sk_ecdsa_fields : Grammar Reason SshBasePrivateKey
-sk_ecdsa_fields = do
+unfoldable pub private_sk_ecdsa_fields : Grammar Reason SshBasePrivateKey
+private_sk_ecdsa_fields = do
   identifier ← at 1 text
   point ← at 2 string
   application ← at 3 text
@@ -78,8 +78,8 @@ sk_ecdsa_fields = do
 -- byte flags
 -- string handle
 -- string reserved, which says nothing
-unfoldable pub sk_ed_fields : Grammar Reason SshBasePrivateKey
-sk_ed_fields = do
+unfoldable pub private_sk_ed_fields : Grammar Reason SshBasePrivateKey
+private_sk_ed_fields = do
   key ← ed_key 1
   application ← at 2 text
   flags ← at 3 byte
@@ -89,11 +89,11 @@ sk_ed_fields = do
 
 -- the fields of each kind
 abbrev pub private_key_fields : KeyKind → Grammar Reason SshBasePrivateKey
-private_key_fields kinds.Rsa = rsa_fields
-private_key_fields (kinds.Ec curve) = ec_fields curve
-private_key_fields (kinds.Ed algorithm) = ed_fields
-private_key_fields kinds.SkEcdsaSha2NistP256 = sk_ecdsa_fields
-private_key_fields kinds.SkEd25519 = sk_ed_fields
+private_key_fields kinds.Rsa = private_rsa_fields
+private_key_fields (kinds.Ec curve) = private_ec_fields curve
+private_key_fields (kinds.Ed algorithm) = private_ed_fields
+private_key_fields kinds.SkEcdsaSha2NistP256 = private_sk_ecdsa_fields
+private_key_fields kinds.SkEd25519 = private_sk_ed_fields
 
 -- string name, of a key type, which decides the rest
 unfoldable pub secret : Grammar Reason SshBasePrivateKey
@@ -104,19 +104,19 @@ secret = do
 -- ---- the one spelling that is written, whose reserved string is empty
 
 -- the fields after the name
-unfoldable pub fields_spelled : SshBasePrivateKey → List ℕ
-fields_spelled (keys.Rsa n e d iqmp p q) =
+unfoldable pub private_fields_spelled : SshBasePrivateKey → List ℕ
+private_fields_spelled (keys.Rsa n e d iqmp p q) =
     concat (mpint_of n ∷ mpint_of e ∷ mpint_of d ∷ mpint_of iqmp ∷ mpint_of p ∷ mpint_of q ∷ [])
-fields_spelled (keys.Ec curve point secret) =
+private_fields_spelled (keys.Ec curve point secret) =
     concat (string_of (curve_identifier curve) ∷ string_of point ∷ mpint_of secret ∷ [])
-fields_spelled (keys.Ed secret public) =
+private_fields_spelled (keys.Ed secret public) =
     concat (string_of public ∷ string_of (secret ++ public) ∷ [])
-fields_spelled (keys.SkEcdsaSha2NistP256 point application flags handle) =
+private_fields_spelled (keys.SkEcdsaSha2NistP256 point application flags handle) =
     concat (string_of (curve_identifier NistP256) ∷ string_of point ∷ string_of application
     ∷ to_be_bytes w8 flags ∷ string_of handle ∷ string_of [] ∷ [])
-fields_spelled (keys.SkEd25519 key application flags handle) =
+private_fields_spelled (keys.SkEd25519 key application flags handle) =
     concat (string_of key ∷ string_of application ∷ to_be_bytes w8 flags ∷ string_of handle ∷ string_of [] ∷ [])
 
 -- the whole blob
 unfoldable pub secret_of : SshBasePrivateKey → List ℕ
-secret_of key = string_of (kind_name (kind_of key)) ++ fields_spelled key
+secret_of key = string_of (kind_name (private_kind_of key)) ++ private_fields_spelled key

@@ -31,13 +31,13 @@ refused_place (Ok value) = None
 refused_place (Err reason) = Some reason.0
 
 -- the error of a reader that stopped at a field, where it stops at Magic for the secret of Ed25519
-abbrev pub stop_error : Stop → SshPrivateKeyError
-stop_error stops.Fault = errors.IoError kinds.ReadFault
-stop_error stops.NoMemory = errors.NoMemory
-stop_error stops.Short = errors.IoError kinds.UnexpectedEnd
-stop_error stops.NotUtf8 = errors.FromUtf8Error
-stop_error stops.TooLong = errors.TooLong
-stop_error stops.Length = errors.KeyError
-stop_error stops.Magic = errors.InvalidKeyFormat
-stop_error stops.Name = errors.KeyError
-stop_error stops.Number = errors.KeyError
+abbrev pub private_stop_error : Stop → SshPrivateKeyError
+private_stop_error stops.Fault = errors.IoError kinds.ReadFault
+private_stop_error stops.NoMemory = errors.NoMemory
+private_stop_error stops.Short = errors.IoError kinds.UnexpectedEnd
+private_stop_error stops.NotUtf8 = errors.FromUtf8Error
+private_stop_error stops.TooLong = errors.TooLong
+private_stop_error stops.Length = errors.KeyError
+private_stop_error stops.Magic = errors.InvalidKeyFormat
+private_stop_error stops.Name = errors.KeyError
+private_stop_error stops.Number = errors.KeyError

@@ -21,12 +21,12 @@ IsPrivateKey (keys.SkEd25519 key application flags handle) =
     IsEdKey key × IsText application × (flags < 256) × IsString handle
 
 -- the kind of a key
-abbrev pub kind_of : SshBasePrivateKey → KeyKind
-kind_of (keys.Rsa n e d iqmp p q) = kinds.Rsa
-kind_of (keys.Ec curve point secret) = kinds.Ec curve
-kind_of (keys.Ed secret public) = kinds.Ed Ed25519
-kind_of (keys.SkEcdsaSha2NistP256 point application flags handle) = kinds.SkEcdsaSha2NistP256
-kind_of (keys.SkEd25519 key application flags handle) = kinds.SkEd25519
+abbrev pub private_kind_of : SshBasePrivateKey → KeyKind
+private_kind_of (keys.Rsa n e d iqmp p q) = kinds.Rsa
+private_kind_of (keys.Ec curve point secret) = kinds.Ec curve
+private_kind_of (keys.Ed secret public) = kinds.Ed Ed25519
+private_kind_of (keys.SkEcdsaSha2NistP256 point application flags handle) = kinds.SkEcdsaSha2NistP256
+private_kind_of (keys.SkEd25519 key application flags handle) = kinds.SkEd25519
 
 -- the public key in it
 abbrev pub public_part : SshBasePrivateKey → SshBasePublicKey

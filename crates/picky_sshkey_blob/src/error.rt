@@ -92,9 +92,9 @@ impl CodecError for SshPrivateKeyError {
 
 impl From<Stop> for SshPrivateKeyError {
     ghost use Rattle.std.specs.Prelude.{◌≡◌};
-    ghost use Rattle.picky_sshkey_blob.specs.BlobRefusal.{stop_error};
+    ghost use Rattle.picky_sshkey_blob.specs.BlobRefusal.{private_stop_error};
 
-    ghost from_gives = { λ stop result. result ≡ stop_error stop };
+    ghost from_gives = { λ stop result. result ≡ private_stop_error stop };
 
     fn from(stop: Stop) -> SshPrivateKeyError {
         match stop {

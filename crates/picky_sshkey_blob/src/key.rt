@@ -1,7 +1,7 @@
 //! The private keys of SSH.
 
 ghost use Rattle.std.specs.Prelude.{◌≡◌, IfOk};
-ghost use Rattle.picky_sshkey_blob.specs.Key.{kind_of, public_part};
+ghost use Rattle.picky_sshkey_blob.specs.Key.{private_kind_of, public_part};
 
 use picky_keys::{EcCurve, EdAlgorithm, KeyKind, SshBasePublicKey};
 use picky_wire::{Bytes, Mpint, NoMemory, Text, TryClone, both};
@@ -49,7 +49,7 @@ pub enum SshBasePrivateKey {
 impl SshBasePrivateKey {
     /// The kind of the key.
     pub fn kind(&self) -> KeyKind
-        ensures { result ≡ kind_of self.now }
+        ensures { result ≡ private_kind_of self.now }
     {
         match self {
             SshBasePrivateKey::Rsa { .. } => KeyKind::Rsa,

@@ -16,7 +16,7 @@ ghost use Rattle.picky_sshkey_blob.specs.Blob.{secret, secret_of};
 ghost use Rattle.picky_sshkey_blob.specs.BlobRefusal.{private_error, read_secret, refused_place};
 ghost use Rattle.picky_sshkey_blob.specs.SecretSpelled.{SecretSpelled};
 ghost use Rattle.picky_wire_base.specs.View.{SeesAt, stopped_shown};
-ghost use Rattle.picky_sshkey_blob.specs.View.{key_seen, view_shown, answer_of};
+ghost use Rattle.picky_sshkey_blob.specs.View.{private_key_seen, private_view_shown, answer_of};
 
 use crate::error::SshPrivateKeyError;
 use crate::key::SshBasePrivateKey;
@@ -45,9 +45,9 @@ pub fn secret_is_read_where_it_is_spelled()
 #[tactic(auto, using(crate::proofs::LawLemmas::secret_laws))]
 pub fn view_is_the_reader()
     ensures at { (bytes : List ℕ) (from : ℕ) (r : Result (View × ℕ) (Stop ℕ))
-        → SeesAt key_seen secret bytes from r → read_secret (drop from bytes) ≡ answer_of bytes r }
+        → SeesAt private_key_seen secret bytes from r → read_secret (drop from bytes) ≡ answer_of bytes r }
     ensures read { (bytes : List ℕ) (view : View) (next : ℕ)
-        → Sees key_seen why_in secret bytes 0 (Ok (view, next)) → read_secret bytes ≡ Ok (key_seen view, drop next bytes) }
+        → Sees private_key_seen why_in secret bytes 0 (Ok (view, next)) → read_secret bytes ≡ Ok (private_key_seen view, drop next bytes) }
     ensures stuck { (bytes : List ℕ) (stuck : Why) (field : ℕ) → map_err why_in (secret.read bytes) ≡ Err stuck
         → refused_place (secret.read bytes) ≡ Some field → read_secret bytes ≡ Err (private_error (field, stuck)) }
 {}
@@ -62,6 +62,6 @@ pub fn public_part_is_key()
 pub fn equality_is_of_contents()
     ensures key { IsEquality ⟦<SshBasePrivateKey as PartialEq>⟧.eq }
     ensures error { IsEquality ⟦<SshPrivateKeyError as PartialEq>⟧.eq }
-    ensures view { IsEqualityOf view_shown ⟦<PrivateView<'static> as PartialEq>⟧.eq }
+    ensures view { IsEqualityOf private_view_shown ⟦<PrivateView<'static> as PartialEq>⟧.eq }
     ensures stopped { IsEqualityOf stopped_shown ⟦<Stopped<'static, usize> as PartialEq>⟧.eq }
 {}

@@ -13,7 +13,7 @@ use picky_wire::Piece;
 const BOTH_LEN: u32 = 64;
 
 /// The fields of the key's one spelling, its name first.
-#[tactic(auto, using(crate::proofs::PieceLemmas::both_joined), unfolding(crate::specs::Blob::secret_of, crate::specs::Blob::fields_spelled))]
+#[tactic(auto, using(crate::proofs::PieceLemmas::both_joined), unfolding(crate::specs::Blob::secret_of, crate::specs::Blob::private_fields_spelled))]
 pub fn secret_pieces(key: &SshBasePrivateKey) -> [Piece<'_>; 7]
     ensures spelled { concat result ≡ secret_of key.now }
     ensures keeps { IsPrivateKey key.now }

@@ -3,8 +3,9 @@
 ghost use Rattle.std.specs.Prelude.{◌≡◌, ◌==◌, ◌&&◌, nat_le, length, take, drop, bytes_eq, Some, None, if◌then◌else◌};
 ghost use Rattle.picky_wire.specs.Flaws.{TakesLayout};
 ghost use Rattle.picky_keys.specs.Blob.{ed_key};
-ghost use Rattle.picky_sshkey_blob.specs.Blob.{ed_secret, rsa_fields, ec_fields, ed_fields, sk_ecdsa_fields};
-ghost use Rattle.picky_sshkey_blob.specs.Blob.{sk_ed_fields, private_key_fields};
+ghost use Rattle.picky_sshkey_blob.specs.Blob.{ed_secret, private_rsa_fields, private_ec_fields, private_ed_fields};
+ghost use Rattle.picky_sshkey_blob.specs.Blob.{private_sk_ecdsa_fields};
+ghost use Rattle.picky_sshkey_blob.specs.Blob.{private_sk_ed_fields, private_key_fields};
 ghost use Rattle.picky_sshkey_blob.specs.inner.Stop.{secret_stop};
 
 use crate::key::SshBasePrivateKey;
@@ -33,9 +34,9 @@ pub fn take_fields<S: Source>(
     }
 }
 
-#[tactic(auto, unfolding(crate::specs::Blob::rsa_fields))]
+#[tactic(auto, unfolding(crate::specs::Blob::private_rsa_fields))]
 fn take_rsa<S: Source>(alloc: Global, stream: &mut S) -> Result<SshBasePrivateKey, Stop>
-    ensures { TakesLayout S.tells S.left S.known S.faults secret_stop rsa_fields result stream.old stream.new }
+    ensures { TakesLayout S.tells S.left S.known S.faults secret_stop private_rsa_fields result stream.old stream.new }
 {
     let n = take_mpint(alloc, stream)?;
     let e = take_mpint(alloc, stream)?;
@@ -53,13 +54,13 @@ fn take_rsa<S: Source>(alloc: Global, stream: &mut S) -> Result<SshBasePrivateKe
     })
 }
 
-#[tactic(auto, unfolding(crate::specs::Blob::ec_fields))]
+#[tactic(auto, unfolding(crate::specs::Blob::private_ec_fields))]
 fn take_ec<S: Source>(
     alloc: Global,
     stream: &mut S,
     curve: EcCurve,
 ) -> Result<SshBasePrivateKey, Stop>
-    ensures { TakesLayout S.tells S.left S.known S.faults secret_stop (ec_fields curve) result stream.old stream.new }
+    ensures { TakesLayout S.tells S.left S.known S.faults secret_stop (private_ec_fields curve) result stream.old stream.new }
 {
     take_text(alloc, stream)?;
     let point = take_bytes(alloc, stream)?;
@@ -71,18 +72,18 @@ fn take_ec<S: Source>(
     })
 }
 
-#[tactic(auto, unfolding(crate::specs::Blob::ed_fields))]
+#[tactic(auto, unfolding(crate::specs::Blob::private_ed_fields))]
 fn take_ed<S: Source>(alloc: Global, stream: &mut S) -> Result<SshBasePrivateKey, Stop>
-    ensures { TakesLayout S.tells S.left S.known S.faults secret_stop ed_fields result stream.old stream.new }
+    ensures { TakesLayout S.tells S.left S.known S.faults secret_stop private_ed_fields result stream.old stream.new }
 {
     let public = take_ed_key(alloc, stream)?;
     let secret = take_ed_secret(alloc, stream, &public)?;
     Ok(SshBasePrivateKey::Ed { secret, public })
 }
 
-#[tactic(auto, unfolding(crate::specs::Blob::sk_ecdsa_fields))]
+#[tactic(auto, unfolding(crate::specs::Blob::private_sk_ecdsa_fields))]
 fn take_sk_ecdsa<S: Source>(alloc: Global, stream: &mut S) -> Result<SshBasePrivateKey, Stop>
-    ensures { TakesLayout S.tells S.left S.known S.faults secret_stop sk_ecdsa_fields result stream.old stream.new }
+    ensures { TakesLayout S.tells S.left S.known S.faults secret_stop private_sk_ecdsa_fields result stream.old stream.new }
 {
     take_text(alloc, stream)?;
     let point = take_bytes(alloc, stream)?;
@@ -98,9 +99,9 @@ fn take_sk_ecdsa<S: Source>(alloc: Global, stream: &mut S) -> Result<SshBasePriv
     })
 }
 
-#[tactic(auto, unfolding(crate::specs::Blob::sk_ed_fields))]
+#[tactic(auto, unfolding(crate::specs::Blob::private_sk_ed_fields))]
 fn take_sk_ed<S: Source>(alloc: Global, stream: &mut S) -> Result<SshBasePrivateKey, Stop>
-    ensures { TakesLayout S.tells S.left S.known S.faults secret_stop sk_ed_fields result stream.old stream.new }
+    ensures { TakesLayout S.tells S.left S.known S.faults secret_stop private_sk_ed_fields result stream.old stream.new }
 {
     let key = take_ed_key(alloc, stream)?;
     let application = take_text(alloc, stream)?;

@@ -3,7 +3,7 @@
 ghost use Rattle.std.specs.Prelude.{◌≡◌, ◌⊎◌};
 ghost use Rattle.picky_sshkey_blob.specs.BlobRefusal.{private_error};
 ghost use Rattle.picky_wire_base.specs.View.{reason_of};
-ghost use Rattle.picky_sshkey_blob.specs.View.{IsRefusal};
+ghost use Rattle.picky_sshkey_blob.specs.View.{IsPrivateRefusal};
 
 use crate::error::SshPrivateKeyError;
 use picky_wire::{IoKind, NoMemory, Stopped, Stuck};
@@ -11,7 +11,7 @@ use std::alloc::Global;
 
 /// The error of the reader where a view is stopped, with a copy of a refused name, or `NoMemory`.
 pub fn private_view_refusal(alloc: Global, stopped: &Stopped<'_, usize>) -> SshPrivateKeyError
-    requires { IsRefusal stopped.now }
+    requires { IsPrivateRefusal stopped.now }
     ensures { (result ≡ private_error (reason_of stopped.now)) ⊎ (result ≡ SshPrivateKeyError.NoMemory) }
 {
     match stopped.stuck {

@@ -6,7 +6,7 @@ ghost use Rattle.picky_keys.specs.Blob.{key_type};
 ghost use Rattle.picky_sshkey_blob.specs.Key.{IsPrivateKey};
 ghost use Rattle.picky_sshkey_blob.specs.Blob.{secret as secret_layout};
 ghost use Rattle.picky_sshkey_blob.specs.BlobRefusal.{refused_place};
-ghost use Rattle.picky_sshkey_blob.specs.View.{key_seen, PartsLie};
+ghost use Rattle.picky_sshkey_blob.specs.View.{private_key_seen, PrivatePartsLie};
 
 use crate::key::SshBasePrivateKey;
 use crate::view_read::private_at;
@@ -54,8 +54,8 @@ impl<'a> PrivateView<'a> {
     /// OpenSSH's PROTOCOL.key. Refuses, in order, by field: `Short`, `NotUtf8`, `Name`, `Length`.
     pub fn read(blob: &'a [u8]) -> Result<(PrivateView<'a>, usize), Stuck<'a>>
         requires { length blob.now < 2 ^ 32 }
-        ensures seen { Seen key_seen (PartsLie blob.now (end_of key_type blob.now 0)) why_in secret_layout blob.now 0 result }
-        ensures is_key { IfOk result (λ found. IsPrivateKey (key_seen found.0)) }
+        ensures seen { Seen private_key_seen (PrivatePartsLie blob.now (end_of key_type blob.now 0)) why_in secret_layout blob.now 0 result }
+        ensures is_key { IfOk result (λ found. IsPrivateKey (private_key_seen found.0)) }
     {
         match private_at(blob, 0) {
             Ok(found) => Ok(found),
@@ -76,8 +76,8 @@ impl<'a> PrivateView<'a> {
 
     /// A copy of the key. Refuses: `NoMemory`.
     pub fn to_key(&self, alloc: Global) -> Result<SshBasePrivateKey, NoMemory>
-        requires { IsPrivateKey (key_seen self.now) }
-        ensures { IfOk result (λ key. key ≡ key_seen self.now) }
+        requires { IsPrivateKey (private_key_seen self.now) }
+        ensures { IfOk result (λ key. key ≡ private_key_seen self.now) }
     {
         match self {
             PrivateView::Rsa {

@@ -4,10 +4,11 @@ ghost use Rattle.std.specs.Prelude.{◌^◌, ◌<◌, length, IfOk, IfErr};
 ghost use Rattle.picky_wire_base.specs.View.{end_of};
 ghost use Rattle.picky_keys.specs.Blob.{key_type};
 ghost use Rattle.picky_sshkey_blob.specs.Key.{IsPrivateKey};
-ghost use Rattle.picky_sshkey_blob.specs.Blob.{rsa_fields, ec_fields, ed_fields, sk_ecdsa_fields, sk_ed_fields};
+ghost use Rattle.picky_sshkey_blob.specs.Blob.{private_rsa_fields, private_ec_fields, private_ed_fields};
+ghost use Rattle.picky_sshkey_blob.specs.Blob.{private_sk_ecdsa_fields, private_sk_ed_fields};
 ghost use Rattle.picky_sshkey_blob.specs.Blob.{private_key_fields, secret as secret_layout};
 ghost use Rattle.picky_wire_base.specs.View.{SeenAt};
-ghost use Rattle.picky_sshkey_blob.specs.View.{key_seen, PartsLie, IsRefusal};
+ghost use Rattle.picky_sshkey_blob.specs.View.{private_key_seen, PrivatePartsLie, IsPrivateRefusal};
 
 use crate::view::PrivateView;
 use crate::view_fields::{ed_key_in, ed_secret_in, kind_in};
@@ -23,9 +24,9 @@ pub fn private_at<'a>(
     from: usize,
 ) -> Result<(PrivateView<'a>, usize), Stopped<'a, usize>>
     requires { length blob.now < 2 ^ 32 }
-    ensures seen { SeenAt key_seen (PartsLie blob.now (end_of key_type blob.now from)) secret_layout blob.now from result }
-    ensures is_key { IfOk result (λ found. IsPrivateKey (key_seen found.0)) }
-    ensures is_refusal { IfErr result IsRefusal }
+    ensures seen { SeenAt private_key_seen (PrivatePartsLie blob.now (end_of key_type blob.now from)) secret_layout blob.now from result }
+    ensures is_key { IfOk result (λ found. IsPrivateKey (private_key_seen found.0)) }
+    ensures is_refusal { IfErr result IsPrivateRefusal }
 {
     key_at(blob, from)
 }
@@ -33,7 +34,7 @@ pub fn private_at<'a>(
 #[tactic(auto, unfolding(crate::specs::Blob::secret))]
 fn key_at<'a>(blob: &'a [u8], from: usize) -> Result<(PrivateView<'a>, usize), Stopped<'a, usize>>
     requires { length blob.now < 2 ^ 32 }
-    ensures { SeenAt key_seen (PartsLie blob.now (end_of key_type blob.now from)) secret_layout blob.now from result }
+    ensures { SeenAt private_key_seen (PrivatePartsLie blob.now (end_of key_type blob.now from)) secret_layout blob.now from result }
 {
     let (kind, next) = kind_in(blob, from)?;
     fields_at(blob, next, kind)
@@ -45,7 +46,7 @@ fn fields_at<'a>(
     kind: KeyKind,
 ) -> Result<(PrivateView<'a>, usize), Stopped<'a, usize>>
     requires { length blob.now < 2 ^ 32 }
-    ensures { SeenAt key_seen (PartsLie blob.now from) (private_key_fields kind) blob.now from result }
+    ensures { SeenAt private_key_seen (PrivatePartsLie blob.now from) (private_key_fields kind) blob.now from result }
 {
     match kind {
         KeyKind::Rsa => rsa_at(blob, from),
@@ -56,10 +57,10 @@ fn fields_at<'a>(
     }
 }
 
-#[tactic(auto, unfolding(crate::specs::Blob::rsa_fields))]
+#[tactic(auto, unfolding(crate::specs::Blob::private_rsa_fields))]
 fn rsa_at<'a>(blob: &'a [u8], from: usize) -> Result<(PrivateView<'a>, usize), Stopped<'a, usize>>
     requires { length blob.now < 2 ^ 32 }
-    ensures { SeenAt key_seen (PartsLie blob.now from) rsa_fields blob.now from result }
+    ensures { SeenAt private_key_seen (PrivatePartsLie blob.now from) private_rsa_fields blob.now from result }
 {
     let (n, next) = mpint_in(blob, from, 1)?;
     let (e, next) = mpint_in(blob, next, 2)?;
@@ -80,14 +81,14 @@ fn rsa_at<'a>(blob: &'a [u8], from: usize) -> Result<(PrivateView<'a>, usize), S
     ))
 }
 
-#[tactic(auto, unfolding(crate::specs::Blob::ec_fields))]
+#[tactic(auto, unfolding(crate::specs::Blob::private_ec_fields))]
 fn ec_at<'a>(
     blob: &'a [u8],
     from: usize,
     curve: EcCurve,
 ) -> Result<(PrivateView<'a>, usize), Stopped<'a, usize>>
     requires { length blob.now < 2 ^ 32 }
-    ensures { SeenAt key_seen (PartsLie blob.now from) (ec_fields curve) blob.now from result }
+    ensures { SeenAt private_key_seen (PrivatePartsLie blob.now from) (private_ec_fields curve) blob.now from result }
 {
     let (_, next) = text_in(blob, from, 1)?;
     let (point, next) = string_in(blob, next, 2)?;
@@ -102,21 +103,21 @@ fn ec_at<'a>(
     ))
 }
 
-#[tactic(auto, unfolding(crate::specs::Blob::ed_fields))]
+#[tactic(auto, unfolding(crate::specs::Blob::private_ed_fields))]
 fn ed_at<'a>(blob: &'a [u8], from: usize) -> Result<(PrivateView<'a>, usize), Stopped<'a, usize>>
-    ensures { SeenAt key_seen (PartsLie blob.now from) ed_fields blob.now from result }
+    ensures { SeenAt private_key_seen (PrivatePartsLie blob.now from) private_ed_fields blob.now from result }
 {
     let (public, next) = ed_key_in(blob, from)?;
     let (secret, next) = ed_secret_in(blob, next, public.bytes)?;
     Ok((PrivateView::Ed { secret, public }, next))
 }
 
-#[tactic(auto, unfolding(crate::specs::Blob::sk_ecdsa_fields))]
+#[tactic(auto, unfolding(crate::specs::Blob::private_sk_ecdsa_fields))]
 fn sk_ecdsa_at<'a>(
     blob: &'a [u8],
     from: usize,
 ) -> Result<(PrivateView<'a>, usize), Stopped<'a, usize>>
-    ensures { SeenAt key_seen (PartsLie blob.now from) sk_ecdsa_fields blob.now from result }
+    ensures { SeenAt private_key_seen (PrivatePartsLie blob.now from) private_sk_ecdsa_fields blob.now from result }
 {
     let (_, next) = text_in(blob, from, 1)?;
     let (point, next) = string_in(blob, next, 2)?;
@@ -135,9 +136,9 @@ fn sk_ecdsa_at<'a>(
     ))
 }
 
-#[tactic(auto, unfolding(crate::specs::Blob::sk_ed_fields))]
+#[tactic(auto, unfolding(crate::specs::Blob::private_sk_ed_fields))]
 fn sk_ed_at<'a>(blob: &'a [u8], from: usize) -> Result<(PrivateView<'a>, usize), Stopped<'a, usize>>
-    ensures { SeenAt key_seen (PartsLie blob.now from) sk_ed_fields blob.now from result }
+    ensures { SeenAt private_key_seen (PrivatePartsLie blob.now from) private_sk_ed_fields blob.now from result }
 {
     let (key, next) = ed_key_in(blob, from)?;
     let (application, next) = text_in(blob, next, 2)?;

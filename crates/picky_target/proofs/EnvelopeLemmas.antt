@@ -12,7 +12,7 @@ use Rattle.picky_target.specs.declared.error.ConvertError.TheVariants as errors
 use Rattle.picky_target.specs.declared.target.KeyTarget.TheVariants as targets
 use Rattle.picky_target.specs.Judged.{carries_comment}
 use Rattle.picky_target.specs.Output.{Output}
-use Rattle.picky_target.specs.inner.Envelope.{envelope_refusal, made, envelope_drafted, salt_judged}
+use Rattle.picky_target.specs.inner.Envelope.{envelope_output_refusal, made, envelope_drafted, salt_judged}
 use Rattle.picky_target.proofs.TestLemmas.{refuses, step_refuses}
 
 -- ---- the suite's fault
@@ -34,7 +34,7 @@ unfolding key_made
 made_no_fault pass key comment salt e is = go _ (made_of key pass comment salt) is
   where
     go : (short : Bool) (k : SshPrivateKey)
-        → map_err envelope_refusal (if short then Ok k else Err private.TooLong) ≡ Err e → IsNoFault e
+        → map_err envelope_output_refusal (if short then Ok k else Err private.TooLong) ≡ Err e → IsNoFault e
     go true k is = cc is
     go false k is = λ fault. cc (is, fault)
 

@@ -13,10 +13,10 @@ use Rattle.picky_ppk_parts.specs.declared.error.PuttyError.TheVariants as putty
 use Rattle.picky_ppk_file.specs.{PuttyRefusal.{is_security_key}, declared.file.PpkFile.{PpkFile}}
 use Rattle.picky_ppk_file.specs.Written.{file_text, fits_block, file_spelled}
 use Rattle.picky_ppk.specs.{Changed.{file_of_parts, of_base_key}, Fresh.{salt_len}}
-use Rattle.picky_target.specs.{declared.error.ConvertError.{ConvertError}, Drafts.{padding_len, parts_of}}
+use Rattle.picky_target.specs.{declared.error.ConvertError.{ConvertError}, Drafts.{key_padding_len, key_parts_of}}
 use Rattle.picky_target.specs.Judged.{derives_under}
-use Rattle.picky_target.specs.inner.File.{text_of_file, salt_and_padding, measured, plain_of, plain_drafted, plain_written}
-use Rattle.picky_target.specs.inner.Public.{putty_refusal}
+use Rattle.picky_target.specs.inner.File.{text_of_file, salt_and_padding, measured, plain_ppk, plain_drafted, plain_written}
+use Rattle.picky_target.specs.inner.Public.{putty_output_refusal}
 use Rattle.picky_target.specs.declared.error.ConvertError.TheVariants as errors
 use Rattle.picky_target.specs.declared.target.KeyTarget.TheVariants as targets
 use Rattle.picky_target.proofs.TestLemmas.{refuses, step_refuses}
@@ -29,17 +29,17 @@ abbrev pub IsNoPuttyFault : PuttyError → Type 0
 IsNoPuttyFault e = e ≢ putty.SuiteFault
 
 -- a refusal that is no fault keeps to it as the conversion's
-renamed_no_fault : (e : PuttyError) → IsNoPuttyFault e → IsNoFault (putty_refusal e)
+renamed_no_fault : (e : PuttyError) → IsNoPuttyFault e → IsNoFault (putty_output_refusal e)
 renamed_no_fault putty.NoMemory other = λ same. cc same
 renamed_no_fault putty.TooLong other = λ same. cc same
 renamed_no_fault putty.TooManyLines other = λ same. cc same
 renamed_no_fault e other = λ same. other (cc same)
 
 mapped_no_fault : {A : Type 0} (r : Result A PuttyError) (f : ConvertError) → ((e : PuttyError) → r ≡ Err e → IsNoPuttyFault e)
-    → map_err putty_refusal r ≡ Err f → IsNoFault f
+    → map_err putty_output_refusal r ≡ Err f → IsNoFault f
 mapped_no_fault (Ok x) f each is = cc is
 mapped_no_fault (Err e) f each is =
-    let same : putty_refusal e ≡ f = cc is in
+    let same : putty_output_refusal e ≡ f = cc is in
     λ fault. renamed_no_fault e (each e refl) (cc (same, fault))
 
 -- ---- a text
@@ -69,7 +69,7 @@ parts_no_fault key e is = go (is_security_key (public_part key)) refl
     go true is_sk =
         let same : putty.NotSupported (codes "SK keys") ≡ e = cc (sym (security_key_is_refused key is_sk) ∙ is) in
         λ fault. cc (same, fault)
-    go false plain = tested_no_fault (is_short (blob_of (public_part key))) (is_short (secret_bytes key)) (parts_of key) e
+    go false plain = tested_no_fault (is_short (blob_of (public_part key))) (is_short (secret_bytes key)) (key_parts_of key) e
         (sym (key_parts_is key plain) ∙ is)
 
 made_no_fault : (m : Meanings) (version : PpkVersionKey) (key : SshBasePrivateKey) (comment : List ℕ) (e : PuttyError)
@@ -87,7 +87,7 @@ pub plain_no_fault : (m : Meanings) (version : PpkVersionKey) (config : PpkEncry
     (comment salt padding : List ℕ) (e : ConvertError)
     → plain_drafted m version config key comment salt padding ≡ Err e → IsNoFault e
 plain_no_fault m version config key comment salt padding e is =
-    step_refuses {B = PpkFile} IsNoFault (plain_of m version key comment) _ e
+    step_refuses {B = PpkFile} IsNoFault (plain_ppk m version key comment) _ e
     (λ g made. mapped_no_fault (of_base_key m version key comment) g (made_no_fault m version key comment) made)
     (λ f g rest. step_refuses {A = Unit {0}} {B = PpkFile} IsNoFault (measured config salt padding f) _ g
     (measured_no_fault config salt padding f) (λ _ h none. cc none) rest) is
@@ -96,7 +96,7 @@ pub drawn_no_fault : (pass fresh : List ℕ) (version : PpkVersionKey) (config :
     (e : ConvertError) → salt_and_padding pass fresh version config key ≡ Err e → IsNoFault e
 drawn_no_fault pass fresh version config key e is =
     refuses {A = List ℕ × List ℕ} IsNoFault (derives_under (targets.Ppk version config) pass) _ (errors.Putty putty.Argon2) e
-    (λ g more. refuses {A = List ℕ × List ℕ} IsNoFault (nat_le (salt_len version config + padding_len key) (length fresh)) _
+    (λ g more. refuses {A = List ℕ × List ℕ} IsNoFault (nat_le (salt_len version config + key_padding_len key) (length fresh)) _
     errors.FreshTooShort g (λ h none. cc none) (λ same. cc same) more)
     (λ same. cc same) is
 
@@ -128,7 +128,7 @@ unasked_leaves meanings faults asked view (Err e) says suite each gives =
 pub plain_written_no_fault : (m : Meanings) (version : PpkVersionKey) (key : SshBasePrivateKey) (comment : List ℕ)
     (e : ConvertError) → plain_written m version key comment ≡ Err e → IsNoFault e
 plain_written_no_fault m version key comment e is =
-    step_refuses IsNoFault (plain_of m version key comment) text_of_file e
+    step_refuses IsNoFault (plain_ppk m version key comment) text_of_file e
     (λ g made. mapped_no_fault (of_base_key m version key comment) g (made_no_fault m version key comment) made) text_no_fault is
 
 pub ruleset sealing_faults = (plain_no_fault, drawn_no_fault)

@@ -27,7 +27,7 @@ use Rattle.picky_key_text.specs.{Key.{private_meaning}, PpkText.{CanOpen, IsPpkT
 use Rattle.picky_target.specs.declared.target.KeyTarget.TheVariants as targets
 use Rattle.picky_target.specs.Output.{Output}
 use Rattle.picky_target.specs.Carried.{Carries, Comment, Derivation, DerivesUnder, Fresh, Kind, Length, Lines}
-use Rattle.picky_target.specs.Drafts.{parts_of, plain_file, ppk_file, sealed_file, padding_len}
+use Rattle.picky_target.specs.Drafts.{key_parts_of, plain_file, ppk_file, sealed_file, key_padding_len}
 use Rattle.picky_target.specs.ReadBack.{IsConfig, under}
 use Rattle.picky_target.proofs.ByteLemmas.{drop_bytes, each_is_byte, keys_are_bytes, secret_is_bytes, take_bytes}
 use Rattle.picky_target.proofs.{FileLemmas.{key_parts_is}, FormLaws.{file_form}}
@@ -36,22 +36,22 @@ use Rattle.picky_target.proofs.{FileLemmas.{key_parts_is}, FormLaws.{file_form}}
 
 -- the parts of a key that fits a file
 made_parts : (key : SshBasePrivateKey) → is_security_key (public_part key) ≡ false → length (blob_of (public_part key)) < 2 ^ 32
-    → length (secret_bytes key) < 2 ^ 32 → key_parts key ≡ Ok (parts_of key)
+    → length (secret_bytes key) < 2 ^ 32 → key_parts key ≡ Ok (key_parts_of key)
 made_parts key plain blob secret =
     let blob_fits = lt-ltb (length (blob_of (public_part key))) (2 ^ 32) blob in
     let secret_fits = lt-ltb (length (secret_bytes key)) (2 ^ 32) secret in
     key_parts_is key plain ∙ rw (blob_fits, secret_fits) refl
 
 -- stand for it, with any padding too
-stands_padded : (key : SshBasePrivateKey) (padding : List ℕ) → IsPrivateKey key → key_parts key ≡ Ok (parts_of key)
-    → StandsForKey (parts_of key).algorithm (blob_of (public_part key)) (secret_bytes key ++ padding) key
+stands_padded : (key : SshBasePrivateKey) (padding : List ℕ) → IsPrivateKey key → key_parts key ≡ Ok (key_parts_of key)
+    → StandsForKey (key_parts_of key).algorithm (blob_of (public_part key)) (secret_bytes key ++ padding) key
 stands_padded key padding is made =
-    let algorithm = (parts_of key).algorithm in
+    let algorithm = (key_parts_of key).algorithm in
     let blob = blob_of (public_part key) in
     let secret = secret_bytes key in
-    let stands = parts_sound algorithm blob secret key (parts_read_back key (parts_of key) is made) in
+    let stands = parts_sound algorithm blob secret key (parts_read_back key (key_parts_of key) is made) in
     subst (λ s. StandsForKey algorithm blob (s ++ padding) key) (take-length secret)
-    (cut_stands algorithm blob secret padding key (length secret) stands (made_is_counted key (parts_of key) is made))
+    (cut_stands algorithm blob secret padding key (length secret) stands (made_is_counted key (key_parts_of key) is made))
 
 mac_bytes : (m : Meanings) (version : PpkVersionKey) (key input : List ℕ)
     → (length (mac_of m version key input) < 2 ^ 32) × IsBytes (mac_of m version key input)
@@ -103,7 +103,7 @@ plain_is_read_back m fresh version config key comment is text carries =
       private = secret;
       opened = inl (made_file_carries m _ f refl refl, refl);
       key = key;
-      stands = subst (λ s. StandsForKey (parts_of key).algorithm blob s key) (append-nil secret) (stands_padded key [] is made);
+      stands = subst (λ s. StandsForKey (key_parts_of key).algorithm blob s key) (append-nil secret) (stands_padded key [] is made);
       is = refl;
     }
 
@@ -140,23 +140,23 @@ sealed_is_read_back : (m : Meanings) (pass fresh : List ℕ) (version : PpkVersi
 sealed_is_read_back m pass fresh version config key comment ranges is text fresh_bytes pass_text carries =
     let n = salt_len version config in
     let salt = take n fresh in
-    let padding = take (padding_len key) (drop n fresh) in
+    let padding = take (key_padding_len key) (drop n fresh) in
     let sealing = sealing_under version config salt in
     let keys = keys_under m sealing pass in
     let f = sealed_file m (record { pass = Some pass; fresh = fresh }) version config pass (plain_file m version key comment) key in
     let blob = blob_of (public_part key) in
     let secret = secret_bytes key in
     let private = secret ++ padding in
-    let enough : n + padding_len key ≤ length fresh = carries.holds Fresh in
+    let enough : n + key_padding_len key ≤ length fresh = carries.holds Fresh in
     let salt_sized : length salt ≡ n = omega (arith, enough, length-take n fresh) in
-    let padding_sized : length padding ≡ padding_len key =
-    omega (arith, enough, length-take (padding_len key) (drop n fresh), length-drop n fresh) in
+    let padding_sized : length padding ≡ key_padding_len key =
+    omega (arith, enough, length-take (key_padding_len key) (drop n fresh), length-drop n fresh) in
     let room = carries.holds Length in
     let lines = carries.holds Lines in
     let salt_bytes = take_bytes n fresh fresh_bytes in
     let ranged = sealing_ranges version config salt ranges salt_bytes salt_sized in
     let byte_keys = keys_are_bytes m sealing pass ranged (utf8_is_bytes pass pass_text) in
-    let open_bytes = bytes_joined secret padding (secret_is_bytes key is) (take_bytes (padding_len key) (drop n fresh) (drop_bytes n fresh fresh_bytes)) in
+    let open_bytes = bytes_joined secret padding (secret_is_bytes key is) (take_bytes (key_padding_len key) (drop n fresh) (drop_bytes n fresh fresh_bytes)) in
     let sealed_len = m.seal_len keys.key keys.iv private in
     let whole : IsWhole private = omega (arith, length-append secret padding, padding_sized) in
     let file : IsFile f = record {

@@ -25,7 +25,7 @@ use Rattle.picky_ppk_file.specs.declared.file.PpkFile.{PpkFile}
 use Rattle.picky_ppk_file.specs.PuttyRefusal.{is_security_key}
 use Rattle.picky_ppk.specs.Changed.{file_of_parts, of_base_key}
 use Rattle.picky_ppk.specs.Fresh.{salt_len}
-use Rattle.picky_target.specs.Drafts.{parts_of, plain_file}
+use Rattle.picky_target.specs.Drafts.{key_parts_of, plain_file}
 
 -- ---- the parts of a key
 
@@ -41,13 +41,13 @@ steps true short_secret algorithm blob secret = refl
 steps false short_secret algorithm blob secret = refl
 
 abbrev parts_tested : SshBasePrivateKey → Result KeyParts PuttyError
-parts_tested key = tested (is_short (blob_of (public_part key))) (is_short (secret_bytes key)) (parts_of key)
+parts_tested key = tested (is_short (blob_of (public_part key))) (is_short (secret_bytes key)) (key_parts_of key)
 
-under_is : (key : SshBasePrivateKey) (algorithm : PpkKeyAlgorithmValue) → (parts_of key).algorithm ≡ algorithm
+under_is : (key : SshBasePrivateKey) (algorithm : PpkKeyAlgorithmValue) → (key_parts_of key).algorithm ≡ algorithm
     → parts_under key algorithm ≡ parts_tested key
 under_is key algorithm is =
     steps (is_short (blob_of (public_part key))) (is_short (secret_bytes key)) algorithm (blob_of (public_part key)) (secret_bytes key)
-    ∙ ap (λ a. tested (is_short (blob_of (public_part key))) (is_short (secret_bytes key)) (record (parts_of key) { algorithm = a })) (sym is)
+    ∙ ap (λ a. tested (is_short (blob_of (public_part key))) (is_short (secret_bytes key)) (record (key_parts_of key) { algorithm = a })) (sym is)
 
 -- Which parts a key has, and which refusals.
 pub key_parts_is : (key : SshBasePrivateKey) → is_security_key (public_part key) ≡ false → key_parts key ≡ parts_tested key
@@ -72,12 +72,12 @@ security_key_is_refused (keys.Ed secret public) is_sk = cc is_sk
 security_key_is_refused (keys.SkEcdsaSha2NistP256 point application flags handle) is_sk = refl
 security_key_is_refused (keys.SkEd25519 key application flags handle) is_sk = refl
 
-parts_are : (key : SshBasePrivateKey) (parts : KeyParts) → key_parts key ≡ Ok parts → parts_of key ≡ parts
+parts_are : (key : SshBasePrivateKey) (parts : KeyParts) → key_parts key ≡ Ok parts → key_parts_of key ≡ parts
 parts_are key parts is = go (is_security_key (public_part key)) refl
   where
-    go : (is_sk : Bool) → is_security_key (public_part key) ≡ is_sk → parts_of key ≡ parts
+    go : (is_sk : Bool) → is_security_key (public_part key) ≡ is_sk → key_parts_of key ≡ parts
     go true is_sk = cc (sym (security_key_is_refused key is_sk) ∙ is)
-    go false plain = tested_ok _ _ (parts_of key) parts (sym (key_parts_is key plain) ∙ is)
+    go false plain = tested_ok _ _ (key_parts_of key) parts (sym (key_parts_is key plain) ∙ is)
 
 -- The file that is made of a key.
 pub made_is_plain : (m : Meanings) (version : PpkVersionKey) (key : SshBasePrivateKey) (comment : List ℕ) (f : PpkFile)

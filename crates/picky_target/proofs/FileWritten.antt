@@ -19,10 +19,10 @@ use Rattle.picky_ppk.specs.{Sealed.{encrypted, file_to_seal, sealing_under}, Fre
 use Rattle.picky_ppk.proofs.SealedLemmas.{draft_fits}
 use Rattle.picky_key_text.specs.Key.{private_meaning}
 use Rattle.picky_target.specs.{declared.error.ConvertError.{ConvertError}, Output.{Output}}
-use Rattle.picky_target.specs.Drafts.{plain_file, padding_len, sealed_file, private_bytes}
+use Rattle.picky_target.specs.Drafts.{plain_file, key_padding_len, sealed_file, private_bytes}
 use Rattle.picky_target.specs.Judged.{carries_comment, derives_under, judged_meaning, mac_len, measured_file}
 use Rattle.picky_target.specs.Written.{written, writing_asks}
-use Rattle.picky_target.specs.inner.File.{plain_written, Sealable, sealable, sealed_text, ppk_written, ppk_asks}
+use Rattle.picky_target.specs.inner.File.{plain_written, Sealable, sealable_file, sealed_text, ppk_written, ppk_writing_asks}
 use Rattle.picky_target.specs.declared.error.ConvertError.TheVariants as errors
 use Rattle.picky_target.specs.declared.target.KeyTarget.TheVariants as targets
 use Rattle.picky_target.proofs.{FileLemmas.{key_parts_is, salt_size}, LengthLemmas.{same_length, sealing_version}}
@@ -56,7 +56,7 @@ pub sealed_len : (m : Meanings) (pass fresh : List ℕ) (version : PpkVersionKey
     ≡ length (file_text (sealed_file m (record { pass = Some pass; fresh = fresh }) version config pass (plain_file m version key comment) key))
 sealed_len m pass fresh version config key comment =
     let salt = take (salt_len version config) fresh in
-    let padding = take (padding_len key) (drop (salt_len version config) fresh) in
+    let padding = take (key_padding_len key) (drop (salt_len version config) fresh) in
     let sealing = sealing_under version config salt in
     let keys = keys_under m sealing pass in
     let plain = plain_file m version key comment in
@@ -109,7 +109,7 @@ under pass fresh = record { pass = Some pass; fresh = fresh }
 abbrev sealed_rest : (pass fresh : List ℕ) → PpkVersionKey → PpkEncryptionConfig → SshBasePrivateKey → (comment : List ℕ)
     → Result (Unit {0}) ConvertError
 sealed_rest pass fresh version config key comment =
-    rest (derives_under (targets.Ppk version config) pass) (nat_le (salt_len version config + padding_len key) (length fresh))
+    rest (derives_under (targets.Ppk version config) pass) (nat_le (salt_len version config + key_padding_len key) (length fresh))
     (is_short (blob_of (public_part key))) (is_short (private_bytes (under pass fresh) version config key))
     (is_short (file_text (measured_file (under pass fresh) version config key comment)))
     (fits_block (blob_of (public_part key)) && fits_block (private_bytes (under pass fresh) version config key))
@@ -117,7 +117,7 @@ sealed_rest pass fresh version config key comment =
 abbrev to_seal : Meanings → (fresh : List ℕ) → PpkVersionKey → PpkEncryptionConfig → SshBasePrivateKey → (comment : List ℕ) → Sealable
 to_seal m fresh version config key comment = record {
   salt = take (salt_len version config) fresh;
-  padding = take (padding_len key) (drop (salt_len version config) fresh);
+  padding = take (key_padding_len key) (drop (salt_len version config) fresh);
   plain = plain_file m version key comment;
 }
 
@@ -129,18 +129,18 @@ secret_short secret padding long =
 
 sealable_is : (m : Meanings) (pass fresh : List ℕ) (version : PpkVersionKey) (config : PpkEncryptionConfig)
     (key : SshBasePrivateKey) (comment : List ℕ) → is_security_key (public_part key) ≡ false
-    → sealable m pass fresh version config key comment
+    → sealable_file m pass fresh version config key comment
     ≡ and_then (sealed_rest pass fresh version config key comment) (λ _. Ok (to_seal m fresh version config key comment))
 unfolding of_base_key
 sealable_is m pass fresh version config key comment plain =
     let blob = blob_of (public_part key) in
     let secret = secret_bytes key in
     let salt = take (salt_len version config) fresh in
-    let padding = take (padding_len key) (drop (salt_len version config) fresh) in
+    let padding = take (key_padding_len key) (drop (salt_len version config) fresh) in
     let file = measured_file (record { pass = Some pass; fresh = fresh }) version config key comment in
     elim (cases_Bool (derives_under (targets.Ppk version config) pass)) [
       | inr bad ↦ rw bad refl
-      | inl derives ↦ rw derives (elim (cases_Bool (nat_le (salt_len version config + padding_len key) (length fresh))) [
+      | inl derives ↦ rw derives (elim (cases_Bool (nat_le (salt_len version config + key_padding_len key) (length fresh))) [
         | inr few ↦ rw few refl
         | inl enough ↦ rw (enough, key_parts_is key plain) (elim (cases_Bool (is_short blob)) [
           | inr long ↦ rw long refl
@@ -180,17 +180,17 @@ sealing_done : (m : Meanings) (pass fresh : List ℕ) (version : PpkVersionKey) 
 unfolding encrypted file_written
 sealing_done m pass fresh version config key comment judged =
     let blob = blob_of (public_part key) in
-    let says = rest_says (derives_under (targets.Ppk version config) pass) (nat_le (salt_len version config + padding_len key) (length fresh))
+    let says = rest_says (derives_under (targets.Ppk version config) pass) (nat_le (salt_len version config + key_padding_len key) (length fresh))
     (is_short blob) (is_short (private_bytes (under pass fresh) version config key))
     (is_short (file_text (measured_file (under pass fresh) version config key comment)))
     (fits_block blob && fits_block (private_bytes (under pass fresh) version config key)) judged in
     let secret = secret_bytes key in
     let n = salt_len version config in
     let salt = take n fresh in
-    let padding = take (padding_len key) (drop n fresh) in
+    let padding = take (key_padding_len key) (drop n fresh) in
     let plain = plain_file m version key comment in
     let keys = keys_under m (sealing_under version config salt) pass in
-    let long = leb-true (n + padding_len key) (length fresh) says.1 in
+    let long = leb-true (n + key_padding_len key) (length fresh) says.1 in
     let salt_len_is : length salt ≡ n = omega (arith, long, length-take n fresh) in
     let bytes = ltb-true (length (secret ++ padding)) (2 ^ 32) says.2 in
     let fits = draft_fits pass config salt padding plain (salt_size version config (length salt) salt_len_is)
@@ -215,7 +215,7 @@ passed_alike (Err e) s = refl
 abbrev pub AreWritten : Meanings → Output → PpkVersionKey → PpkEncryptionConfig → SshBasePrivateKey → List ℕ → Type 0
 AreWritten m out version config key comment =
     (ppk_written m out version config key comment ≡ written m out (targets.Ppk version config) (private_meaning key comment))
-    × (ppk_asks m out version config key comment ≡ writing_asks out (targets.Ppk version config) (private_meaning key comment))
+    × (ppk_writing_asks m out version config key comment ≡ writing_asks out (targets.Ppk version config) (private_meaning key comment))
 
 -- what comes first is judged alike
 first : (m : Meanings) (out : Output) (version : PpkVersionKey) (config : PpkEncryptionConfig) (key : SshBasePrivateKey)

@@ -25,7 +25,7 @@ use Rattle.picky_keys.specs.Line.{line_body, line_of as public_line_of}
 use Rattle.picky_ppk_file.specs.declared.file.PpkFile.{PpkFile}
 use Rattle.picky_ppk_file.specs.File.{version_of}
 use Rattle.picky_ppk_file.specs.Written.{line_end_of, file_lines, file_text, line_under}
-use Rattle.picky_ppk_file.specs.PuttyPublic.{putty_public, header as putty_header}
+use Rattle.picky_ppk_file.specs.PuttyPublic.{putty_public, putty_header}
 use Rattle.picky_key_text.specs.Form.{envelope_start, form_of, is_certificate, ppk_start, putty_public_start}
 use Rattle.picky_key_text.specs.declared.form.Form.TheVariants as forms
 

@@ -24,7 +24,7 @@ use Rattle.picky_key_text.specs.declared.meaning.Key.TheVariants as keys
 use Rattle.picky_target.specs.{declared.target.KeyTarget.{KeyTarget}, Output.{Output}}
 use Rattle.picky_target.specs.{Drafts.{openssh_key, ppk_file, private_bytes}, Texts.{envelope_text}}
 use Rattle.picky_target.specs.Carried.{CarriesComment, Derives, HasFileLines, HasFileRoom, HasKind, HasLines, HasRoom}
-use Rattle.picky_target.specs.Carried.{HasNeededSecret, HasSecretRoom, Holds, Place, need, PrivateKey, Kind, Comment}
+use Rattle.picky_target.specs.Carried.{HasNeededSecret, HasSecretRoom, Holds, Place, fresh_needed, PrivateKey, Kind, Comment}
 use Rattle.picky_target.specs.Carried.{Derivation, Fresh, Length, Lines}
 use Rattle.picky_target.specs.Judged.{carries_comment, derives, ends_in_cr, file_has_lines, has_kind, has_lf, has_lines}
 use Rattle.picky_target.specs.Judged.{has_room, has_needed_secret, is_trimmed, measured_file, passes, secret_has_room}
@@ -256,7 +256,7 @@ holds_from_test out target meaning PrivateKey test = secret_holds target meaning
 holds_from_test out target meaning Kind test = kind_holds target meaning.key test
 holds_from_test out target meaning Comment test = comment_holds target meaning.comment test
 holds_from_test out target meaning Derivation test = derivation_holds target out.pass test
-holds_from_test out target meaning Fresh test = leb-true (need out target meaning.key) (length out.fresh) test
+holds_from_test out target meaning Fresh test = leb-true (fresh_needed out target meaning.key) (length out.fresh) test
 holds_from_test out target meaning Length test = room_holds out target meaning test
 holds_from_test out target meaning Lines test = lines_hold out target meaning.key test
 
@@ -267,6 +267,6 @@ test_from_holds out target meaning PrivateKey holds = secret_test target meaning
 test_from_holds out target meaning Kind holds = kind_test target meaning.key holds
 test_from_holds out target meaning Comment holds = comment_test target meaning.comment holds
 test_from_holds out target meaning Derivation holds = derivation_test target out.pass holds
-test_from_holds out target meaning Fresh holds = le-leb (need out target meaning.key) (length out.fresh) holds
+test_from_holds out target meaning Fresh holds = le-leb (fresh_needed out target meaning.key) (length out.fresh) holds
 test_from_holds out target meaning Length holds = room_test out target meaning holds
 test_from_holds out target meaning Lines holds = lines_test out target meaning.key holds

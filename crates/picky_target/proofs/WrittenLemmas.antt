@@ -20,8 +20,8 @@ use Rattle.picky_key_text.specs.declared.meaning.Key.TheVariants as keys
 use Rattle.picky_target.specs.{declared.error.ConvertError.{ConvertError}, declared.target.KeyTarget.{KeyTarget}}
 use Rattle.picky_target.specs.{Output.{Output}, Carried.{need_under}}
 use Rattle.picky_target.specs.Judged.{carries_comment, derives, judged_meaning}
-use Rattle.picky_target.specs.Written.{fault_of, written, writing_asks}
-use Rattle.picky_target.specs.{inner.Envelope.{envelope_written, envelope_asks}, inner.File.{ppk_written, ppk_asks}}
+use Rattle.picky_target.specs.Written.{target_fault, written, writing_asks}
+use Rattle.picky_target.specs.{inner.Envelope.{envelope_written, envelope_asks}, inner.File.{ppk_written, ppk_writing_asks}}
 use Rattle.picky_target.specs.inner.Public.{line_written, putty_written}
 use Rattle.picky_target.specs.declared.error.ConvertError.TheVariants as errors
 use Rattle.picky_target.specs.declared.target.KeyTarget.TheVariants as targets
@@ -34,13 +34,13 @@ pub record IsWrittenAs (m : Meanings) (out : Output) (target : KeyTarget) (meani
     (asks : Bool) (fault : ConvertError) : Type 0 where
   pub says_is : says ≡ written m out target meaning
   pub asks_is : asks ≡ writing_asks out target meaning
-  pub fault_is : fault ≡ fault_of target
+  pub fault_is : fault ≡ target_fault target
 
 pub gives_as : {X : Type 0} (m : Meanings) (out : Output) (target : KeyTarget) (meaning : Meaning)
     (says : Result (List ℕ) ConvertError) (asks : Bool) (fault : ConvertError) (want : ConvertError) (view : X → List ℕ)
     (r : Result X ConvertError) (rose : Type 0) → IsWrittenAs m out target meaning says asks fault
     → GivesAsked want fault view r says asks rose
-    → GivesAsked want (fault_of target) view r (written m out target meaning) (writing_asks out target meaning) rose
+    → GivesAsked want (target_fault target) view r (written m out target meaning) (writing_asks out target meaning) rose
 gives_as m out target meaning says asks fault want view r rose is given =
     subst (λ f. GivesAsked want f view r (written m out target meaning) (writing_asks out target meaning) rose) is.fault_is
     (subst (λ a. GivesAsked want fault view r (written m out target meaning) a rose) is.asks_is
@@ -50,7 +50,7 @@ pub leaves_as : {S X : Type 0} (meanings : S → Meanings) (faults : S → ℕ) 
     (meaning : Meaning) (says : Result (List ℕ) ConvertError) (asks : Bool) (fault : ConvertError) (r : Result X ConvertError)
     (old new : S) → IsWrittenAs m out target meaning says asks fault
     → LeavesSuite meanings faults fault asks r old new
-    → LeavesSuite meanings faults (fault_of target) (writing_asks out target meaning) r old new
+    → LeavesSuite meanings faults (target_fault target) (writing_asks out target meaning) r old new
 leaves_as meanings faults m out target meaning says asks fault r old new is left =
     subst (λ f. LeavesSuite meanings faults f (writing_asks out target meaning) r old new) is.fault_is
     (subst (λ a. LeavesSuite meanings faults fault a r old new) is.asks_is left)
@@ -94,11 +94,11 @@ pub written_ppk : (m : Meanings) (pass : Option (List ℕ)) (fresh : List ℕ) (
     → target ≡ targets.Ppk version config → meaning.key ≡ keys.Private key → comment ≡ meaning.comment
     → IsWrittenAs m (record { pass = pass; fresh = fresh }) target meaning
     (ppk_written m (record { pass = pass; fresh = fresh }) version config key comment)
-    (ppk_asks m (record { pass = pass; fresh = fresh }) version config key comment) (errors.Putty putty.SuiteFault)
+    (ppk_writing_asks m (record { pass = pass; fresh = fresh }) version config key comment) (errors.Putty putty.SuiteFault)
 written_ppk m pass fresh target version config meaning key comment target_is key_is comment_is =
     let out : Output = record { pass = pass; fresh = fresh } in
     let says = ppk_written m out version config key comment in
-    let asks = ppk_asks m out version config key comment in
+    let asks = ppk_writing_asks m out version config key comment in
     let both = file_is_written m pass fresh version config key comment in
     subst (λ t. IsWrittenAs m out t meaning says asks (errors.Putty putty.SuiteFault)) (sym target_is)
     (subst (λ p. IsWrittenAs m out (targets.Ppk version config) p says asks (errors.Putty putty.SuiteFault))

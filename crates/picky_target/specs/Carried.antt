@@ -22,7 +22,7 @@ use Rattle.picky_target.specs.declared.target.KeyTarget.{KeyTarget}
 use Rattle.picky_target.specs.declared.target.KeyTarget.TheVariants as targets
 use Rattle.picky_target.specs.Output.{Output}
 use Rattle.picky_ppk.specs.Fresh.{salt_len}
-use Rattle.picky_target.specs.Drafts.{padding_len, private_bytes, ppk_file}
+use Rattle.picky_target.specs.Drafts.{key_padding_len, private_bytes, ppk_file}
 use Rattle.picky_target.specs.Texts.{text_for}
 
 -- a private key, a kind of key that the target has, a comment that it has, a passphrase that keys can be derived from, fresh
@@ -95,7 +95,7 @@ Derives target (Some pass) = DerivesUnder target pass
 -- how many sealing takes: OpenSSH's salt; PuTTY's salt in version 3, and its padding
 abbrev pub need_of : KeyTarget → SshBasePrivateKey → ℕ
 need_of targets.OpenSsh key = 16
-need_of (targets.Ppk version config) key = salt_len version config + padding_len key
+need_of (targets.Ppk version config) key = salt_len version config + key_padding_len key
 need_of targets.OpenSshPublic key = 0
 need_of targets.PuttyPublic key = 0
 
@@ -104,8 +104,8 @@ need_under target (Some pass) (keys.Private key) = need_of target key
 need_under target (Some pass) (keys.Public key) = 0
 need_under target None key = 0
 
-abbrev pub need : Output → KeyTarget → Key → ℕ
-need out target key = need_under target out.pass key
+abbrev pub fresh_needed : Output → KeyTarget → Key → ℕ
+fresh_needed out target key = need_under target out.pass key
 
 -- ---- lengths that a length of the wire can say
 
@@ -149,7 +149,7 @@ Holds out target meaning PrivateKey = HasNeededSecret target meaning.key
 Holds out target meaning Kind = HasKind target meaning.key
 Holds out target meaning Comment = CarriesComment target meaning.comment
 Holds out target meaning Derivation = Derives target out.pass
-Holds out target meaning Fresh = need out target meaning.key ≤ length out.fresh
+Holds out target meaning Fresh = fresh_needed out target meaning.key ≤ length out.fresh
 Holds out target meaning Length = HasRoom out target meaning
 Holds out target meaning Lines = HasLines out target meaning.key
 

@@ -29,11 +29,11 @@ openssh_key out key comment = made_of key out.pass comment (take 16 out.fresh)
 abbrev pub salt_of : Output → PpkVersionKey → PpkEncryptionConfig → List ℕ
 salt_of out version config = take (salt_len version config) out.fresh
 
-abbrev pub padding_len : SshBasePrivateKey → ℕ
-padding_len key = lacking (secret_bytes key)
+abbrev pub key_padding_len : SshBasePrivateKey → ℕ
+key_padding_len key = lacking (secret_bytes key)
 
 abbrev pub padding_of : Output → PpkVersionKey → PpkEncryptionConfig → SshBasePrivateKey → List ℕ
-padding_of out version config key = take (padding_len key) (drop (salt_len version config) out.fresh)
+padding_of out version config key = take (key_padding_len key) (drop (salt_len version config) out.fresh)
 
 -- the private bytes, with their padding where they are to be sealed
 abbrev pub padded : Option (List ℕ) → (secret padding : List ℕ) → List ℕ
@@ -44,8 +44,8 @@ abbrev pub private_bytes : Output → PpkVersionKey → PpkEncryptionConfig → 
 private_bytes out version config key = padded out.pass (secret_bytes key) (padding_of out version config key)
 
 -- the parts of a key; a key whose secret a device keeps has no secret bytes, and no place in PuTTY's file
-abbrev pub parts_of : SshBasePrivateKey → KeyParts
-parts_of key = record {
+abbrev pub key_parts_of : SshBasePrivateKey → KeyParts
+key_parts_of key = record {
   algorithm = algorithm_of (public_key_of (public_part key));
   blob = blob_of (public_part key);
   private_bytes = secret_bytes key;
@@ -53,7 +53,7 @@ parts_of key = record {
 
 -- the file that isn't sealed, with its MAC
 abbrev pub plain_file : Meanings → PpkVersionKey → SshBasePrivateKey → (comment : List ℕ) → PpkFile
-plain_file m version key comment = file_of_parts m version comment (parts_of key)
+plain_file m version key comment = file_of_parts m version comment (key_parts_of key)
 
 -- the file, sealed where there is a passphrase
 abbrev pub sealed_file : Meanings → Output → PpkVersionKey → PpkEncryptionConfig → (pass : List ℕ) → PpkFile

@@ -35,8 +35,8 @@ use Rattle.picky_target.specs.declared.error.ConvertError.TheVariants as errors
 use Rattle.picky_target.specs.declared.target.KeyTarget.{KeyTarget}
 use Rattle.picky_target.specs.declared.target.KeyTarget.TheVariants as targets
 use Rattle.picky_target.specs.Output.{Output}
-use Rattle.picky_target.specs.Drafts.{openssh_key, parts_of, private_bytes, salt_of}
-use Rattle.picky_target.specs.Carried.{Place, need, places}
+use Rattle.picky_target.specs.Drafts.{openssh_key, key_parts_of, private_bytes, salt_of}
+use Rattle.picky_target.specs.Carried.{Place, fresh_needed, places}
 use Rattle.picky_target.specs.Carried.{PrivateKey, Kind, Comment, Derivation, Fresh, Length, Lines}
 
 -- ---- each place as a test
@@ -99,7 +99,7 @@ sealing_of out version config (Some pass) = sealing_under version config (salt_o
 abbrev pub measured_file : Output → PpkVersionKey → PpkEncryptionConfig → SshBasePrivateKey → (comment : List ℕ) → PpkFile
 measured_file out version config key comment = record {
   sealing = sealing_of out version config out.pass;
-  algorithm = (parts_of key).algorithm;
+  algorithm = (key_parts_of key).algorithm;
   comment = comment;
   public_key = blob_of (public_part_of key);
   private_bytes = private_bytes out version config key;
@@ -142,7 +142,7 @@ passes out target meaning PrivateKey = has_needed_secret target meaning.key
 passes out target meaning Kind = has_kind target meaning.key
 passes out target meaning Comment = carries_comment target meaning.comment
 passes out target meaning Derivation = derives target out.pass
-passes out target meaning Fresh = nat_le (need out target meaning.key) (length out.fresh)
+passes out target meaning Fresh = nat_le (fresh_needed out target meaning.key) (length out.fresh)
 passes out target meaning Length = has_room out target meaning
 passes out target meaning Lines = has_lines out target meaning.key
 

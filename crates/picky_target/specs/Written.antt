@@ -24,14 +24,14 @@ keeps_secret (targets.Ppk version config) = true
 keeps_secret targets.OpenSshPublic = false
 keeps_secret targets.PuttyPublic = false
 
-abbrev pub is_sealed : Output → KeyTarget → Bool
-is_sealed out target = keeps_secret target && is_some out.pass
+abbrev pub target_is_sealed : Output → KeyTarget → Bool
+target_is_sealed out target = keeps_secret target && is_some out.pass
 
 -- the suite is asked, since the text is sealed and nothing was refused before
 unfoldable pub writing_asks : Output → KeyTarget → Meaning → Bool
-writing_asks out target meaning = is_sealed out target && is_ok (judged_meaning out target meaning)
+writing_asks out target meaning = target_is_sealed out target && is_ok (judged_meaning out target meaning)
 
 -- the suite's fault, in the words of the target; public targets ask none
-abbrev pub fault_of : KeyTarget → ConvertError
-fault_of targets.OpenSsh = errors.Private private.SuiteFault
-fault_of target = errors.Putty putty.SuiteFault
+abbrev pub target_fault : KeyTarget → ConvertError
+target_fault targets.OpenSsh = errors.Private private.SuiteFault
+target_fault target = errors.Putty putty.SuiteFault

@@ -7,7 +7,7 @@ ghost use Rattle.picky_wire.specs.Count.{Rose};
 ghost use Rattle.picky_wire_base.specs.Gives.{Gives};
 ghost use Rattle.picky_sshkey.specs.Made.{made_option};
 ghost use Rattle.picky_sshkey.specs.Written.{text_writing_asks};
-ghost use Rattle.picky_target.specs.inner.Envelope.{salt_judged, envelope_refusal as envelope_refusal_of};
+ghost use Rattle.picky_target.specs.inner.Envelope.{salt_judged, envelope_output_refusal};
 ghost use Rattle.picky_target.specs.inner.Envelope.{made as made_of, envelope_drafted as drafted_of};
 ghost use Rattle.picky_target.specs.inner.Envelope.{text_of_key as text_of_key_of, envelope_written, envelope_asks};
 
@@ -140,7 +140,7 @@ fn text_of_key<S: Suite>(
 
 /// A refusal of OpenSSH's key as the conversion's: what is too long is the text.
 fn envelope_refusal(e: SshPrivateKeyError) -> ConvertError
-    ensures { result ≡ envelope_refusal_of e }
+    ensures { result ≡ envelope_output_refusal e }
 {
     match e {
         SshPrivateKeyError::NoMemory => {

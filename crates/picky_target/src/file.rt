@@ -14,11 +14,11 @@ ghost use Rattle.picky_ppk_file.specs.File.{version_of};
 ghost use Rattle.picky_ppk_file.specs.PuttyRefusal.{is_security_key as is_security_key_of};
 ghost use Rattle.picky_ppk.specs.Sealed.{file_to_seal, is_sealable, padding_len as missing_len};
 ghost use Rattle.picky_ppk.specs.Fresh.{salt_len as salt_len_of};
-ghost use Rattle.picky_target.specs.Drafts.{padding_len as padding_len_of, plain_file as plain_file_of};
+ghost use Rattle.picky_target.specs.Drafts.{key_padding_len, plain_file as plain_file_of};
 ghost use Rattle.picky_target.specs.inner.File.{salt_and_padding, measured, plain_drafted, plain_written};
 ghost use Rattle.picky_target.specs.inner.File.{sealed_text as sealed_text_of};
 ghost use Rattle.picky_target.specs.inner.File.{sealed_written, sealed_asks, text_of_file as text_of_file_of};
-ghost use Rattle.picky_target.specs.inner.File.{ppk_written, ppk_asks};
+ghost use Rattle.picky_target.specs.inner.File.{ppk_written, ppk_writing_asks};
 
 use crate::comment::carries_comment;
 use crate::error::ConvertError;
@@ -47,10 +47,10 @@ pub fn write_file<S: Suite>(
 ) -> Result<Text, ConvertError>
     ensures gives { GivesAsked ConvertError.NoMemory (ConvertError.Putty PuttyError.SuiteFault) (λ text. text) result
         (ppk_written (S.meanings suite.old) (record { pass = option_copied pass.entry; fresh = fresh.now }) version config key.now comment)
-        (ppk_asks (S.meanings suite.old) (record { pass = option_copied pass.entry; fresh = fresh.now }) version config key.now comment)
+        (ppk_writing_asks (S.meanings suite.old) (record { pass = option_copied pass.entry; fresh = fresh.now }) version config key.now comment)
         (Rose (S.faults suite.old) (S.faults suite.new)) }
     ensures suite { LeavesSuite S.meanings S.faults (ConvertError.Putty PuttyError.SuiteFault)
-        (ppk_asks (S.meanings suite.old) (record { pass = option_copied pass.entry; fresh = fresh.now }) version config key.now comment) result
+        (ppk_writing_asks (S.meanings suite.old) (record { pass = option_copied pass.entry; fresh = fresh.now }) version config key.now comment) result
         suite.old suite.new }
 {
     if is_security_key(key) {
@@ -179,7 +179,7 @@ fn drawn_under<'a>(
 ) -> Result<Drawn<'a>, ConvertError>
     ensures gives { Gives ConvertError.NoMemory (λ d. (d.salt.now, d.padding.now)) result (salt_and_padding pass.now fresh.now version config key.now) }
     ensures salt { IfOk result (λ d. length d.salt.now ≡ salt_len_of version config) }
-    ensures padding { IfOk result (λ d. length d.padding.now ≡ padding_len_of key.now) }
+    ensures padding { IfOk result (λ d. length d.padding.now ≡ key_padding_len key.now) }
 {
     if !can_derive_by(version, pass, config) {
         return Err(ConvertError::Putty(PuttyError::Argon2));
@@ -196,7 +196,7 @@ fn drawn_under<'a>(
 
 /// How many fresh bytes the padding takes.
 fn padding_len(key: &SshBasePrivateKey) -> usize
-    ensures len { result ≡ padding_len_of key.now }
+    ensures len { result ≡ key_padding_len key.now }
     ensures few { result < 16 }
 {
     lacking_len(secret_len(key))

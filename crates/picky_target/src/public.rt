@@ -3,7 +3,7 @@
 ghost use Rattle.std.specs.Prelude.{◌≡◌, ◌⊎◌};
 ghost use Rattle.picky_wire_base.specs.Gives.{Gives};
 ghost use Rattle.picky_ppk_parts.specs.Unsupported.{no_security_keys as no_security_keys_of};
-ghost use Rattle.picky_target.specs.inner.Public.{line_written, putty_written, putty_refusal as putty_refusal_of};
+ghost use Rattle.picky_target.specs.inner.Public.{line_written, putty_written, putty_output_refusal};
 ghost use Rattle.picky_target.specs.inner.Public.{text_of_putty as text_of_putty_of};
 
 use crate::comment::carries_comment;
@@ -80,7 +80,7 @@ pub fn no_such_kind(alloc: Global) -> ConvertError
 
 /// A refusal of PuTTY's key or file as the conversion's: what is too long, or has too many lines, is the text.
 pub fn putty_refusal(e: PuttyError) -> ConvertError
-    ensures { result ≡ putty_refusal_of e }
+    ensures { result ≡ putty_output_refusal e }
 {
     match e {
         PuttyError::NoMemory => {

@@ -4,7 +4,7 @@ ghost use Rattle.std.specs.Prelude.{Ok, Err};
 ghost use Rattle.std.specs.Option.{option_copied};
 ghost use Rattle.picky_suite.specs.Asked.{GivesAsked, LeavesSuite};
 ghost use Rattle.picky_wire.specs.Count.{Rose};
-ghost use Rattle.picky_target.specs.Written.{fault_of, written, writing_asks};
+ghost use Rattle.picky_target.specs.Written.{target_fault, written, writing_asks};
 
 use crate::envelope::write_envelope;
 use crate::error::ConvertError;
@@ -32,11 +32,11 @@ pub fn write_text<S: Suite>(
     pass: Option<&str>,
     fresh: &[u8],
 ) -> Result<Text, ConvertError>
-    ensures gives { GivesAsked ConvertError.NoMemory (fault_of target) (λ text. text) result
+    ensures gives { GivesAsked ConvertError.NoMemory (target_fault target) (λ text. text) result
         (written (S.meanings suite.old) (record { pass = option_copied pass.entry; fresh = fresh.now }) target meaning)
         (writing_asks (record { pass = option_copied pass.entry; fresh = fresh.now }) target meaning)
         (Rose (S.faults suite.old) (S.faults suite.new)) }
-    ensures suite { LeavesSuite S.meanings S.faults (fault_of target)
+    ensures suite { LeavesSuite S.meanings S.faults (target_fault target)
         (writing_asks (record { pass = option_copied pass.entry; fresh = fresh.now }) target meaning) result suite.old suite.new }
 {
     match target {

@@ -17,7 +17,7 @@ use Rattle.std.specs.List.{AllByRecursion, position_or_len}
 use Rattle.std.specs.Str.{IsUtf8, IsCharBoundary, chars, trim_end, drop_trailing_whitespace, is_utf8}
 use Rattle.std.specs.Str.{encode_utf8_all, all_scalars}
 use Rattle.base64.specs.GeneralPurpose.{IsBytes}
-use Rattle.picky_text.specs.Words.{ends_word, ends_line, first_word, after_word, line_in_front}
+use Rattle.picky_text.specs.Words.{ends_word, ends_line, first_word, behind_word, line_in_front}
 use Rattle.picky_text.specs.Words.{rest_of_line, rest_text, after_body, comment_of, IsWord, AreParts}
 use Rattle.picky_text.specs.Words.{HasParts, IsRead}
 use Rattle.picky_text.specs.Base64.{base64_of}
@@ -154,8 +154,8 @@ space_within text n space = elim (cases_lt n (length text)) [
 ]
 
 -- so is what follows it
-pub after_word_is_text : (text : List ℕ) → IsUtf8 text → IsUtf8 (after_word text)
-unfolding after_word
+pub after_word_is_text : (text : List ℕ) → IsUtf8 text → IsUtf8 (behind_word text)
+unfolding behind_word
 after_word_is_text text utf8 =
     let n : ℕ = position_or_len ends_word text in
     elim (cases_Bool (slice_index text n == 32)) [
@@ -175,7 +175,7 @@ line_is_text text utf8 = IsUtf8-take text _ utf8
 pub comment_is_text : (text : List ℕ) → IsUtf8 text → IsUtf8 (line_in_front (after_body text))
 comment_is_text text utf8 =
     let body = after_word_is_text text utf8 in
-    line_is_text (after_body text) (after_word_is_text (after_word text) body)
+    line_is_text (after_body text) (after_word_is_text (behind_word text) body)
 
 -- the rest of a line of UTF-8 is a text
 pub rest_of_line_is_text : (text : List ℕ) → IsUtf8 (line_in_front text)
@@ -246,16 +246,16 @@ pub word_len : (text : List ℕ) → length (first_word text) ≤ length text
 unfolding first_word
 word_len text = omega (arith, length-take (position_or_len ends_word text) text)
 
-pub after_len : (text : List ℕ) → length (after_word text) ≤ length text
-unfolding after_word
+pub after_len : (text : List ℕ) → length (behind_word text) ≤ length text
+unfolding behind_word
 after_len text = elim (cases_Bool (slice_index text (position_or_len ends_word text) == 32)) [
   | inl space ↦ rw space (omega (arith, length-drop (position_or_len ends_word text + 1) text))
   | inr other ↦ rw other (omega arith)
 ]
 
 -- what follows a word is the text's end
-pub after_word_is_end : (text : List ℕ) → drop (length text - length (after_word text)) text ≡ after_word text
-unfolding after_word
+pub after_word_is_end : (text : List ℕ) → drop (length text - length (behind_word text)) text ≡ behind_word text
+unfolding behind_word
 after_word_is_end text =
     let n : ℕ = position_or_len ends_word text in
     elim (cases_Bool (slice_index text n == 32)) [
@@ -272,11 +272,11 @@ after_word_is_end text =
 -- and so is what follows the second: a text may be cut there
 pub after_body_is_end : (text : List ℕ) → drop (length text - length (after_body text)) text ≡ after_body text
 after_body_is_end text =
-    let rest : List ℕ = after_word text in
+    let rest : List ℕ = behind_word text in
     let n : ℕ = length text - length rest in
-    let m : ℕ = length rest - length (after_word rest) in
+    let m : ℕ = length rest - length (behind_word rest) in
     let whole : drop n text ≡ rest = after_word_is_end text in
-    let from : length text - length (after_word rest) ≡ n + m = omega (arith, after_len text, after_len rest) in
+    let from : length text - length (behind_word rest) ≡ n + m = omega (arith, after_len text, after_len rest) in
     ap (λ i. drop i text) from ∙ sym (drop-drop m n text) ∙ ap (drop m) whole ∙ after_word_is_end rest
 
 pub body_ends_at_boundary : (text : List ℕ) → IsUtf8 text
@@ -303,7 +303,7 @@ comment_len text utf8 =
       ap length front.1,
       length-append (trim_end (line_in_front rest)) front.0,
       length-take (position_or_len ends_line rest) rest,
-      after_len (after_word text),
+      after_len (behind_word text),
       after_len text,
     )
 
@@ -311,8 +311,8 @@ comment_len text utf8 =
 
 -- a word, and what follows the space that ends it
 pub words_at_space : (word rest : List ℕ) → IsWord word
-    → (first_word (word ++ 32 ∷ rest) ≡ word) × (after_word (word ++ 32 ∷ rest) ≡ rest)
-unfolding first_word after_word
+    → (first_word (word ++ 32 ∷ rest) ≡ word) × (behind_word (word ++ 32 ∷ rest) ≡ rest)
+unfolding first_word behind_word
 words_at_space word rest is =
     let parts = cut_at_first ends_word word 32 rest (stays_word word is) refl in
     (parts.before, rw (eq-eqb _ _ parts.at) parts.after)
@@ -338,7 +338,7 @@ parts_before name body comment rest parts is =
     let first = words_at_space name (body ++ 32 ∷ rest) parts.name_word in
     let second = words_at_space body rest parts.body_word in
     let whole = append_assoc name (32 ∷ body) (32 ∷ rest) in
-    let line = ap line_in_front (ap after_word first.1 ∙ second.1) ∙ is in
+    let line = ap line_in_front (ap behind_word first.1 ∙ second.1) ∙ is in
     rw whole (record {
       name_is = first.0;
       body_is = ap first_word first.1 ∙ second.0;

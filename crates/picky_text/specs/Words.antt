@@ -18,13 +18,13 @@ unfoldable pub first_word : List ℕ → List ℕ
 first_word text = before_first ends_word text
 
 -- what follows the space that ends the first word, and nothing where no space ends it
-unfoldable pub after_word : List ℕ → List ℕ
-after_word text =
+unfoldable pub behind_word : List ℕ → List ℕ
+behind_word text =
     if slice_index text (position_or_len ends_word text) == 32 then after_first ends_word text else []
 
 -- the second word
 abbrev pub body_word : List ℕ → List ℕ
-body_word text = first_word (after_word text)
+body_word text = first_word (behind_word text)
 
 -- the longest front without CR and LF
 abbrev pub line_in_front : List ℕ → List ℕ
@@ -40,7 +40,7 @@ rest_text bytes = if is_utf8 (line_in_front bytes) then Some (rest_of_line bytes
 
 -- what stands after the second word
 abbrev pub after_body : List ℕ → List ℕ
-after_body text = after_word (after_word text)
+after_body text = behind_word (behind_word text)
 
 -- the comment: the rest of the line after the second word
 abbrev pub comment_of : List ℕ → List ℕ

@@ -12,7 +12,7 @@ ghost use Rattle.picky_text.specs.Quote.{quote, unquote};
 ghost use Rattle.picky_text.specs.Rows.{IsRowsOf, rows_of};
 ghost use Rattle.picky_text.specs.declared.base64_text.Base64Error.{Base64Error as NoBase64};
 ghost use Rattle.picky_text.specs.declared.lines.LineEnd.{LineEnd as End};
-ghost use Rattle.picky_text.specs.Words.{first_word, after_word, line_in_front, rest_of_line};
+ghost use Rattle.picky_text.specs.Words.{first_word, behind_word, line_in_front, rest_of_line};
 ghost use Rattle.picky_text.specs.Words.{AreParts, IsRead, IsWord};
 
 use crate::base64_text::Base64Error;
@@ -64,7 +64,7 @@ pub fn rest_of_line_is_one_line()
 #[tactic(auto, using(crate::proofs::WordLaws::word_laws))]
 pub fn words_are_text()
     ensures first { (text : List ℕ) → IsUtf8 text → IsUtf8 (first_word text) }
-    ensures after { (text : List ℕ) → IsUtf8 text → IsUtf8 (after_word text) }
+    ensures after { (text : List ℕ) → IsUtf8 text → IsUtf8 (behind_word text) }
     ensures line { (text : List ℕ) → IsUtf8 text → IsUtf8 (line_in_front text) }
     ensures rest { (text : List ℕ) → IsUtf8 (line_in_front text) → IsUtf8 (rest_of_line text) }
 {}

@@ -4,16 +4,16 @@ ghost use Rattle.std.specs.Prelude.{◌≡◌, ◌≤◌, length, drop, Some, No
 ghost use Rattle.std.specs.List.{position_or_len};
 ghost use Rattle.std.specs.Str.{IsCharBoundary};
 ghost use Rattle.picky_text.specs.Words.{ends_word, ends_line, first_word as word_of};
-ghost use Rattle.picky_text.specs.Words.{after_word as after_of, rest_of_line as rest_of, rest_text};
+ghost use Rattle.picky_text.specs.Words.{behind_word, rest_of_line as rest_of, rest_text};
 
 use memchr::{memchr2, memchr3};
 use std::str;
 
 /// The longest front without a space, CR and LF; and what follows the space that ends it, nothing where none does.
-#[tactic(auto, unfolding(crate::specs::Words::first_word, crate::specs::Words::after_word))]
+#[tactic(auto, unfolding(crate::specs::Words::first_word, crate::specs::Words::behind_word))]
 pub fn split_word(bytes: &[u8]) -> (&[u8], &[u8])
     ensures word { result.0.now ≡ word_of bytes.now }
-    ensures after { result.1.now ≡ after_of bytes.now }
+    ensures after { result.1.now ≡ behind_word bytes.now }
 {
     let (word, rest) = bytes.split_at(word_end(bytes));
     match rest.split_first() {

@@ -8,8 +8,8 @@ use Rattle.picky_wire.specs.declared.timestamp.Timestamp.{Timestamp}
 use Rattle.picky_wire.specs.Flaws.{wire_error}
 
 -- the moment after so many seconds
-abbrev pub moment : ℕ → Timestamp
-moment secs = record { 0 = secs }
+abbrev pub timestamp_at : ℕ → Timestamp
+timestamp_at secs = record { 0 = secs }
 
 unfoldable pub timestamp : Grammar WireError Timestamp
-timestamp = narrow (tag wire_error uint64) (each moment)
+timestamp = narrow (tag wire_error uint64) (each timestamp_at)

@@ -3,7 +3,7 @@ use Rattle.std.specs.Prelude.{⊤, ℕ, List, Result, Ok, Err}
 use Rattle.picky_wire_base.specs.declared.view.Stuck.{Stuck}
 use Rattle.picky_keys.specs.View.{key_seen}
 use Rattle.picky_sshkey_blob.specs.Key.{IsPrivateKey}
-use Rattle.picky_sshkey_blob.specs.View.{key_seen as private_seen}
+use Rattle.picky_sshkey_blob.specs.View.{private_key_seen}
 use Rattle.picky_sshkey_blob.specs.declared.view.PrivateView.{PrivateView}
 use Rattle.picky_agent_state.specs.declared.identity.Identity.{Identity}
 use Rattle.picky_agent_state.specs.declared.asked.Asked.{Asked}
@@ -14,7 +14,7 @@ use Rattle.picky_agent_state.specs.Request.{sign_request}
 
 -- the identity that is added
 abbrev pub identity_seen : PrivateView → (comment : List ℕ) → Identity
-identity_seen key comment = record { key = private_seen key; comment = comment }
+identity_seen key comment = record { key = private_key_seen key; comment = comment }
 
 abbrev pub asked_seen : Asked → Request
 asked_seen seen.Identities = Identities
@@ -28,7 +28,7 @@ asked_seen seen.Unfit = Unfit
 
 -- the key can be copied, and its entry kept
 pub record CanAdd (key : PrivateView) (comment : List ℕ) : Type 0 where
-  pub is_key : IsPrivateKey (private_seen key)
+  pub is_key : IsPrivateKey (private_key_seen key)
   pub entry : HasEntry (identity_seen key comment)
 
 abbrev pub KeepsAsked : Asked → Type 0

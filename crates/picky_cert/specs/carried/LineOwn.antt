@@ -25,7 +25,8 @@ use Rattle.picky_cert_blob.specs.declared.part.CertPart.TheVariants as parts
 use Rattle.picky_cert.specs.Certificate.{certificate}
 use Rattle.picky_cert.specs.CertRefusal.{cert_error, extensions_error, issuer_error, name_error, options_error, own_error}
 use Rattle.picky_cert.specs.CertRefusal.{signature_part_error, type_error}
-use Rattle.picky_cert.specs.LineRefusal.{blob_certificate, body_certificate, line_meaning, word_type, words_meaning}
+use Rattle.picky_cert.specs.LineRefusal.{blob_certificate, body_certificate, cert_line_meaning, word_type}
+use Rattle.picky_cert.specs.LineRefusal.{cert_words_meaning}
 use Rattle.picky_cert.specs.Want.{IsReadFault, WantsMemory}
 
 -- the error is the bytes' own
@@ -183,8 +184,8 @@ word_own word =
     own_if (is_utf8 word) _ errors.InvalidUtf8 (entry_own word (find_entry cert_key_types word))
     (record { no_fault = λ is. cc is; no_want = λ is. cc is })
 
-pub line_own : (line : List ℕ) → RefusesOwn (line_meaning line)
-unfolding line_meaning words_meaning
+pub line_own : (line : List ℕ) → RefusesOwn (cert_line_meaning line)
+unfolding cert_line_meaning cert_words_meaning
 line_own line =
     own_then (word_type (first_word line)) _ (word_own (first_word line)) (λ key_type.
     own_if (is_short (body_word line) && is_short_text (comment_text line)) _ errors.TooLong

@@ -12,14 +12,15 @@ use Rattle.picky_keys.specs.declared.curve.EcCurve.TheVariants.{NistP256}
 use Rattle.picky_keys.specs.Blob.{key_type, ed_key}
 use Rattle.picky_sshkey_blob.specs.declared.key.SshBasePrivateKey.{SshBasePrivateKey}
 use Rattle.picky_sshkey_blob.specs.declared.key.SshBasePrivateKey.TheVariants as keys
-use Rattle.picky_sshkey_blob.specs.Key.{IsPrivateKey, kind_of}
-use Rattle.picky_sshkey_blob.specs.Blob.{ed_secret, rsa_fields, ec_fields, ed_fields, sk_ecdsa_fields, sk_ed_fields}
-use Rattle.picky_sshkey_blob.specs.Blob.{private_key_fields, secret, fields_spelled, secret_of}
+use Rattle.picky_sshkey_blob.specs.Key.{IsPrivateKey, private_kind_of}
+use Rattle.picky_sshkey_blob.specs.Blob.{ed_secret, private_rsa_fields, private_ec_fields, private_ed_fields}
+use Rattle.picky_sshkey_blob.specs.Blob.{private_sk_ecdsa_fields, private_sk_ed_fields}
+use Rattle.picky_sshkey_blob.specs.Blob.{private_key_fields, secret, private_fields_spelled, secret_of}
 
 -- The canonical fields are a piece of the kind's layout.
 pub fields_spell : (key : SshBasePrivateKey) → IsPrivateKey key
-    → (private_key_fields (kind_of key)).piece key (fields_spelled key)
-unfolding rsa_fields ec_fields ed_fields sk_ecdsa_fields sk_ed_fields ed_key ed_secret fields_spelled
+    → (private_key_fields (private_kind_of key)).piece key (private_fields_spelled key)
+unfolding private_rsa_fields private_ec_fields private_ed_fields private_sk_ecdsa_fields private_sk_ed_fields ed_key ed_secret private_fields_spelled
 fields_spell (keys.Rsa n e d iqmp p q) is = (
   n,
   _,
@@ -150,10 +151,10 @@ fields_spell (keys.SkEd25519 key application flags handle) is = (
 pub secret_spells : (key : SshBasePrivateKey) → IsPrivateKey key → secret.piece key (secret_of key)
 unfolding secret key_type secret_of
 secret_spells key is = (
-  kind_of key,
-  string_of (kind_name (kind_of key)),
-  fields_spelled key,
-  kind_name_spells 0 (kind_of key),
+  private_kind_of key,
+  string_of (kind_name (private_kind_of key)),
+  private_fields_spelled key,
+  kind_name_spells 0 (private_kind_of key),
   fields_spell key is,
   refl,
 )

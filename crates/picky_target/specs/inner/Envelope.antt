@@ -24,14 +24,14 @@ salt_judged (Some pass) fresh =
     else Err (errors.Private private.HashingError)
 
 -- a refusal of OpenSSH's key as the conversion's: what is too long is the text
-abbrev pub envelope_refusal : SshPrivateKeyError → ConvertError
-envelope_refusal private.NoMemory = errors.NoMemory
-envelope_refusal private.TooLong = errors.TooLong
-envelope_refusal e = errors.Private e
+abbrev pub envelope_output_refusal : SshPrivateKeyError → ConvertError
+envelope_output_refusal private.NoMemory = errors.NoMemory
+envelope_output_refusal private.TooLong = errors.TooLong
+envelope_output_refusal e = errors.Private e
 
 -- the key of these parts
 abbrev pub made : Option (List ℕ) → SshBasePrivateKey → (comment salt : List ℕ) → Result SshPrivateKey ConvertError
-made pass key comment salt = map_err envelope_refusal (key_made key pass comment salt)
+made pass key comment salt = map_err envelope_output_refusal (key_made key pass comment salt)
 
 -- OpenSSH's key, where it carries the comment, and bcrypt can be run with the passphrase and has fresh bytes enough
 abbrev pub envelope_drafted : Output → SshBasePrivateKey → (comment : List ℕ) → Result SshPrivateKey ConvertError
@@ -42,7 +42,7 @@ envelope_drafted out key comment =
 
 -- its text
 abbrev pub text_of_key : Meanings → SshPrivateKey → Result (List ℕ) ConvertError
-text_of_key m key = map_err envelope_refusal (key_text m key)
+text_of_key m key = map_err envelope_output_refusal (key_text m key)
 
 abbrev pub envelope_written : Meanings → Output → SshBasePrivateKey → (comment : List ℕ) → Result (List ℕ) ConvertError
 envelope_written m out key comment = and_then (envelope_drafted out key comment) (text_of_key m)

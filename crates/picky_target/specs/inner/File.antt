@@ -20,29 +20,29 @@ use Rattle.picky_target.specs.declared.error.ConvertError.{ConvertError}
 use Rattle.picky_target.specs.declared.error.ConvertError.TheVariants as errors
 use Rattle.picky_target.specs.declared.target.KeyTarget.TheVariants as targets
 use Rattle.picky_ppk.specs.Fresh.{salt_len}
-use Rattle.picky_target.specs.Drafts.{padding_len}
+use Rattle.picky_target.specs.Drafts.{key_padding_len}
 use Rattle.picky_target.specs.Output.{Output}
 use Rattle.picky_target.specs.Judged.{carries_comment, derives_under, mac_len}
-use Rattle.picky_target.specs.inner.Public.{putty_refusal}
+use Rattle.picky_target.specs.inner.Public.{putty_output_refusal}
 
 -- the text of a file
 abbrev pub text_of_file : PpkFile → Result (List ℕ) ConvertError
-text_of_file f = map_err putty_refusal (file_written f)
+text_of_file f = map_err putty_output_refusal (file_written f)
 
 -- the file that isn't sealed
-abbrev pub plain_of : Meanings → PpkVersionKey → SshBasePrivateKey → (comment : List ℕ) → Result PpkFile ConvertError
-plain_of m version key comment = map_err putty_refusal (of_base_key m version key comment)
+abbrev pub plain_ppk : Meanings → PpkVersionKey → SshBasePrivateKey → (comment : List ℕ) → Result PpkFile ConvertError
+plain_ppk m version key comment = map_err putty_output_refusal (of_base_key m version key comment)
 
 abbrev pub plain_written : Meanings → PpkVersionKey → SshBasePrivateKey → (comment : List ℕ) → Result (List ℕ) ConvertError
-plain_written m version key comment = and_then (plain_of m version key comment) text_of_file
+plain_written m version key comment = and_then (plain_ppk m version key comment) text_of_file
 
 -- the salt and the padding that sealing takes
 abbrev pub salt_and_padding : (pass fresh : List ℕ) → PpkVersionKey → PpkEncryptionConfig → SshBasePrivateKey
     → Result (List ℕ × List ℕ) ConvertError
 salt_and_padding pass fresh version config key =
     if derives_under (targets.Ppk version config) pass
-    then (if nat_le (salt_len version config + padding_len key) (length fresh)
-    then Ok (take (salt_len version config) fresh, take (padding_len key) (drop (salt_len version config) fresh))
+    then (if nat_le (salt_len version config + key_padding_len key) (length fresh)
+    then Ok (take (salt_len version config) fresh, take (key_padding_len key) (drop (salt_len version config) fresh))
     else Err errors.FreshTooShort)
     else Err (errors.Putty putty.Argon2)
 
@@ -63,7 +63,7 @@ measured config salt padding f =
 abbrev pub plain_drafted : Meanings → PpkVersionKey → PpkEncryptionConfig → SshBasePrivateKey → (comment salt padding : List ℕ)
     → Result PpkFile ConvertError
 plain_drafted m version config key comment salt padding =
-    and_then (plain_of m version key comment) (λ f. and_then (measured config salt padding f) (λ _. Ok f))
+    and_then (plain_ppk m version key comment) (λ f. and_then (measured config salt padding f) (λ _. Ok f))
 
 -- that file, with its salt and padding: all that is judged before the suite is asked
 pub record Sealable : Type 0 where
@@ -71,25 +71,25 @@ pub record Sealable : Type 0 where
   pub padding : List ℕ
   pub plain : PpkFile
 
-abbrev pub sealable : Meanings → (pass fresh : List ℕ) → PpkVersionKey → PpkEncryptionConfig → SshBasePrivateKey
+abbrev pub sealable_file : Meanings → (pass fresh : List ℕ) → PpkVersionKey → PpkEncryptionConfig → SshBasePrivateKey
     → (comment : List ℕ) → Result Sealable ConvertError
-sealable m pass fresh version config key comment =
+sealable_file m pass fresh version config key comment =
     and_then (salt_and_padding pass fresh version config key) (λ d.
     and_then (plain_drafted m version config key comment d.0 d.1) (λ f.
     Ok (record { salt = d.0; padding = d.1; plain = f })))
 
 abbrev pub sealed_text : Meanings → (pass : List ℕ) → PpkEncryptionConfig → Sealable → Result (List ℕ) ConvertError
 sealed_text m pass config s =
-    and_then (map_err putty_refusal (encrypted m pass config s.salt s.padding s.plain)) text_of_file
+    and_then (map_err putty_output_refusal (encrypted m pass config s.salt s.padding s.plain)) text_of_file
 
 abbrev pub sealed_written : Meanings → (pass fresh : List ℕ) → PpkVersionKey → PpkEncryptionConfig → SshBasePrivateKey
     → (comment : List ℕ) → Result (List ℕ) ConvertError
 sealed_written m pass fresh version config key comment =
-    and_then (sealable m pass fresh version config key comment) (sealed_text m pass config)
+    and_then (sealable_file m pass fresh version config key comment) (sealed_text m pass config)
 
 abbrev pub sealed_asks : Meanings → (pass fresh : List ℕ) → PpkVersionKey → PpkEncryptionConfig → SshBasePrivateKey
     → (comment : List ℕ) → Bool
-sealed_asks m pass fresh version config key comment = is_ok (sealable m pass fresh version config key comment)
+sealed_asks m pass fresh version config key comment = is_ok (sealable_file m pass fresh version config key comment)
 
 -- ---- sealed or not
 
@@ -111,7 +111,7 @@ ppk_written m out version config key comment =
     else if carries_comment (targets.Ppk version config) comment
     then text_under m out.pass out.fresh version config key comment else Err errors.CommentNotCarried
 
-abbrev pub ppk_asks : Meanings → Output → PpkVersionKey → PpkEncryptionConfig → SshBasePrivateKey → (comment : List ℕ) → Bool
-ppk_asks m out version config key comment =
+abbrev pub ppk_writing_asks : Meanings → Output → PpkVersionKey → PpkEncryptionConfig → SshBasePrivateKey → (comment : List ℕ) → Bool
+ppk_writing_asks m out version config key comment =
     not (is_security_key (public_part key)) && carries_comment (targets.Ppk version config) comment
     && asks_under m out.pass out.fresh version config key comment

@@ -9,7 +9,7 @@ use Rattle.picky_ppk_parts.specs.declared.error.PuttyError.{PuttyError}
 use Rattle.picky_ppk_parts.specs.declared.error.PuttyError.TheVariants as putty
 use Rattle.picky_ppk_parts.specs.Unsupported.{no_security_keys}
 use Rattle.picky_ppk_file.specs.PuttyPublic.{putty_public}
-use Rattle.picky_ppk_file.specs.PuttyRefusal.{is_security_key, of_openssh, putty_text}
+use Rattle.picky_ppk_file.specs.PuttyRefusal.{is_security_key, putty_of_openssh, putty_text}
 use Rattle.picky_target.specs.declared.error.ConvertError.{ConvertError}
 use Rattle.picky_target.specs.declared.error.ConvertError.TheVariants as errors
 use Rattle.picky_target.specs.declared.target.KeyTarget.TheVariants as targets
@@ -30,12 +30,12 @@ putty_written key =
     else Err errors.CommentNotCarried
 
 -- a refusal of PuTTY's key or file as the conversion's: what is too long, or has too many lines, is the text
-abbrev pub putty_refusal : PuttyError → ConvertError
-putty_refusal putty.NoMemory = errors.NoMemory
-putty_refusal putty.TooLong = errors.TooLong
-putty_refusal putty.TooManyLines = errors.TooManyLines
-putty_refusal e = errors.Putty e
+abbrev pub putty_output_refusal : PuttyError → ConvertError
+putty_output_refusal putty.NoMemory = errors.NoMemory
+putty_output_refusal putty.TooLong = errors.TooLong
+putty_output_refusal putty.TooManyLines = errors.TooManyLines
+putty_output_refusal e = errors.Putty e
 
 -- the text of PuTTY's key for an OpenSSH one
 abbrev pub text_of_putty : SshPublicKey → Result (List ℕ) ConvertError
-text_of_putty key = map_err putty_refusal (and_then (of_openssh key) putty_text)
+text_of_putty key = map_err putty_output_refusal (and_then (putty_of_openssh key) putty_text)

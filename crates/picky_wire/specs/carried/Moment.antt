@@ -15,7 +15,7 @@ use Rattle.picky_wire.specs.declared.error.WireError.TheVariants as errors
 use Rattle.picky_wire.specs.declared.timestamp.Timestamp.{Timestamp}
 use Rattle.picky_wire.specs.Flaws.{wire_error}
 use Rattle.picky_wire.specs.carried.Flaws.{wire_own}
-use Rattle.picky_wire.specs.Moment.{moment, timestamp}
+use Rattle.picky_wire.specs.Moment.{timestamp_at, timestamp}
 
 -- A moment is spelled by its eight bytes.
 pub timestamp_spells : (t : Timestamp) → t.0 < 2 ^ 64 → timestamp.piece t (to_be_bytes w64 t.0)
@@ -38,4 +38,4 @@ pub timestamp_own : (bytes : List ℕ) (e : WireError) → timestamp.read bytes 
     → (e ≢ errors.ReadFault) × (e ≢ errors.NoMemory)
 unfolding timestamp
 timestamp_own bytes e refused =
-    wire_own (uint64.read bytes) e (each_refused (map_err wire_error (uint64.read bytes)) moment e refused)
+    wire_own (uint64.read bytes) e (each_refused (map_err wire_error (uint64.read bytes)) timestamp_at e refused)

@@ -5,13 +5,13 @@ use Rattle.picky_wire_base.specs.Combine.{at}
 use Rattle.picky_wire_base.specs.Wire.{string, text}
 use Rattle.picky_wire_base.specs.Numbers.{byte}
 use Rattle.picky_keys.specs.Blob.{ed_key}
-use Rattle.picky_sshkey_blob.specs.Blob.{sk_ed_fields}
+use Rattle.picky_sshkey_blob.specs.Blob.{private_sk_ed_fields}
 use Rattle.picky_sshkey_blob.specs.inner.Stop.{secret_stop}
 use Rattle.picky_sshkey_blob.proofs.TakesLemmas.{part_passes, part_stops, field_takes}
 use Rattle.picky_sshkey_blob.proofs.read.take_sk_ed.Goals as goal
 
 pub returns-in_err-take_bytes : goal.returns-in_err-take_bytes
-unfolding sk_ed_fields
+unfolding private_sk_ed_fields
 returns-in_err-take_bytes g c =
     let p = err_from_is_err_and c.from_residual-in_err-take_bytes.result c.from_residual-in_err-take_bytes.ensures.1 in
     rw (p.1, p.2) (part_passes secret_stop (ed_key 1) _ _ c.in_ok-key.ensures

@@ -1,7 +1,7 @@
 -- What each arm's call says, as a step.
 use Rattle.std.proofs.Common.{subst}
 use Rattle.picky_keys.specs.View.{key_seen}
-use Rattle.picky_sshkey_blob.specs.View.{key_seen as private_seen}
+use Rattle.picky_sshkey_blob.specs.View.{private_key_seen}
 use Rattle.picky_agent_state.specs.declared.identity.Identity.{Identity}
 use Rattle.picky_agent_state.specs.Kept.{Kept, machine}
 use Rattle.picky_agent_state.specs.Request.{Request, Identities, Sign, Add, Remove, RemoveAll, Lock, Unlock, Unfit, sign_request}
@@ -32,7 +32,7 @@ returns-in-Sign-clause-unasked g c = λ never.
 pub returns-in-Add-clause-step : goal.returns-in-Add-clause-step
 returns-in-Add-clause-step g c =
     let faults = g.G.Signer.faults c.args.signer.now in
-    let added : Identity = record { key = private_seen c.in-Add.key; comment = c.in-Add.comment.now } in
+    let added : Identity = record { key = private_key_seen c.in-Add.key; comment = c.in-Add.comment.now } in
     steps (g.G.Signer.signs c.args.signer.now) (machine c.args.self.now faults) (machine c.add.new.self faults) (Add added)
     c.args.message.now c.add.result c.in-Add.ensures.request
     (stays c.args.self.now c.add.new.self faults (λ (before : Kept). Adds before added) c.add.result c.add.ensures.row)

@@ -7,7 +7,7 @@ use Rattle.picky_wire.specs.Takes.{causes_of}
 use Rattle.picky_keys.specs.Blob.{key_type}
 use Rattle.picky_sshkey_blob.specs.FromWire.{private_key_error}
 use Rattle.picky_sshkey_blob.specs.Blob.{secret, private_key_fields}
-use Rattle.picky_sshkey_blob.specs.BlobRefusal.{read_secret, private_error, stop_error}
+use Rattle.picky_sshkey_blob.specs.BlobRefusal.{read_secret, private_error, private_stop_error}
 use Rattle.picky_sshkey_blob.specs.inner.Stop.{secret_stop}
 use Rattle.picky_sshkey_blob.proofs.NamedLemmas.{name_then_fields, name_is_unknown, name_stops, fields_stop, fields_read}
 use Rattle.picky_sshkey_blob.proofs.StopLemmas.{says_stops, stop_has_cause, name_has_cause}
@@ -18,7 +18,7 @@ pub returns-in-Err-clause-takes : goal.returns-in-Err-clause-takes
 unfolding read_secret secret key_type
 returns-in-Err-clause-takes g c =
     rw c.from.ensures
-    (name_stops g.S.Source.tells g.S.Source.left g.S.Source.known g.S.Source.faults private_key_error secret_stop stop_error
+    (name_stops g.S.Source.tells g.S.Source.left g.S.Source.known g.S.Source.faults private_key_error secret_stop private_stop_error
     private_error key_types private_key_fields c.in-Err.stop _ _ says_stops c.in-Err.ensures.takes)
 
 pub returns-in-Err-clause-cause : goal.returns-in-Err-clause-cause
@@ -40,9 +40,9 @@ returns-in-Some-clause-takes g c =
     let found = ap (find_entry key_types) (sym c.as_str.ensures.bytes) ∙ sym c.in-Some.ensures in
     rw c.from-in-Err-take_fields.ensures
     (name_then_fields g.S.Source.tells g.S.Source.left g.S.Source.known g.S.Source.faults (causes_of private_key_error) private_error
-    key_types private_key_fields c.in-Ok.name c.in-Some.kind (Err (stop_error c.in-Err-take_fields.stop)) _ _ _
+    key_types private_key_fields c.in-Ok.name c.in-Some.kind (Err (private_stop_error c.in-Err-take_fields.stop)) _ _ _
     c.in-Ok.ensures.takes found
-    (fields_stop g.S.Source.tells g.S.Source.left g.S.Source.known g.S.Source.faults private_key_error secret_stop stop_error
+    (fields_stop g.S.Source.tells g.S.Source.left g.S.Source.known g.S.Source.faults private_key_error secret_stop private_stop_error
     private_error (private_key_fields c.in-Some.kind) c.in-Err-take_fields.stop _ _ says_stops (fields_no_name c.in-Some.kind)
     c.in-Err-take_fields.ensures))
 
