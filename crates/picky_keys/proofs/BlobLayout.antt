@@ -1,13 +1,18 @@
 -- The laws of the blob's layout as an element of the wire.
-use Rattle.std.specs.Prelude.{◌≡◌, List, ℕ, ◌++◌, Ok}
-use Rattle.std.proofs.Common.{ap}
+use Rattle.std.specs.Prelude.{◌≡◌, List, ℕ, ◌++◌, drop, Result, Ok, Err}
+use Rattle.std.proofs.Common.{refl, ap, ◌∙◌}
+use Rattle.picky_wire_base.specs.Flaw.{Reason}
+use Rattle.picky_wire_base.specs.View.{Sees, why_in}
+use Rattle.picky_wire_base.specs.declared.view.Stuck.{Stuck}
 use Rattle.picky_wire_base.specs.Grammar.{Fits}
 use Rattle.picky_wire_base.specs.Outcome.{map_err}
 use Rattle.picky_wire_base.specs.carried.Outcome.{map_err_ok}
 use Rattle.picky_keys.specs.declared.key.SshBasePublicKey.{SshBasePublicKey}
 use Rattle.picky_keys.specs.Key.{IsKey}
 use Rattle.picky_keys.specs.Blob.{blob, blob_of}
-use Rattle.picky_keys.specs.BlobRefusal.{blob_error, read_blob}
+use Rattle.picky_keys.specs.BlobRefusal.{blob_error, read_blob, why_error}
+use Rattle.picky_keys.specs.View.{answer_of, key_seen}
+use Rattle.picky_keys.specs.declared.view.PublicView.{PublicView}
 use Rattle.picky_keys.specs.carried.Blob.{blob_spells}
 
 -- What is read in front is spelled there.
@@ -26,3 +31,14 @@ blob_complete key front rest spells = ap (map_err blob_error) (blob.complete key
 pub blob_is_read_back : (key : SshBasePublicKey) (rest : List ℕ) → IsKey key
     → read_blob (blob_of key ++ rest) ≡ Ok (key, rest)
 blob_is_read_back key rest is = blob_complete key (blob_of key) rest (blob_spells key is)
+
+reasons : {A : Type 0} (r : Result A Reason) → map_err blob_error r ≡ map_err why_error (map_err why_in r)
+reasons (Ok found) = refl
+reasons (Err reason) = refl
+
+-- What a view sees is what the reader reads.
+pub view_reads : (bytes : List ℕ) (from : ℕ) (r : Result (PublicView × ℕ) Stuck)
+    → Sees key_seen why_in blob bytes from r → read_blob (drop from bytes) ≡ answer_of bytes r
+unfolding read_blob
+view_reads bytes from (Ok (view, next)) sees = ap (map_err blob_error) sees
+view_reads bytes from (Err stuck) sees = reasons (blob.read (drop from bytes)) ∙ ap (map_err why_error) sees

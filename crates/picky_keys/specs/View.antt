@@ -1,9 +1,12 @@
--- What a public key's view shows, and where its parts lie in the blob.
-use Rattle.std.specs.Prelude.{List, [], ◌∷◌, ℕ}
+-- What a public key's view shows, where its parts lie in the blob, and what the reader answers where it answers.
+use Rattle.std.specs.Prelude.{List, [], ◌∷◌, ℕ, drop, Result, Ok, Err}
 use Rattle.picky_wire_base.specs.Wire.{string, text}
 use Rattle.picky_wire_base.specs.Mpint.{mpint}
-use Rattle.picky_wire_base.specs.View.{Lies, end_of}
+use Rattle.picky_wire_base.specs.View.{Lies, end_of, why_of}
+use Rattle.picky_wire_base.specs.declared.view.Stuck.{Stuck}
 use Rattle.picky_keys.specs.Blob.{ed_key}
+use Rattle.picky_keys.specs.BlobRefusal.{why_error}
+use Rattle.picky_keys.specs.declared.error.SshPublicKeyError.{SshPublicKeyError}
 use Rattle.picky_keys.specs.declared.key.SshBasePublicKey.{SshBasePublicKey}
 use Rattle.picky_keys.specs.declared.key.SshBasePublicKey.TheVariants as keys
 use Rattle.picky_keys.specs.declared.view.PublicView.{PublicView}
@@ -41,3 +44,8 @@ PartsLie blob from (views.SkEcdsaSha2NistP256 point application) =
 PartsLie blob from (views.SkEd25519 key application) =
     let key_end = end_of (ed_key 1) blob from in
     Lies blob key_end key × Lies blob (end_of text blob key_end) application
+
+-- what the reader answers where a view answers this
+abbrev pub answer_of : List ℕ → Result (PublicView × ℕ) Stuck → Result (SshBasePublicKey × List ℕ) SshPublicKeyError
+answer_of blob (Ok (view, next)) = Ok (key_seen view, drop next blob)
+answer_of blob (Err stuck) = Err (why_error (why_of stuck))

@@ -1,12 +1,18 @@
 //! The laws of this crate, each as the contract of a function that does no more than it says.
 
-ghost use Rattle.std.specs.Prelude.{◌≡◌, ◌++◌, ◌∷◌, ◌<◌, ◌^◌, List, ℕ, Ok, Err, IsUtf8, length};
+ghost use Rattle.std.specs.Prelude.{◌≡◌, ◌++◌, ◌∷◌, ◌<◌, ◌^◌, List, ℕ, Result, Ok, Err, IsUtf8, drop, length};
 ghost use Rattle.picky_wire_base.specs.Numbers.{IsBytes};
 ghost use Rattle.picky_wire_base.specs.Outcome.{and_then};
 ghost use Rattle.picky_wire_base.specs.Grammar.{Fits};
 ghost use Rattle.picky_text.specs.Words.{after_body, line_in_front};
 ghost use Rattle.picky_wire_base.specs.Equality.{IsEquality, IsEqualityOf};
-ghost use Rattle.picky_keys.specs.View.{view_shown};
+ghost use Rattle.picky_wire_base.specs.View.{Sees, why_in};
+ghost use Rattle.picky_wire_base.specs.declared.view.Stuck.{Stuck};
+ghost use Rattle.picky_wire.specs.OfWire.{IsErrorOfBytes};
+ghost use Rattle.picky_keys.specs.FromWire.{public_key_error};
+ghost use Rattle.picky_keys.specs.View.{answer_of, key_seen, view_shown};
+ghost use Rattle.picky_keys.specs.declared.view.PublicView.{PublicView as View};
+ghost use Rattle.picky_keys.specs.declared.error.SshPublicKeyError.{SshPublicKeyError as Refusal};
 ghost use Rattle.picky_keys.specs.declared.key.SshBasePublicKey.{SshBasePublicKey as BaseKey};
 ghost use Rattle.picky_keys.specs.declared.key.SshPublicKey.{SshPublicKey as Key};
 ghost use Rattle.picky_keys.specs.Key.{IsKey};
@@ -35,6 +41,20 @@ pub fn blob_is_read_where_it_is_spelled()
     ensures fits { (key : BaseKey) (front rest : List ℕ) → blob.piece key front → read_blob (front ++ rest) ≡ Ok (key, rest) }
     ensures exact { (key : BaseKey) (bytes : List ℕ) → IsBytes bytes → blob.piece key bytes → BlobSpelled key bytes }
     ensures canonical { (key : BaseKey) → IsKey key → blob.piece key (blob_of key) }
+{}
+
+/// What a view answers is what the reader answers: the same key and rest, or the error of the same reason.
+#[tactic(auto, using(crate::proofs::LawLemmas::blob_laws))]
+pub fn view_is_the_reader()
+    ensures { (bytes : List ℕ) (from : ℕ) (r : Result (View × ℕ) Stuck)
+        → Sees key_seen why_in blob bytes from r → read_blob (drop from bytes) ≡ answer_of bytes r }
+{}
+
+/// No blob and no line is refused for a fault of a source or for want of memory, which are a call's alone.
+#[tactic(auto, using(crate::proofs::LawLemmas::own_laws))]
+pub fn bytes_are_refused_for_themselves()
+    ensures blob { (bytes : List ℕ) (e : Refusal) → read_blob bytes ≡ Err e → IsErrorOfBytes public_key_error e }
+    ensures line { (text : List ℕ) (e : Refusal) → line_meaning text ≡ Err e → IsErrorOfBytes public_key_error e }
 {}
 
 /// A line means a key exactly where it says it, and it says one. The comment of a text is UTF-8.
