@@ -17,6 +17,9 @@ pub trait Verifier {
     // how many calls failed; it stays at 2^64 - 1
     ghost faults: { Self → ℕ };
 
+    // what one call may make of the device; a device need not say it, and who hands one on can't take two calls for one
+    ghost called: { Self → Self → Type 0 } = { λ _ _. Unit {0} };
+
     /// Whether the signature of the message is good under the key. Refuses: `Failed`.
     fn verify(
         &mut self,
@@ -24,7 +27,7 @@ pub trait Verifier {
         signature: &SshSignature,
         message: &[u8],
     ) -> Result<bool, Failed>
-        ensures { Verifies verifies faults key.now signature.now message.now result self.old self.new };
+        ensures { Verifies verifies faults called key.now signature.now message.now result self.old self.new };
 
     ghost in_range: { (s : Self) → faults s < 2 ^ 64 };
 }
