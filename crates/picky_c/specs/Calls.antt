@@ -1,6 +1,7 @@
 -- What each call comes to: bytes, or the first reason why there are none.
-use Rattle.std.specs.Prelude.{◌≡◌, ◌++◌, List, ℕ, Bool, false, Option, None, Some, Result, Ok, codes}
+use Rattle.std.specs.Prelude.{◌≡◌, ◌++◌, ◌&&◌, List, ℕ, Bool, false, Option, None, Some, Result, Ok, codes}
 use Rattle.std.specs.Option.{ok_or}
+use Rattle.std.specs.Str.{is_utf8}
 use Rattle.base64.specs.Engines.{standard_no_pad}
 use Rattle.base64.specs.GeneralPurpose.{encode_of}
 use Rattle.sha2.specs.Sha256.{sha256}
@@ -38,14 +39,15 @@ converted target text pass_in pass_out fresh =
     and_then (utf8 errors.PassNotUtf8 pass_out) (λ pass_out.
     map_err refusal_of (conversion (outside pass_in pass_out fresh) target text)))))
 
--- a cipher is asked for: the key text is sealed and comes with a passphrase, or what is written is to be sealed
+-- a cipher is asked for: all is UTF-8; and the key text is sealed and comes with a passphrase, or what is written is to be sealed
 abbrev pub target_asks : Option KeyTarget → Outside → List ℕ → Bool
 target_asks (Some target) o text = converting_asks o target text
 target_asks None o text = false
 
 abbrev pub converting_is_asked : (target : ℕ) → (text pass_in pass_out fresh : List ℕ) → Bool
 converting_is_asked target text pass_in pass_out fresh =
-    target_asks (target_numbered target) (outside pass_in pass_out fresh) text
+    is_utf8 text && is_utf8 pass_in && is_utf8 pass_out
+    && target_asks (target_numbered target) (outside pass_in pass_out fresh) text
 
 -- the bytes are the target's one text for the one thing that the key text means, and are read back
 abbrev pub IsConverted : (target : ℕ) → (text pass_in pass_out fresh : List ℕ) → (bytes : List ℕ) → Type 0

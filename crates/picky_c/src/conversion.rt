@@ -70,13 +70,14 @@ fn converted_text(
 {
     let mut suite = PlainSuite::new();
     let mut signer = HandedSigner::new(None);
+    let target = Target::from(target);
     let converted = convert(
         alloc,
         &mut suite,
         &mut signer,
         text,
         pass_in,
-        Target::from(target),
+        &target,
         pass_out,
         fresh,
     );

@@ -34,7 +34,7 @@ pub fn putty_text(alloc: Global, input: &str) -> Result<Text, ConvertError>
         &mut signer,
         input,
         None,
-        target,
+        &target,
         None,
         &[],
     );

@@ -13,13 +13,14 @@ use std::test::Fail;
 
 /// The conversion without passphrases and fresh bytes.
 pub fn converted(alloc: Global, line: &str, target: KeyTarget) -> Result<Text, ConvertError> {
+    let target = Target::from(target);
     convert(
         alloc,
         &mut PlainSuite::new(),
         &mut HandedSigner::new(None),
         line,
         None,
-        Target::from(target),
+        &target,
         None,
         &[],
     )

@@ -21,7 +21,8 @@ use Rattle.picky_conversion.specs.Certified.{SignRelation}
 use Rattle.picky_conversion.specs.Certify.{IsInputFault, certification, drafting, hex_line}
 use Rattle.picky_conversion.specs.Convert.{LeavesAskedSuite}
 use Rattle.picky_conversion.specs.Issue.{IsIssuingFault, asks_issuer, asks_key, issued, issued_bytes, issuer_fault}
-use Rattle.picky_conversion.specs.Issue.{issuer_read, issuing_asks, request_by, unsigned}
+use Rattle.picky_conversion.specs.Issue.{issuer_read, issuing_asks, unsigned}
+use Rattle.picky_conversion.specs.Request.{request_by}
 use Rattle.picky_conversion.specs.Made.{AnswersMade, AnswersPlain, LeavesAskedSigner, Made, ToSign, is_signed}
 use Rattle.picky_conversion.specs.Outside.{Outside, reader}
 use Rattle.picky_conversion.specs.Want.{IsFault}

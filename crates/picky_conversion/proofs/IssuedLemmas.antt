@@ -23,7 +23,8 @@ use Rattle.picky_conversion.proofs.ReadBackLemmas.{line_is_read_back}
 use Rattle.picky_conversion.specs.Certify.{IsCertified, IsToBeSigned, certification, drafting, hex_line}
 use Rattle.picky_conversion.specs.Chain.{IsGiven}
 use Rattle.picky_conversion.specs.Issue.{CanIssue, CanIssueBytes, IsIssued, IsIssuedBytes, IsIssuer, issued, issued_bytes}
-use Rattle.picky_conversion.specs.Issue.{issuer_read, request_by, unsigned}
+use Rattle.picky_conversion.specs.Issue.{issuer_read, unsigned}
+use Rattle.picky_conversion.specs.Request.{request_by}
 use Rattle.picky_conversion.specs.Made.{IsLeft, IsMadeText, IsUnwritten, ToSign, Whole, WritesMade}
 use Rattle.picky_conversion.specs.Outside.{Outside, reader, reader_back}
 use Rattle.picky_conversion.proofs.ConvertLemmas.{means_one, says_in}

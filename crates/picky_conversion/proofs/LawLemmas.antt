@@ -7,7 +7,8 @@ use Rattle.picky_issuing.specs.{declared.options.CertOptions.{CertOptions}, Part
 use Rattle.picky_conversion.specs.{declared.request.CertRequest.{CertRequest}, Drafted.{line_drafted}}
 use Rattle.picky_conversion.specs.Chain.{IsGiven, ChainStep, last_of, through}
 use Rattle.picky_conversion.specs.{Certify.{certification, drafting, hex_line}, Convert.{conversion}}
-use Rattle.picky_conversion.specs.Issue.{issued, issued_bytes, issuer_read, request_by, unsigned}
+use Rattle.picky_conversion.specs.Issue.{issued, issued_bytes, issuer_read, unsigned}
+use Rattle.picky_conversion.specs.Request.{request_by}
 use Rattle.picky_conversion.specs.Outside.{Outside, reader}
 use Rattle.picky_conversion.proofs.{DraftedLaws.{drafted_where, line_drafted_where}, CertifyLemmas.{drafting_of}}
 use Rattle.picky_conversion.proofs.{IssueLemmas.{unsigned_by}, ConvertLemmas.{conversion_from, conversion_parts}}

@@ -11,16 +11,12 @@ use Rattle.picky_key_text.specs.Order.{asks, fault_of as input_fault, reading}
 use Rattle.picky_key_text.specs.Reads.{Reads}
 use Rattle.picky_target.specs.declared.error.ConvertError.{ConvertError}
 use Rattle.picky_target.specs.declared.error.ConvertError.TheVariants as errors
-use Rattle.picky_conversion.specs.declared.request.CertRequest.{CertRequest}
+use Rattle.picky_conversion.specs.Request.{request_by}
 use Rattle.picky_conversion.specs.Certified.{SignRelation}
 use Rattle.picky_conversion.specs.Drafted.{IsDrafted}
 use Rattle.picky_conversion.specs.Certify.{IsToBeSigned, certification, drafting, hex_line}
 use Rattle.picky_conversion.specs.Outside.{Outside, reader}
 use Rattle.picky_conversion.specs.To.{CanConvert, Certified, IsConverted}
-
--- what the options ask, of an issuer
-abbrev pub request_by : CertOptions → Option Key → CertRequest
-request_by options issuer = record { options = options; issuer = issuer }
 
 -- ---- the issuer: the key that its text means, where there is one
 

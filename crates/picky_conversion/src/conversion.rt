@@ -29,7 +29,7 @@ use picky_key_text::{ReadError, read_text};
 use picky_ppk::PpkEncryptionConfig;
 use picky_suite::{Signer, Suite};
 use picky_target::{ConvertError, KeyTarget, write_text};
-use picky_wire::{Bytes, Text};
+use picky_wire::{Bytes, NoMemory, Text, TryClone};
 use std::alloc::Global;
 
 /// The text of the target for the key and the comment that a text means: the key text is read under one passphrase, and what
@@ -46,46 +46,49 @@ pub fn convert<S: Suite, G: Signer>(
     signer: &mut G,
     input: &str,
     pass_in: Option<&str>,
-    target: Target,
+    target: &Target,
     pass_out: Option<&str>,
     fresh: &[u8],
 ) -> Result<Text, ConvertError>
     ensures gives { let o = outside_of (S.meanings suite.old) pass_in.entry pass_out.entry fresh.now in
-        AnswersMade (G.signs signer.old) (λ text. text) (converted o (way_to target) input.now)
-        (λ e. IsFaultTo o (way_to target) input.now e (Rose (S.faults suite.old) (S.faults suite.new)))
+        AnswersMade (G.signs signer.old) (λ text. text) (converted o (way_to target.now) input.now)
+        (λ e. IsFaultTo o (way_to target.now) input.now e (Rose (S.faults suite.old) (S.faults suite.new)))
         (Rose (G.faults signer.old) (G.faults signer.new)) result }
     ensures suite { let o = outside_of (S.meanings suite.old) pass_in.entry pass_out.entry fresh.now in
-        LeavesAskedSuite S.meanings S.faults (asks_to o (way_to target) input.now) result suite.old suite.new }
+        LeavesAskedSuite S.meanings S.faults (asks_to o (way_to target.now) input.now) result suite.old suite.new }
     ensures signer { let o = outside_of (S.meanings suite.old) pass_in.entry pass_out.entry fresh.now in
-        LeavesAskedSigner G.signs G.faults (is_signed (converted o (way_to target) input.now)) result signer.old signer.new }
+        LeavesAskedSigner G.signs G.faults (is_signed (converted o (way_to target.now) input.now)) result signer.old signer.new }
 
     // A text is of the one meaning, and is read back; and where no device signs it, it is the one spelling.
     ensures converts { let o = outside_of (S.meanings suite.old) pass_in.entry pass_out.entry fresh.now in
-        IfOk result (λ text. IsConverted (G.signs signer.old) o (way_to target) input.now text) }
+        IfOk result (λ text. IsConverted (G.signs signer.old) o (way_to target.now) input.now text) }
 
     // It equals another conversion's text exactly where the target keeps the same of both.
     ensures binds { let o = outside_of (S.meanings suite.old) pass_in.entry pass_out.entry fresh.now in
-        IfOk result (BindsTo o (way_to target) input.now) }
+        IfOk result (BindsTo o (way_to target.now) input.now) }
 
     // What has a text for the target is answered so.
     ensures complete { let o = outside_of (S.meanings suite.old) pass_in.entry pass_out.entry fresh.now in
-        (meaning : Meant) → Reads (reader o) input.now meaning → CanConvert o (way_to target) meaning
+        (meaning : Meant) → Reads (reader o) input.now meaning → CanConvert o (way_to target.now) meaning
         → IsOk result ⊎ (result ≡ Err ConvertError.NoMemory) ⊎ ((e : ConvertError) × (result ≡ Err e)
-        × (IsFaultTo o (way_to target) input.now e (Rose (S.faults suite.old) (S.faults suite.new))
-        ⊎ IsLeft (G.signs signer.old) (converted o (way_to target) input.now) (Rose (G.faults signer.old) (G.faults signer.new)) e)) }
+        × (IsFaultTo o (way_to target.now) input.now e (Rose (S.faults suite.old) (S.faults suite.new))
+        ⊎ IsLeft (G.signs signer.old) (converted o (way_to target.now) input.now) (Rose (G.faults signer.old) (G.faults signer.new)) e)) }
 {
     is_given(pass_in, pass_out, fresh);
-    is_target(&target);
+    is_target(target);
     let given = ConversionGiven {
         pass_in,
         pass_out,
         fresh,
     };
-    convert_to(alloc, suite, signer, input, target, given)
+    match target.try_clone(alloc) {
+        Ok(owned) => convert_owned(alloc, suite, signer, input, owned, given),
+        Err(NoMemory) => Err(ConvertError::NoMemory),
+    }
 }
 
-/// The conversion, by its order alone.
-fn convert_to<S: Suite, G: Signer>(
+/// The same to a target that it takes, so that a request is moved into its certificate. Refuses: as `convert`.
+pub fn convert_owned<S: Suite, G: Signer>(
     alloc: Global,
     suite: &mut S,
     signer: &mut G,

@@ -15,7 +15,7 @@ ghost use Rattle.picky_conversion.specs.Issue.{issuer_read, issuing_asks};
 ghost use Rattle.picky_conversion.specs.Made.{AnswersMade, AnswersPlain, LeavesAskedSigner, ToSign, is_signed};
 ghost use Rattle.picky_conversion.specs.Outside.{outside};
 
-use crate::conversion::{bytes_to_sign, convert, issuer_refusal};
+use crate::conversion::{bytes_to_sign, convert_owned, issuer_refusal};
 use crate::given::ConversionGiven;
 use crate::request::CertRequest;
 use crate::target::Target;
@@ -47,17 +47,8 @@ pub fn issue<S: Suite, G: Signer>(
     let parts = parts_of(input);
     match issuer_of(alloc, suite, parts.issuer, given) {
         Ok(issuer) => {
-            let request = CertRequest { options, issuer };
-            convert(
-                alloc,
-                suite,
-                signer,
-                parts.key,
-                given.pass_in,
-                Target::Certificate(request),
-                given.pass_out,
-                given.fresh,
-            )
+            let target = Target::Certificate(CertRequest::of_options(options, issuer));
+            convert_owned(alloc, suite, signer, parts.key, target, given)
         }
         Err(e) => {
             drop(options);
@@ -83,7 +74,7 @@ pub fn print_signed<S: Suite>(
     let parts = parts_of(input);
     match issuer_of(alloc, suite, parts.issuer, given) {
         Ok(issuer) => {
-            let request = CertRequest { options, issuer };
+            let request = CertRequest::of_options(options, issuer);
             print_request(alloc, suite, parts.key, request, given)
         }
         Err(e) => {

@@ -19,7 +19,9 @@ use crate::error::Status;
 use crate::fingerprint::fingerprint_text;
 use crate::summary::sample;
 use picky_cert_builder::SshCertificateGenerationError;
-use picky_conversion::{ConversionGiven, Target, convert, input_refusal, issue, print_signed};
+use picky_conversion::{
+    ConversionGiven, Target, convert_owned, input_refusal, issue, print_signed,
+};
 use picky_input::as_text;
 use picky_issuing::{CertOptions, number_of, options_of};
 use picky_key_text::{ReadError, public_key, read_text};
@@ -246,19 +248,13 @@ fn answer_to<S: Suite, G: Signer>(
         (is_signed (answer (outside (S.meanings suite.old) given.entry) command text.now)) result signer.old signer.new }
 {
     match command {
-        Command::Convert(target) => match convert(
-            alloc,
-            suite,
-            signer,
-            text,
-            given.pass_in,
-            Target::from(target),
-            given.pass_out,
-            given.fresh,
-        ) {
-            Ok(text) => Ok(text.into_string()),
-            Err(e) => Err(e),
-        },
+        Command::Convert(target) => {
+            let target = Target::from(target);
+            match convert_owned(alloc, suite, signer, text, target, given) {
+                Ok(text) => Ok(text.into_string()),
+                Err(e) => Err(e),
+            }
+        }
         Command::Certify(options) => match issue(alloc, suite, signer, options, text, given) {
             Ok(text) => Ok(text.into_string()),
             Err(e) => Err(e),

@@ -173,16 +173,8 @@ fn converted_by<S: Suite, G: Signer>(
     ensures text { IfOk result (λ text. conversion (without_passphrase (S.meanings suite.old)) target from.now ≡ Ok text) }
     ensures suite { suite.new ≡ suite.old }
 {
-    match convert(
-        alloc,
-        suite,
-        signer,
-        from,
-        None,
-        Target::from(target),
-        None,
-        &[],
-    ) {
+    let target = Target::from(target);
+    match convert(alloc, suite, signer, from, None, &target, None, &[]) {
         Ok(text) => Ok(text),
         Err(e) => Err(want_of(e)),
     }

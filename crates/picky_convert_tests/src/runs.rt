@@ -172,7 +172,7 @@ pub fn answer_for(
         &mut *signer,
         line,
         None,
-        target,
+        &target,
         None,
         &[],
     ))

@@ -3,11 +3,11 @@
 use crate::runs::{End, ends_by, ends_unsigned};
 use crate::zero_lines::{FRESH, HOST_SIGNED, SUBJECT_LINE, ZERO_HOST};
 use picky_cert::{SshCertKeyType, SshCertType};
-use picky_convert::{CertRequest, Key, Target, convert};
-use picky_issuing::CertOptions;
+use picky_conversion::{ConversionGiven, convert_owned};
+use picky_convert::{CertRequest, ConvertError, Key, Target, convert};
 use picky_keys::SshBasePublicKey;
 use picky_suite::{MemorySigner, PlainSuite};
-use picky_wire::{List, NoMemory, Timestamp, TryClone};
+use picky_wire::{List, NoMemory, Text, Timestamp, TryClone};
 use std::alloc::Global;
 use std::mem::ManuallyDrop;
 use std::test::Fail;
@@ -54,23 +54,21 @@ fn asks_a_device_once_for_a_certificate_alone(rt: HostRuntime) -> Result<(), Fai
 /// The zero certificate's request.
 fn zero_request(alloc: Global) -> CertRequest {
     CertRequest {
-        options: CertOptions {
-            cert_key_type: Some(SshCertKeyType::SshEd25519V01),
-            cert_type: Some(SshCertType::Host),
-            serial: None,
-            key_id: None,
-            principals: List::new(alloc),
-            valid_after: Some(Timestamp(0)),
-            valid_before: Some(Timestamp(0)),
-            critical_options: List::new(alloc),
-            extensions: List::new(alloc),
-            signature_algo: None,
-        },
+        cert_key_type: Some(SshCertKeyType::SshEd25519V01),
+        cert_type: Some(SshCertType::Host),
+        serial: None,
+        key_id: None,
+        principals: List::new(alloc),
+        valid_after: Some(Timestamp(0)),
+        valid_before: Some(Timestamp(0)),
+        critical_options: List::new(alloc),
+        extensions: List::new(alloc),
+        signature_algo: None,
         issuer: Some(Key::Public(SshBasePublicKey::Ed { key: [0; 32] })),
     }
 }
 
-fn is_converted(alloc: Global, signer: &mut MemorySigner, target: Target) -> bool {
+fn is_converted(alloc: Global, signer: &mut MemorySigner, target: &Target) -> bool {
     let answer = ManuallyDrop::new(convert(
         alloc,
         &mut PlainSuite::new(),
@@ -81,18 +79,39 @@ fn is_converted(alloc: Global, signer: &mut MemorySigner, target: Target) -> boo
         None,
         FRESH,
     ));
-    match &*answer {
+    is_digest_line(&answer)
+}
+
+fn is_moved(alloc: Global, signer: &mut MemorySigner, target: Target) -> bool {
+    let given = ConversionGiven {
+        pass_in: None,
+        pass_out: None,
+        fresh: FRESH,
+    };
+    let answer = ManuallyDrop::new(convert_owned(
+        alloc,
+        &mut PlainSuite::new(),
+        signer,
+        SUBJECT_LINE,
+        target,
+        given,
+    ));
+    is_digest_line(&answer)
+}
+
+fn is_digest_line(answer: &Result<Text, ConvertError>) -> bool {
+    match answer {
         Ok(text) => text.as_str() == DIGEST_LINE,
         Err(_) => false,
     }
 }
 
-/// By a copy of the request.
+/// By the request, and by a copy of it that is moved.
 fn is_certified(alloc: Global) -> Result<bool, NoMemory> {
-    let request = ManuallyDrop::new(zero_request(alloc));
     let mut signer = ManuallyDrop::new(MemorySigner::new(alloc, &[])?);
-    let target = Target::Certificate(request.try_clone(alloc)?);
-    Ok(is_converted(alloc, &mut signer, target))
+    let target = ManuallyDrop::new(Target::Certificate(zero_request(alloc)));
+    let copy = target.try_clone(alloc)?;
+    Ok(is_converted(alloc, &mut signer, &target) && is_moved(alloc, &mut signer, copy))
 }
 
 #[test]

@@ -10,7 +10,7 @@ use crate::option_word::OptionWord;
 use crate::value::{algorithm_of, cert_type_of, number_of};
 use picky_cert_parts::{SshCertKeyType, SshCertType, SshCriticalOption, SshExtension};
 use picky_keys::SignatureAlgorithm;
-use picky_wire::{List, NoMemory, Text, Timestamp, TryClone, both};
+use picky_wire::{List, NoMemory, Text, Timestamp, TryClone};
 use std::alloc::Global;
 
 /// What is asked of a certificate beside its issuer, its subject's key and its comment.
@@ -33,28 +33,6 @@ pub struct CertOptions {
     pub extensions: List<SshExtension>,
     /// The algorithm to sign by, where it isn't the type's own.
     pub signature_algo: Option<SignatureAlgorithm>,
-}
-
-impl TryClone for CertOptions {
-    fn try_clone(&self, alloc: Global) -> Result<CertOptions, NoMemory> {
-        let key_id = text_where_given(alloc, &self.key_id);
-        let names = both(key_id, self.principals.try_clone(alloc));
-        let extensions = self.extensions.try_clone(alloc);
-        let items = both(self.critical_options.try_clone(alloc), extensions);
-        let ((key_id, principals), (critical_options, extensions)) = both(names, items)?;
-        Ok(CertOptions {
-            cert_key_type: self.cert_key_type,
-            cert_type: self.cert_type,
-            serial: self.serial,
-            key_id,
-            principals,
-            valid_after: self.valid_after,
-            valid_before: self.valid_before,
-            critical_options,
-            extensions,
-            signature_algo: self.signature_algo,
-        })
-    }
 }
 
 impl CertOptions {
@@ -274,19 +252,6 @@ fn with_extension(
             Ok(()) => Ok(Some(options)),
             Err(_) => Err(NoMemory),
         },
-        None => Ok(None),
-    }
-}
-
-/// A copy of the text, where there is one. Refuses: `NoMemory`.
-fn text_where_given(alloc: Global, text: &Option<Text>) -> Result<Option<Text>, NoMemory>
-    ensures { IfOk result (λ copy. copy ≡ text.now) }
-{
-    match text {
-        Some(text) => {
-            let text = text.try_clone(alloc)?;
-            Ok(Some(text))
-        }
         None => Ok(None),
     }
 }

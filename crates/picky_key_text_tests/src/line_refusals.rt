@@ -152,13 +152,14 @@ fn is_of_input(why: &ConvertError, wanted: &SshPublicKeyError) -> bool {
 }
 
 fn is_unwritten(alloc: Global, line: &str, target: KeyTarget, wanted: &SshPublicKeyError) -> bool {
+    let target = Target::from(target);
     let written = ManuallyDrop::new(convert(
         alloc,
         &mut PlainSuite::new(),
         &mut HandedSigner::new(None),
         line,
         None,
-        Target::from(target),
+        &target,
         None,
         &[],
     ));

@@ -9,25 +9,28 @@ returns-in-Ok-clause-gives g c =
     let o = outside (g.S.Suite.meanings c.args.suite.now) c.args.given in
     let part = c.parts_of-parts.ensures.issuer in
     let key = c.parts_of-parts.ensures.key in
+    let asked = c.of_options.ensures in
     issue_gives (g.G.Signer.signs c.args.signer.now) (λ text. text) o _ c.args.options c.args.input.now c.in-Ok.issuer _ _ _ _
-    c.convert.result (rw part at c.in-Ok.ensures.gives) c.in-Ok.ensures.suite.kept (c.in-Ok.ensures.suite.calm (λ e is fault. cc is))
-    (rw key at c.convert.ensures.gives)
+    c.convert_owned.result (rw part at c.in-Ok.ensures.gives) c.in-Ok.ensures.suite.kept (c.in-Ok.ensures.suite.calm (λ e is fault. cc is))
+    (rw (key, asked) at c.convert_owned.ensures.gives)
 
 pub returns-in-Ok-clause-suite : goal.returns-in-Ok-clause-suite
 returns-in-Ok-clause-suite g c =
     let o = outside (g.S.Suite.meanings c.args.suite.now) c.args.given in
     let part = c.parts_of-parts.ensures.issuer in
     let key = c.parts_of-parts.ensures.key in
-    then_leaves _ _ o c.args.input.now c.in-Ok.issuer c.convert.result _ _ _ (rw part at c.in-Ok.ensures.gives)
-    (rw part at c.in-Ok.ensures.suite) (rw key at c.convert.ensures.suite)
+    let asked = c.of_options.ensures in
+    then_leaves _ _ o c.args.input.now c.in-Ok.issuer c.convert_owned.result _ _ _ (rw part at c.in-Ok.ensures.gives)
+    (rw part at c.in-Ok.ensures.suite) (rw (key, asked) at c.convert_owned.ensures.suite)
 
 pub returns-in-Ok-clause-signer : goal.returns-in-Ok-clause-signer
 returns-in-Ok-clause-signer g c =
     let o = outside (g.S.Suite.meanings c.args.suite.now) c.args.given in
     let part = c.parts_of-parts.ensures.issuer in
     let key = c.parts_of-parts.ensures.key in
-    issue_signer _ _ o _ c.args.options c.args.input.now c.in-Ok.issuer c.convert.result _ _ (rw part at c.in-Ok.ensures.gives)
-    c.in-Ok.ensures.suite.kept (rw key at c.convert.ensures.signer)
+    let asked = c.of_options.ensures in
+    issue_signer _ _ o _ c.args.options c.args.input.now c.in-Ok.issuer c.convert_owned.result _ _ (rw part at c.in-Ok.ensures.gives)
+    c.in-Ok.ensures.suite.kept (rw (key, asked) at c.convert_owned.ensures.signer)
 
 pub returns-in-Err-clause-gives : goal.returns-in-Err-clause-gives
 returns-in-Err-clause-gives g c =

@@ -5,7 +5,7 @@ use Rattle.picky_target.specs.declared.target.KeyTarget.TheVariants as keys
 use Rattle.picky_conversion.specs.To.{way_to}
 use Rattle.picky_conversion.specs.Outside.{outside}
 use Rattle.picky_conversion.proofs.ToLemmas.{key_converted}
-use Rattle.picky_conversion.proofs.conversion.convert_to.Goals as goal
+use Rattle.picky_conversion.proofs.conversion.convert_owned.Goals as goal
 
 pub returns-in-OpenSsh-clause-gives : goal.returns-in-OpenSsh-clause-gives
 returns-in-OpenSsh-clause-gives g c =
