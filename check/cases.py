@@ -8,7 +8,7 @@ import os
 import re
 import resource
 import subprocess
-from typing import Dict, NamedTuple, Optional, Union
+from typing import Callable, Dict, NamedTuple, Optional, Union
 
 LIMIT = 16_777_216
 SECONDS = 60
@@ -51,6 +51,76 @@ def deaf(cases):
             yield case._replace(name=f"{case.name}, standard error {err}", err=err)
 
 
+# ---- --help and --version
+
+# Words that are near to the two, and are none of them.
+NEAR = ("-h", "-?", "-help", "-version", "-V", "-v", "--h", "--hel", "--helpx", "--help=", "--HELP", "--help ", " --help", "--versions",
+        "--Version", "help", "version", "--")
+
+
+def printed(program, names):
+    """What --help prints, which has all these names, and what --version does."""
+    has = b"".join(b"(?=.*" + re.escape(name) + b")" for name in names)
+    version = rb"%b [0-9]+\.[0-9]+\.[0-9]+ \(rattle-kit-[0-9]+[a-z]?\)\n" % program.encode()
+    return {"--help": re.compile(has + b"usage: .*\n", re.DOTALL), "--version": re.compile(version)}
+
+
+def helps(texts, source):
+    """The two, which read nothing of standard input."""
+    for word, text in texts.items():
+        yield Case(word, (word,), source, text, taken=0)
+        yield Case(f"{word} on a folder", (word,), FOLDER, text)
+        yield Case(f"{word} on a closed standard input", (word,), CLOSED, text)
+        for err in (FULL, CLOSED):
+            yield Case(f"{word}, standard error {err}", (word,), source, text, err=err)
+
+
+# ---- the environment
+
+# The variables that some program reads: of each a value that is good, and one that isn't.
+VARIABLES = {"KEYCONV_PASS_IN": ("p", b"\xff"), "KEYCONV_PASS_OUT": ("p", b"\xff"), "KEYCONV_FRESH": ("00" * 64, "0g"),
+             "KEYCONV_SIGNATURE": ("00" * 64, "0g"), "KEYPOLICY_VERIFIED": ("00" * 64, "0g")}
+
+
+class Row(NamedTuple):
+    """A command over a source, and what it comes to in an environment: what is on standard output, and the end."""
+    name: str
+    words: tuple
+    source: bytes
+    answer: Callable
+
+
+def always(name, words, source, out, end=DONE):
+    """A row in which no variable changes anything."""
+    return Row(name, words, source, lambda env: (out, end))
+
+
+def surroundings(good):
+    """Environments by their names: each variable is absent, empty, good and bad in turn, and the others are absent or good."""
+    states = {name: {"absent": None, "empty": "", "good": good.get(name, one), "bad": other} for name, (one, other) in VARIABLES.items()}
+    found = {}
+    for others in ("absent", "good"):
+        for name, values in states.items():
+            for state, value in values.items():
+                env = {**{it: states[it][others] for it in states}, name: value}
+                env = {it: value for it, value in env.items() if value is not None}
+                if env not in found.values():
+                    found[f"{name} {state}, others {others}"] = env
+    return found
+
+
+def surrounded(rows, texts, own=(), unfit=None, good={}):
+    """Each row, --help and --version in each of these environments. Where a variable of the program's own is bad, the run ends as
+    unfit and reads nothing, but for the two, which read no variable. `good` has values that this program wants."""
+    rows = [*rows, *(always(word, (word,), b"", text) for word, text in texts.items())]
+    for row in rows:
+        for name, env in surroundings(good).items():
+            is_help = len(row.words) == 1 and row.words[0] in texts
+            is_unfit = not is_help and any(env.get(it) == VARIABLES[it][1] for it in own)
+            out, end = (b"", unfit) if is_unfit else row.answer(env)
+            yield Case(f"{row.name}, {name}", row.words, row.source, out, end, env, taken=0 if is_unfit or is_help else None)
+
+
 class Ran(NamedTuple):
     status: int
     out: Optional[bytes]
@@ -88,7 +158,8 @@ def run(program, case, folder):
             if it is not source:
                 theirs.callback(os.close, it)
         how = dict(zip(("stdin", "stdout", "stderr"), streams), env=case.env, cwd=folder)
-        child = subprocess.Popen([program, *case.words], preexec_fn=prepare, **how)
+        # Without a function to call, Python doesn't copy itself first.
+        child = subprocess.Popen([program, *case.words], preexec_fn=prepare if closed or case.memory else None, **how)
         theirs.close()
         if case.to == LEFT:
             os.read(reader, 100)

@@ -6,7 +6,7 @@ their fields; the numbers of a key here belong to no key that works, since nobod
 import itertools
 import re
 
-from cases import CLOSED, Case, DONE, End, FOLDER, FULL, LEFT, LIMIT, UNREAD, deaf
+from cases import CLOSED, Case, DONE, End, FOLDER, FULL, LEFT, LIMIT, NEAR, Row, UNREAD, always, deaf, helps, printed, surrounded
 from formats import ED25519, RSA, ed25519_blob, ed25519_private, mpint, mpints, rsa_blob, rsa_private, string, uint32
 
 BAD_FRAME, CUT, READ_FAULT, WRITE_FAULT, NO_MEMORY, NO_HEX = (End(status, b"") for status in (1, 2, 3, 4, 5, 7))
@@ -289,6 +289,7 @@ def words():
         "--help behind another": ("x", "--help"), "--version before another": ("--version", ""), "both": ("--help", "--version"),
         "--help in upper case": ("--HELP",), "a space more": ("--help ",), "--": ("--",), "a word of ssh-agent": ("-D",),
         "what isn't UTF-8": (b"\xff",), "--help before what isn't UTF-8": ("--help", b"\xff"), "--help and no UTF-8": (b"--help\xff",),
+        **{f"near to --help: {word!r}": (word,) for word in NEAR},
     }
     for name, it in given.items():
         yield talk(f"words: {name}", (LIST, listed()))._replace(words=it)
@@ -327,39 +328,54 @@ def no_memory():
     yield Case("one key with such a comment again and again", (), string(long) * 100, string(SUCCESS) * 100, memory=LIMIT)
 
 
-def environments():
-    values = {
+def values():
+    wrong = {
         "one digit": "0", "three digits": "000", "a letter": "0g", "a space before": " 00", "a space behind": "00 ", "LF behind": "00\n",
         "0x": "0x00", "colons": "00:00", "a word": "none", "base64": "AAAA==", "full-width digits": "\uff10\uff10", "no UTF-8": b"\xff",
         "hex and no UTF-8": b"00\xff\xff",
     }
-    for name, value in values.items():
+    for name, value in wrong.items():
         for word in ((), ("x",), ("--help", "x"), (b"\xff",)):
             yield Case(f"a signature with {name}, words {word}", word, string(LIST), b"", NO_HEX, {"KEYCONV_SIGNATURE": value}, taken=0)
     for name in ("KEYCONV_PASS_IN", "KEYCONV_FRESH", "KEYAGENT_SIGNATURE", "KEYCONV_SIGNATURE_", "SSH_AUTH_SOCK", "LANG"):
         yield talk(f"a variable {name} that isn't UTF-8", (add(ED), SUCCESS), (sign(ED_BLOB), FAILURE), env={name: b"\xff"})
 
 
+TEXTS = printed("keyagent", [
+    b"usage: keyagent < MESSAGES > REPLIES", b"signs nothing", b"draft-miller-ssh-agent-04", b"262,144", b"1,024 identities",
+    b"KEYCONV_SIGNATURE", b"--help", b"--version", *(b"%d " % kind for kind in (11, 13, 17, 19, 23)),
+    *(b"%d " % status for status in range(8))])
+
+
 def texts():
-    """--help and --version, which read neither standard input nor the environment."""
-    names = [b"usage: keyagent < MESSAGES > REPLIES", b"signs nothing", b"draft-miller-ssh-agent-04", b"262,144", b"1,024 identities",
-             b"KEYCONV_SIGNATURE", b"--help", b"--version"]
-    names += [b"%d " % kind for kind in (11, 13, 17, 19, 23)] + [b"%d " % status for status in range(8)]
-    patterns = {"--help": b"".join(b"(?=.*" + re.escape(name) + b")" for name in names) + b"usage: .*\n",
-                "--version": rb"keyagent [0-9]+\.[0-9]+\.[0-9]+ \(rattle-kit-[0-9]+[a-z]?\)\n"}
-    for word, pattern in patterns.items():
-        text = re.compile(pattern, re.DOTALL)
-        yield Case(word, (word,), string(LIST), text, taken=0)
-        yield Case(f"{word}, a signature that isn't hex", (word,), string(LIST), text, env={"KEYCONV_SIGNATURE": "x"}, taken=0)
-        yield Case(f"{word} on a folder", (word,), FOLDER, text)
-        yield Case(f"{word} on a closed standard input", (word,), CLOSED, text)
-        for err in (FULL, CLOSED):
-            yield Case(f"{word}, standard error {err}", (word,), string(LIST), text, err=err)
+    yield from helps(TEXTS, string(LIST))
+
+
+def signing(env):
+    """What comes of a signature that a key is asked for."""
+    signature = env.get("KEYCONV_SIGNATURE")
+    reply = FAILURE if signature is None else signed(ED25519, bytes.fromhex(signature))
+    return string(SUCCESS) + string(reply), DONE
+
+
+def signing_rows():
+    """A signature, a list and what is no message, with words that are ignored."""
+    for words in ((), ("-h",), ("x",), ("--help", "x"), (b"\xff",)):
+        yield Row(f"a signature, words {words}", words, string(add(ED)) + string(sign(ED_BLOB)), signing)
+    yield always("the list", (), string(LIST), string(listed()))
+    yield always("nothing", (), b"", b"")
+    yield always("no message", (), bytes(4), b"", BAD_FRAME)
+    yield always("a part of a message", (), string(LIST * 9)[:-1], b"", CUT)
+
+
+def environments():
+    yield from surrounded(signing_rows(), TEXTS, ("KEYCONV_SIGNATURE",), NO_HEX)
 
 
 def all_cases():
-    for group in (rows, kept, signatures, locks, unfit, limits, frames, words, read_faults, write_faults, no_memory, environments, texts):
+    for group in (rows, kept, signatures, locks, unfit, limits, frames, words, read_faults, write_faults, no_memory, values, texts,
+                  environments):
         yield from group()
-    for group in (rows, kept, signatures, frames, read_faults, write_faults, environments):
+    for group in (rows, kept, signatures, frames, read_faults, write_faults, values):
         yield from deaf(itertools.islice(group(), 2))
     yield from deaf(no_memory())

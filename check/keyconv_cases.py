@@ -6,9 +6,8 @@ them by the command beside them.
 import base64
 import hashlib
 import itertools
-import re
 
-from cases import CLOSED, Case, End, FOLDER, FULL, LEFT, LIMIT, UNREAD, deaf
+from cases import CLOSED, Case, DONE, End, FOLDER, FULL, LEFT, LIMIT, NEAR, Row, UNREAD, always, deaf, helps, printed, surrounded
 from formats import ED25519, HOST, armoured, certificate, ed25519_blob, ed25519_private, envelope, lines, public_line
 from formats import putty_block, putty_file, putty_public, string, to_be_signed, uint32
 
@@ -213,6 +212,7 @@ def usages():
         "no option": ("cert", "host"), "an unknown option": ("cert", "--valid", "1"),
         "an option of PuTTYgen": ("tbs", "-C", "a"), "sample without a number": ("sample",),
         "sample of two numbers": ("sample", "7", "7"), "an option for sample": ("sample", "--id", "a"),
+        **{f"a word near to --help: {word!r}": (word,) for word in NEAR},
     }
     values = {
         "--type": "ssh-ed25519-cert-v01@openssh.com", "--kind": "host", "--after": "0", "--before": "0", "--serial": "1",
@@ -292,29 +292,89 @@ def limits():
         yield Case(name, ("ssh-pub",), source, b"", NOT_UTF8, taken=len(source))
 
 
+TEXTS = printed("keyconv", [
+    b"usage: keyconv ", *b"openssh ppk2 ppk3 ssh-pub putty-pub fingerprint cert tbs --help --version".split(),
+    *b"--type --kind --after --before --serial --id --principal --critical --extension --algorithm".split(),
+    *b"KEYCONV_PASS_IN KEYCONV_PASS_OUT KEYCONV_FRESH KEYCONV_SIGNATURE".split(), *(b"%d " % status for status in range(9))])
+
+
 def texts():
-    """--help and --version, which read neither standard input nor the environment."""
-    names = [b"usage: keyconv ", *b"openssh ppk2 ppk3 ssh-pub putty-pub fingerprint cert tbs --help --version".split(),
-             *b"--type --kind --after --before --serial --id --principal --critical --extension --algorithm".split(),
-             *b"KEYCONV_PASS_IN KEYCONV_PASS_OUT KEYCONV_FRESH KEYCONV_SIGNATURE".split()]
-    names += [b"%d " % status for status in range(9)]
-    wrong = {"KEYCONV_PASS_IN": b"\xff", "KEYCONV_PASS_OUT": b"\xff", "KEYCONV_FRESH": "no hex", "KEYCONV_SIGNATURE": b"\xff"}
-    patterns = {"--help": b"".join(b"(?=.*" + re.escape(name) + b")" for name in names) + b"usage: .*\n",
-                "--version": rb"keyconv [0-9]+\.[0-9]+\.[0-9]+ \(rattle-kit-[0-9]+[a-z]?\)\n"}
-    for word, pattern in patterns.items():
-        text = re.compile(pattern, re.DOTALL)
-        yield Case(word, (word,), LINE, text, taken=0)
-        yield Case(f"{word}, variables that aren't read", (word,), LINE, text, env=wrong, taken=0)
-        yield Case(f"{word} on a folder", (word,), FOLDER, text)
-        yield Case(f"{word} on a closed standard input", (word,), CLOSED, text)
-        for err in (FULL, CLOSED):
-            yield Case(f"{word}, standard error {err}", (word,), LINE, text, err=err)
+    yield from helps(TEXTS, LINE)
     for name in ("KEYCONV", "KEYCONV_PASS", "KEYCONV_PASS_IN_", "LANG"):
         yield Case(f"a variable {name} that isn't UTF-8", ("putty-pub",), LINE, putty_public(BLOB, b"k"), env={name: b"\xff"})
 
 
+def refusal(code):
+    """What a refused run comes to."""
+    return b"", said(1, f"refused: {code}")
+
+
+def opened(path, no_passphrase, empty_one=None):
+    """What comes of a sealed text: refusals where there is no passphrase, and where it is empty, if that is refused."""
+    def answer(env):
+        passphrase = env.get("KEYCONV_PASS_IN")
+        if passphrase is None:
+            return refusal(f"{path}.{no_passphrase}")
+        return refusal(f"{path}.{empty_one}") if empty_one and not passphrase else (b"", OUTSIDE_FAULT)
+    return answer
+
+
+def sealed(word, text, fresh_len):
+    """What comes of the zero key as a private text, to be sealed with so many fresh bytes."""
+    def answer(env):
+        passphrase = env.get("KEYCONV_PASS_OUT")
+        if passphrase is None:
+            return text, DONE
+        if word == "openssh" and not passphrase:
+            return refusal("output.private.HashingError")
+        return refusal("FreshTooShort") if len(env.get("KEYCONV_FRESH", "")) < 2 * fresh_len else (b"", OUTSIDE_FAULT)
+    return answer
+
+
+def issued(env):
+    """What comes of a host's certificate."""
+    if len(env.get("KEYCONV_FRESH", "")) < 64:
+        return refusal("FreshTooShort")
+    signature = env.get("KEYCONV_SIGNATURE")
+    return (b"", OUTSIDE_FAULT) if signature is None else (cert_line(bytes(32), bytes.fromhex(signature)), DONE)
+
+
+def to_sign(env):
+    """What comes of what is signed of it."""
+    return (signed(bytes(32)).hex().encode() + b"\n", DONE) if len(env.get("KEYCONV_FRESH", "")) >= 64 else refusal("FreshTooShort")
+
+
+def rows():
+    """Each command, over what is sealed and what isn't."""
+    forms = {
+        "key": (sealed_envelope(), "private", "MissingPassphrase", "HashingError"),
+        "file": (sealed_ppk(3), "putty", "Encrypted"),
+    }
+    for name, (text, form, *refusals) in forms.items():
+        for word in ("openssh", "ppk2", "ppk3", "ssh-pub", "putty-pub", "fingerprint"):
+            yield Row(f"{word} of a sealed {name}", (word,), text, opened(f"input.{form}", *refusals))
+        for word in ("cert", "tbs"):
+            yield Row(f"{word} by a sealed {name}", (word, *CERT_OPTIONS), text + b"%%\n" + LINE, opened(f"issuer.{form}", *refusals))
+            yield Row(f"{word} of a sealed {name}", (word, *CERT_OPTIONS), LINE + b"%%\n" + text, opened(f"input.{form}", *refusals))
+    # The zero key has a private part of 4 bytes in PuTTY's file, to be padded to 16.
+    for word, text, fresh_len in (("openssh", ZERO, 16), ("ppk2", ppk(2, b"hello", b""), 12), ("ppk3", ZERO_PPK, 28)):
+        yield Row(f"{word} of a key", (word,), ZERO, sealed(word, text, fresh_len))
+    yield Row("cert", ("cert", *CERT_OPTIONS), CERT_SOURCE, issued)
+    yield Row("tbs", ("tbs", *CERT_OPTIONS), CERT_SOURCE, to_sign)
+    yield always("ssh-pub", ("ssh-pub",), ZERO, line(b"hello", end=b"\r\n"))
+    yield always("putty-pub", ("putty-pub",), ZERO, putty_public(BLOB, b"hello"))
+    yield always("fingerprint", ("fingerprint",), ZERO, BLOB_PRINTS)
+    yield always("sample 7", ("sample", "7"), b"", SUMMARIES["7"])
+    for words in ((), ("-h",), ("sample", "0"), ("ssh-pub", "--help")):
+        yield always(f"the words {words}", words, LINE, b"", USAGE)
+
+
+def environments():
+    yield from surrounded(rows(), TEXTS, ("KEYCONV_PASS_IN", "KEYCONV_PASS_OUT", "KEYCONV_FRESH", "KEYCONV_SIGNATURE"), USAGE)
+
+
 def all_cases():
-    for group in (done, refusals, usages, read_faults, write_faults, outside_faults, limits, texts):
+    for group in (done, refusals, usages, read_faults, write_faults, outside_faults, limits, texts, environments):
         yield from group()
     for group in (done, refusals, usages, read_faults, write_faults, outside_faults):
         yield from deaf(itertools.islice(group(), 2))

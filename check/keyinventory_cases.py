@@ -5,9 +5,8 @@ are those of keyconv's cases.
 """
 import base64
 import itertools
-import re
 
-from cases import CLOSED, Case, End, FOLDER, FULL, LEFT, LIMIT, UNREAD, deaf
+from cases import CLOSED, Case, DONE, End, FOLDER, FULL, LEFT, LIMIT, NEAR, Row, UNREAD, always, deaf, helps, printed, surrounded
 from formats import RSA, ed25519_blob, mpint, putty_public, string
 from keyconv_cases import BLOB, CERT_TYPE, DEVICE, DEVICE_KEY, KEY, KEY_PPK, LINE, ZERO, ZERO_PPK
 from keyconv_cases import cert_line, line, ppk, sealed_envelope, sealed_ppk
@@ -153,7 +152,7 @@ def usages():
         "a file": ("list", "/dev/null"), "a short option": ("-l",), "--list": ("--list",), "a word of keyconv": ("fingerprint",),
         "--help behind a word": ("list", "--help"), "--help with a word": ("--help", "list"), "--help twice": ("--help", "--help"),
         "--version with a word": ("--version", "--help"), "a word that isn't UTF-8": (b"list\xff",),
-        "a second word that isn't UTF-8": ("list", b"\xff"),
+        "a second word that isn't UTF-8": ("list", b"\xff"), **{f"a word near to --help: {word!r}": (word,) for word in NEAR},
     }
     for name, given in words.items():
         yield Case(name, given, LINE, b"", USAGE, taken=0)
@@ -214,26 +213,42 @@ def limits():
             yield Case(f"{word}, {name}", (word,), text, b"", NOT_UTF8, taken=len(text))
 
 
+TEXTS = printed("keyinventory", [
+    b"usage: keyinventory list|merge", *b"list merge --help --version %% KEYCONV_PASS_IN keyconv".split(),
+    *(b"%d " % status for status in range(9))])
+
+
 def texts():
-    """--help and --version, which read neither standard input nor the environment."""
-    names = [b"usage: keyinventory list|merge", *b"list merge --help --version %% KEYCONV_PASS_IN keyconv".split()]
-    names += [b"%d " % status for status in range(9)]
-    patterns = {"--help": b"".join(b"(?=.*" + re.escape(name) + b")" for name in names) + b"usage: .*\n",
-                "--version": rb"keyinventory [0-9]+\.[0-9]+\.[0-9]+ \(rattle-kit-[0-9]+[a-z]?\)\n"}
-    for word, pattern in patterns.items():
-        text = re.compile(pattern, re.DOTALL)
-        yield Case(word, (word,), LINE, text, taken=0)
-        yield Case(f"{word}, a variable that isn't read", (word,), LINE, text, env={"KEYCONV_PASS_IN": b"\xff"}, taken=0)
-        yield Case(f"{word} on a folder", (word,), FOLDER, text)
-        yield Case(f"{word} on a closed standard input", (word,), CLOSED, text)
-        for err in (FULL, CLOSED):
-            yield Case(f"{word}, standard error {err}", (word,), LINE, text, err=err)
+    yield from helps(TEXTS, LINE)
     for name in ("KEYCONV_PASS", "KEYCONV_PASS_OUT", "KEYCONV_FRESH", "KEYINVENTORY_PASS_IN", "LANG"):
         yield listed(f"a variable {name} that isn't UTF-8", (LINE,), K, env={name: b"\xff"})
 
 
+def opened(empty_one):
+    """What comes of a sealed text: without a passphrase it is refused, and under an empty one it may be."""
+    ends = {None: REFUSED, "": empty_one}
+    return lambda env: (b"", ends.get(env.get("KEYCONV_PASS_IN"), OUTSIDE_FAULT))
+
+
+def rows():
+    """Each command, over what is sealed and what isn't."""
+    yield Row("list of a sealed key", ("list",), LINE + MARK + sealed_envelope(), opened(REFUSED))
+    yield Row("list of a sealed file 2", ("list",), LINE + MARK + sealed_ppk(2), opened(OUTSIDE_FAULT))
+    yield Row("list of a sealed file 3", ("list",), LINE + MARK + sealed_ppk(3), opened(OUTSIDE_FAULT))
+    yield always("list", ("list",), ZERO + MARK + LINE, BOTH)
+    yield always("list of no key", ("list",), b"x\n", b"", REFUSED)
+    yield always("merge", ("merge",), HELLO + MARK + K, BOTH)
+    yield always("merge of no inventory", ("merge",), sealed_envelope(), b"", REFUSED)
+    for words in ((), ("-h",), ("list", "--help"), ("union",)):
+        yield always(f"the words {words}", words, LINE, b"", USAGE)
+
+
+def environments():
+    yield from surrounded(rows(), TEXTS, ("KEYCONV_PASS_IN",), USAGE)
+
+
 def all_cases():
-    for group in (done, refusals, usages, read_faults, write_faults, outside_faults, limits, texts):
+    for group in (done, refusals, usages, read_faults, write_faults, outside_faults, limits, texts, environments):
         yield from group()
     for group in (done, refusals, usages, read_faults, write_faults, outside_faults):
         yield from deaf(itertools.islice(group(), 2))

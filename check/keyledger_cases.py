@@ -6,9 +6,8 @@ or more, is tried nowhere here: it takes more than 3 GiB of memory.
 """
 import base64
 import itertools
-import re
 
-from cases import CLOSED, Case, DONE, End, FOLDER, FULL, LEFT, LIMIT, UNREAD, deaf
+from cases import CLOSED, Case, DONE, End, FOLDER, FULL, LEFT, LIMIT, NEAR, Row, UNREAD, always, deaf, helps, printed, surrounded
 from formats import ED25519, HOST, RSA, USER, certificate, ed25519_blob, mpint, public_line, putty_public, string, to_be_signed
 from keyconv_cases import BLOB, CERT_TYPE, DEVICE, KEY, LINE, ZERO, line
 
@@ -151,7 +150,7 @@ def certificates():
                    [b"issued r1 1"], env={"KEYCONV_FRESH": "AB" * 32, "KEYCONV_SIGNATURE": "CD" * 64})
     yield answered("an empty signature", REQUEST, ledger(2, entry(REQUEST, signed(1, b"r1"), signature=b"")), [b"issued r1 1"],
                    env=given(1, b""))
-    for words in (("issue",), (b"\xff",), ("--help", "me"), ("", "")):
+    for words in (("issue",), (b"\xff",), ("--help", "me"), ("", ""), *((word,) for word in NEAR)):
         yield answered(f"words {words}, which are ignored", REQUEST, ONE, [b"issued r1 1"], words=words)
 
 
@@ -269,29 +268,53 @@ def limits():
                   BAD_LEDGER)
 
 
+TEXTS = printed("keyledger", [
+    *b"usage: keyledger KEYCONV_FRESH KEYCONV_SIGNATURE PRINCIPALS AFTER BEFORE client host --help --version %% next".split(),
+    *b"issued again conflict full refused bad".split(), *(b"%d " % status for status in range(13))])
+
+
 def texts():
-    """--help and --version, which read neither standard input nor the environment."""
-    found = b"usage: keyledger KEYCONV_FRESH KEYCONV_SIGNATURE PRINCIPALS AFTER BEFORE client host --help --version %% next".split()
-    found += b"issued again conflict full refused bad".split()
-    found += [b"%d " % status for status in range(13)]
-    patterns = {"--help": b"".join(b"(?=.*" + re.escape(name) + b")" for name in found) + b"usage: .*\n",
-                "--version": rb"keyledger [0-9]+\.[0-9]+\.[0-9]+ \(rattle-kit-[0-9]+[a-z]?\)\n"}
-    for word, pattern in patterns.items():
-        text = re.compile(pattern, re.DOTALL)
-        yield Case(word, (word,), source(REQUEST), text, taken=0)
-        for name in ("KEYCONV_FRESH", "KEYCONV_SIGNATURE"):
-            yield Case(f"{word}, a variable {name} that isn't read", (word,), source(REQUEST), text, env={name: b"\xff"}, taken=0)
-        yield Case(f"{word} on a folder", (word,), FOLDER, text)
-        yield Case(f"{word} on a closed standard input", (word,), CLOSED, text)
-        for err in (FULL, CLOSED):
-            yield Case(f"{word}, standard error {err}", (word,), source(REQUEST), text, err=err)
+    yield from helps(TEXTS, source(REQUEST))
     for name in ("KEYCONV", "KEYCONV_FRESH_", "KEYPOLICY_VERIFIED", "KEYCONV_PASS_IN", "KEYCONV_PASS_OUT", "LANG"):
         yield answered(f"a variable {name} that isn't UTF-8", REQUEST, ONE, [b"issued r1 1"], env={**given(1), name: b"\xff"})
 
 
+def enough(env):
+    """Whether there are fresh bytes for a request."""
+    return len(env.get("KEYCONV_FRESH", "")) >= 64
+
+
+def issuing(env):
+    """What comes of a request that is new."""
+    signature = env.get("KEYCONV_SIGNATURE")
+    if not enough(env) or signature is None:
+        return b"", OUTSIDE_FAULT if enough(env) else SHORT
+    made = entry(REQUEST, signed(1, b"r1"), signature=bytes.fromhex(signature))
+    return ledger(2, made) + MARK + b"issued r1 1\n", DONE
+
+
+def kept(env):
+    """What comes of one that the ledger has."""
+    return (ONE + MARK + b"again r1 1\n", DONE) if enough(env) else (b"", SHORT)
+
+
+def rows():
+    """A request that is new, one that isn't, none and no input, with words that are ignored."""
+    for words in ((), ("-h",), ("issue",), ("--help", "me"), (b"\xff",)):
+        yield Row(f"a new request, words {words}", words, source(REQUEST), issuing)
+        yield Row(f"a request again, words {words}", words, source(REQUEST, ONE), kept)
+    yield always("no request", (), source(first=ONE), ONE + MARK)
+    yield always("no ledger", (), source(REQUEST, b"x\n"), b"", BAD_LEDGER)
+    yield always("no input", (), b"x\n", b"", BAD_INPUT)
+
+
+def environments():
+    yield from surrounded(rows(), TEXTS, ("KEYCONV_FRESH", "KEYCONV_SIGNATURE"), NOT_HEX)
+
+
 def all_cases():
     groups = (replies, certificates, inputs, not_hex, read_faults, write_faults, outside_faults)
-    for group in (*groups, limits, texts):
+    for group in (*groups, limits, texts, environments):
         yield from group()
     for group in groups:
         yield from deaf(itertools.islice(group(), 2))

@@ -5,9 +5,8 @@ a signature of zeros: the program verifies none, and is told in its environment 
 """
 import base64
 import itertools
-import re
 
-from cases import CLOSED, Case, DONE, End, FOLDER, FULL, LEFT, LIMIT, UNREAD, deaf
+from cases import CLOSED, Case, DONE, End, FOLDER, FULL, LEFT, LIMIT, NEAR, Row, UNREAD, always, deaf, helps, printed, surrounded
 from formats import ED25519, HOST, RSA, USER, certificate, ed25519_blob, mpint, public_line, putty_public, string, to_be_signed
 from keyconv_cases import BLOB, CERT_TYPE, DEVICE, KEY, LINE, ZERO, ZERO_PPK, line
 
@@ -184,7 +183,7 @@ def usages():
         "message with a word": ("message", "me"), "upper case": ("Message",), "an unknown word": ("allow", "me", "5"),
         "--help behind a word": ("message", "--help"), "--help with a word": ("--help", "message"), "--help twice": ("--help", "--help"),
         "--version with a word": ("--version", "--help"), "a word that isn't UTF-8": (b"message\xff",),
-        "a user that isn't UTF-8": ("decide", b"\xff", "5"),
+        "a user that isn't UTF-8": ("decide", b"\xff", "5"), **{f"a word near to --help: {word!r}": (word,) for word in NEAR},
     }
     for name, given in words.items():
         yield Case(name, given, LINE + MARK + LINE, b"", USAGE, taken=0)
@@ -250,29 +249,48 @@ def limits():
     yield decided("100,000 lines of another key", lines, LINE, b"grant 100001\n")
 
 
+TEXTS = printed("keypolicy", [
+    b"usage: keypolicy decide USER MOMENT", b"keypolicy message",
+    *b"--help --version %% KEYPOLICY_VERIFIED command source verify-required option".split(),
+    *b"NoLine NoAuthority NotClient NotYet Expired Principal CriticalOption BadSignature".split(),
+    *(b"%d " % status for status in range(10))])
+
+
 def texts():
-    """--help and --version, which read neither standard input nor the environment."""
-    found = [b"usage: keypolicy decide USER MOMENT", b"keypolicy message"]
-    found += b"--help --version %% KEYPOLICY_VERIFIED command source verify-required option".split()
-    found += b"NoLine NoAuthority NotClient NotYet Expired Principal CriticalOption BadSignature".split()
-    found += [b"%d " % status for status in range(10)]
-    patterns = {"--help": b"".join(b"(?=.*" + re.escape(name) + b")" for name in found) + b"usage: .*\n",
-                "--version": rb"keypolicy [0-9]+\.[0-9]+\.[0-9]+ \(rattle-kit-[0-9]+[a-z]?\)\n"}
-    for word, pattern in patterns.items():
-        text = re.compile(pattern, re.DOTALL)
-        yield Case(word, (word,), LINE, text, taken=0)
-        yield Case(f"{word}, a variable that isn't read", (word,), LINE, text, env={"KEYPOLICY_VERIFIED": b"\xff"}, taken=0)
-        yield Case(f"{word} on a folder", (word,), FOLDER, text)
-        yield Case(f"{word} on a closed standard input", (word,), CLOSED, text)
-        for err in (FULL, CLOSED):
-            yield Case(f"{word}, standard error {err}", (word,), LINE, text, err=err)
+    yield from helps(TEXTS, LINE)
     for name in ("KEYPOLICY", "KEYPOLICY_VERIFIED_", "KEYCONV_SIGNATURE", "KEYCONV_FRESH", "LANG"):
         yield decided(f"a variable {name} that isn't UTF-8", LINE, LINE, b"grant 1\n", {name: b"\xff"})
 
 
+def verdict(env):
+    """What is said of a certificate that only its signature decides on."""
+    message = env.get("KEYPOLICY_VERIFIED")
+    if message is None:
+        return b"", OUTSIDE_FAULT
+    return (b"grant 1\n", DONE) if message == PLAIN.hex() else (b"deny BadSignature\n", DENIED)
+
+
+def rows():
+    """Each command, on a key and on certificates."""
+    decide, message = COMMANDS
+    yield Row("decide on a certificate", decide, AUTHORITY + MARK + cert(PLAIN), verdict)
+    yield always("decide on an early certificate", ("decide", "me", "4"), AUTHORITY + MARK + cert(PLAIN), b"deny NotYet\n", DENIED)
+    yield always("decide on a key", decide, LINE + MARK + LINE, b"grant 1\n")
+    yield always("decide on a key without a line", decide, LINE, b"deny NoLine\n", DENIED)
+    yield always("decide on no offer", decide, b"x\n", b"", BAD_OFFER)
+    yield always("message of a certificate", message, AUTHORITY + MARK + cert(PLAIN), PLAIN.hex().encode() + b"\n")
+    yield always("message of a key", message, LINE, b"\n")
+    for words in ((), ("-h",), ("message", "--help"), ("decide", "me", "05")):
+        yield always(f"the words {words}", words, LINE, b"", USAGE)
+
+
+def environments():
+    yield from surrounded(rows(), TEXTS, ("KEYPOLICY_VERIFIED",), USAGE, verified(PLAIN))
+
+
 def all_cases():
     groups = (keys, certificates, critical, messages, signatures, bad_offers, usages, read_faults, write_faults, outside_faults)
-    for group in (*groups, limits, texts):
+    for group in (*groups, limits, texts, environments):
         yield from group()
     for group in groups:
         yield from deaf(itertools.islice(group(), 2))

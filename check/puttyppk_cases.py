@@ -4,9 +4,8 @@ docs/FORMATS.md says which statuses and texts are wanted. The files are made her
 command beside them.
 """
 import itertools
-import re
 
-from cases import CLOSED, Case, End, FOLDER, FULL, LEFT, LIMIT, UNREAD, deaf
+from cases import CLOSED, Case, End, FOLDER, FULL, LEFT, LIMIT, NEAR, UNREAD, always, deaf, helps, printed, surrounded
 from formats import ED25519, RSA, mpint, mpints, putty_file, putty_public, rsa_blob, string
 from keyconv_cases import BLOB, KEY_PPK, LINE, ZERO, ppk, sealed_ppk
 
@@ -99,7 +98,7 @@ def usages():
         "an empty word": ("",), "a word": ("ppk3",), "a file": ("/dev/null",), "-": ("-",), "a short option": ("-h",),
         "an unknown option": ("--output",), "--help with a word": ("--help", "ppk3"), "--help twice": ("--help", "--help"),
         "--version with a word": ("--version", "--help"), "a word that isn't UTF-8": (b"\xff",),
-        "a second word that isn't UTF-8": ("--help", b"\xff"),
+        "a second word that isn't UTF-8": ("--help", b"\xff"), **{f"a word near to --help: {word!r}": (word,) for word in NEAR},
     }
     for name, given in words.items():
         yield Case(name, given, NUMBER, b"", USAGE, taken=0)
@@ -138,25 +137,25 @@ def limits():
         yield Case(name, (), text, b"", NOT_UTF8, taken=len(text))
 
 
+TEXTS = printed("puttyppk", [
+    b"usage: puttyppk < PPK", *b"--help --version keyconv ppk2 ppk3 Ed25519".split(),
+    *(b"%d " % status for status in range(9) if status != 5)])
+
+
 def texts():
-    """--help and --version, which read neither standard input nor the environment."""
-    names = [b"usage: puttyppk < PPK", *b"--help --version keyconv ppk2 ppk3 Ed25519".split()]
-    names += [b"%d " % status for status in range(9) if status != 5]
-    patterns = {"--help": b"".join(b"(?=.*" + re.escape(name) + b")" for name in names) + b"usage: .*\n",
-                "--version": rb"puttyppk [0-9]+\.[0-9]+\.[0-9]+ \(rattle-kit-[0-9]+[a-z]?\)\n"}
-    for word, pattern in patterns.items():
-        text = re.compile(pattern, re.DOTALL)
-        yield Case(word, (word,), NUMBER, text, taken=0)
-        yield Case(f"{word} on a folder", (word,), FOLDER, text)
-        yield Case(f"{word} on a closed standard input", (word,), CLOSED, text)
-        for err in (FULL, CLOSED):
-            yield Case(f"{word}, standard error {err}", (word,), NUMBER, text, err=err)
-    for name in ("KEYCONV_PASS_IN", "KEYCONV_PASS_OUT", "LANG"):
-        yield filtered(f"a variable {name} that isn't UTF-8", NUMBER, STRING, env={name: b"\xff"})
+    yield from helps(TEXTS, NUMBER)
+    yield filtered("a variable LANG that isn't UTF-8", NUMBER, STRING, env={"LANG": b"\xff"})
+
+
+def environments():
+    """It reads no variable."""
+    rows = [always("a file", (), NUMBER, STRING), always("a sealed file", (), sealed_ppk(3), b"", REFUSED)]
+    rows += [always(f"the words {words}", words, NUMBER, b"", USAGE) for words in (("-h",), ("--help", "ppk3"))]
+    yield from surrounded(rows, TEXTS)
 
 
 def all_cases():
-    for group in (done, refusals, usages, read_faults, write_faults, limits, texts):
+    for group in (done, refusals, usages, read_faults, write_faults, limits, texts, environments):
         yield from group()
     for group in (done, refusals, usages, read_faults, write_faults):
         yield from deaf(itertools.islice(group(), 2))

@@ -1,0 +1,341 @@
+"""Calls of the library for C, and what each has to answer: what check/c_answers tries, and shares with check/c.
+
+Nothing wanted comes from the project's own programs. Texts and digests are those that ssh-keygen and PuTTYgen wrote, or they are
+made by the formats' standards; which text is refused, and why, says picky.h.
+"""
+import base64
+import ctypes
+import hashlib
+import importlib.util
+import os
+import re
+import shutil
+import subprocess
+from importlib.machinery import SourceFileLoader
+from pathlib import Path
+from typing import NamedTuple, Union
+
+from built import TOP
+from formats import ED25519, RSA, armoured, envelope, putty_public, string, uint32
+from inventory_cases import KEYS, texts_of
+from inventory_texts import envelope_nodes, envelope_text, line_text, ppk_text, render, sealed_envelope, sealed_ppk
+from keyconv_cases import LINE, all_cases
+from vectors import ppk_text as ppk_text_of_row, rows_of
+
+header = SourceFileLoader("header", str(Path(__file__).with_name("header"))).load_module()
+
+TARGETS = {"openssh": 1, "ppk2": 2, "ppk3": 3, "ssh-pub": 4, "putty-pub": 5}
+PARTS = {"type": 1, "blob": 2, "comment": 3}
+PRIVATE_TARGETS, PUTTY_TARGETS = ("openssh", "ppk2", "ppk3"), ("ppk2", "ppk3", "putty-pub")
+UNTOUCHED = b"\xa5"
+
+
+class Call(NamedTuple):
+    name: str
+    # The function without its prefix, and what it is given before the buffer.
+    function: str
+    given: tuple
+    # The bytes that are handed out, or the name of the reason why there are none.
+    wanted: Union[bytes, str]
+
+
+def convert(name, target, text, wanted, pass_in=b"", pass_out=b"", fresh=b""):
+    number = TARGETS.get(target, target)
+    return Call(f"{name}, to {target}", "convert", (text, number, pass_in, pass_out, fresh), wanted)
+
+
+def part(name, text, word, wanted):
+    return Call(f"{name}, {word}", "read_public", (text, PARTS.get(word, word)), wanted)
+
+
+def fingerprint(name, text, wanted):
+    return Call(f"{name}, fingerprint", "fingerprint", (text,), wanted)
+
+
+# ---- the library, by examples/python
+
+def module(folder):
+    """examples/python/picky.py as a module, from a folder where libpicky.so stands beside it."""
+    spec = importlib.util.spec_from_file_location("picky", folder / "picky.py")
+    picky = importlib.util.module_from_spec(spec)
+    spec.loader.exec_module(picky)
+    return picky
+
+
+def linked(archive, folder):
+    """The same in that folder, over what ld makes of the archive: no compiler is needed."""
+    subprocess.run(["ld", "-shared", "-o", folder / "libpicky.so", "--whole-archive", archive, "--no-whole-archive"], check=True)
+    shutil.copy(TOP / "examples/python/picky.py", folder)
+    return module(folder)
+
+
+def complaint(picky, numbers, call):
+    """What is wrong with a call's answers, over buffers that are too short and that have room; none where nothing is."""
+    function = getattr(picky.library, f"picky_{call.function}")
+    given = [picky.Bytes(it) if isinstance(it, bytes) else it for it in call.given]
+    refused = isinstance(call.wanted, str)
+    for room in (0, 64) if refused else (0, 1, len(call.wanted), len(call.wanted) + 1, len(call.wanted) + 64):
+        buffer = ctypes.create_string_buffer(UNTOUCHED * (room + 8), room + 8)
+        answer = function(*given, ctypes.cast(buffer, ctypes.c_char_p), room)
+        if refused:
+            error, length, written = numbers[call.wanted], 0, b""
+        elif room <= len(call.wanted):
+            error, length, written = picky.BUFFER_TOO_SMALL, len(call.wanted), b""
+        else:
+            error, length, written = picky.OK, len(call.wanted), call.wanted + b"\0"
+        if (answer.error, answer.len) != (error, length):
+            names = [picky.error_name(it) for it in (answer.error, error)]
+            return f"with {room} bytes of room {names[0]} and {answer.len} bytes, not {names[1]} and {length}"
+        if buffer.raw != written.ljust(room + 8, UNTOUCHED):
+            return f"with {room} bytes of room {buffer.raw[:200]!r} in the buffer, not {written[:200]!r}"
+    return ""
+
+
+def wrong_numbers(picky, text):
+    """A line for each number of which the header's text, the library and examples/python say different things."""
+    declared = [list(map(int, it.values())) for it in header.numbers(text)[:2]]
+    for theirs, ours, numbers in zip((picky.TARGETS, picky.PARTS), (TARGETS, PARTS), declared):
+        if theirs != ours or list(ours.values()) != numbers:
+            yield f"examples/python has {theirs}, check/c_calls.py {ours}, and the header {numbers}"
+    names = header.error_names()
+    for number in [*range(1000), 65536, 2**31, 2**32 - 1]:
+        if picky.error_name(number) != names.get(number, ""):
+            yield f"{number} is {names.get(number, '')!r}, and the library says {picky.error_name(number)!r}"
+
+
+# ---- what other programs wrote
+
+def read_calls(name, text, line):
+    """What doesn't depend on the secret, of a text that means the key and the comment of a line."""
+    kind, body, comment = (line.split(b" ", 2) + [b""])[:3]
+    blob = base64.b64decode(body)
+    yield fingerprint(name, text, b"SHA256:" + base64.b64encode(hashlib.sha256(blob).digest()).rstrip(b"="))
+    yield from (part(name, text, word, wanted) for word, wanted in zip(PARTS, (kind, blob, comment)))
+    yield convert(name, "ssh-pub", text, b" ".join((kind, body, comment)) + b"\r\n")
+    if kind.startswith(b"sk-"):
+        yield convert(name, "putty-pub", text, "output.putty.NotSupported")
+
+
+def as_written_here(text, comment):
+    """A private key of ssh-keygen with check numbers of 0, the padding of this project and rows of 64."""
+    content = base64.b64decode(b"".join(text.split(b"\n")[1:-2]))
+    at = content.index(b"none") + 4 + 4 + 4 + 4 + 4
+    blob, rest = string_at(content, at)
+    block, _ = string_at(content, rest)
+    return armoured(envelope(blob, block[8:block.rindex(string(comment))], comment))
+
+
+def string_at(content, at):
+    end = at + 4 + int.from_bytes(content[at:at + 4], "big")
+    return content[at + 4:end], end
+
+
+def of_other_programs():
+    for row in rows_of("picky_key_rows", "KeyRow"):
+        name, line, putty = row["name"], row["line"].encode(), row.get("putty", "").encode()
+        yield fingerprint(name, line, b"SHA256:" + row["sha256"].encode())
+        yield from read_calls(name, line, line)
+        yield from (convert(name, target, line, "NoPrivateKey") for target in PRIVATE_TARGETS)
+        if putty:
+            yield convert(name, "putty-pub", line, putty)
+            yield from read_calls(f"PuTTY's text of {name}", putty, line)
+    files = {row["name"]: row for row in rows_of("picky_key_rows", "PpkRow")}
+    for row in rows_of("picky_key_rows", "PrivateRow"):
+        name, text, line = row["name"], row["text"].encode(), row["line"].encode()
+        kept = as_written_here(text, row["comment"].encode())
+        texts = {f"ssh-keygen's {name}": text}
+        if name in files:
+            ppk = {version: ppk_text_of_row(files[name], version).encode() for version in (2, 3)}
+            texts.update({f"PuTTYgen's {name} of version {version}": it for version, it in ppk.items()})
+        for which, it in texts.items():
+            yield from read_calls(which, it, line)
+            yield convert(which, "openssh", it, kept)
+            for version in (2, 3):
+                yield convert(which, f"ppk{version}", it, ppk[version] if name in files else "output.putty.NotSupported")
+    for row in rows_of("picky_cert_rows", "CertRow"):
+        line = f"{row['public_key']} {row['comment']}".encode()
+        yield from read_calls(f"the certificate of {row['name']}", row["line"].encode(), line)
+        yield convert(f"the certificate of {row['name']}", "openssh", row["line"].encode(), "NoPrivateKey")
+
+
+# ---- what the formats' standards say
+
+def of_the_formats():
+    """Each form of each kind of key as each target, under comments of no, one and two bytes."""
+    for kind, key in KEYS.items():
+        for comment in (b"", b"k", "\u00e9".encode()):
+            texts = dict(texts_of(key, comment))
+            private = {"openssh": texts["envelope"], "ppk2": texts.get("PPK 2"), "ppk3": texts.get("PPK 3")}
+            for form, text in texts.items():
+                name = f"{kind.decode()}, {form}, comment {comment!r}"
+                yield from read_calls(name, text, line_text(kind, key.public, comment, b""))
+                for target, wanted in private.items():
+                    if form != "envelope" and not form.startswith("PPK"):
+                        wanted = "NoPrivateKey"
+                    yield convert(name, target, text, wanted or "output.putty.NotSupported")
+                if key.secret:
+                    yield convert(name, "putty-pub", text, texts["PuTTY public"])
+
+
+# ---- what keyconv's cases say
+
+def conversions():
+    """The cases of keyconv's that are conversions of bytes and fingerprints, under passphrases that are text and not empty."""
+    for case in all_cases():
+        env = {name: value for name, value in case.env.items() if name.startswith("KEYCONV_")}
+        plain = isinstance(case.source, bytes) and not any((case.to, case.err, case.memory)) and case.end.status not in (2, 7)
+        # The library's fingerprint takes no passphrase.
+        known = case.words in [(it,) for it in TARGETS] or case.words == ("fingerprint",) and "KEYCONV_PASS_IN" not in env
+        if plain and known and "" not in env.values():
+            yield case._replace(env=env)
+
+
+def reason_of(case):
+    """The name of the reason for which a case of keyconv's writes nothing."""
+    word = case.end.said.decode().removeprefix("keyconv: ").rstrip("\n")
+    return {"outside fault": "NoCipher", "input not UTF-8": "TextNotUtf8"}.get(word, word.removeprefix("refused: "))
+
+
+def of_keyconv():
+    for case in conversions():
+        name, word = f"keyconv's case {case.name}", case.words[0]
+        if word == "fingerprint":
+            yield fingerprint(name, case.source, reason_of(case) if case.end.status else case.out.splitlines()[2])
+            continue
+        given = [os.fsencode(case.env.get(it, "")) for it in ("KEYCONV_PASS_IN", "KEYCONV_PASS_OUT")]
+        fresh = bytes.fromhex(case.env.get("KEYCONV_FRESH", ""))
+        yield convert(name, word, case.source, reason_of(case) if case.end.status else case.out, *given, fresh)
+
+
+# ---- reasons
+
+KEY = KEYS[ED25519]
+ENVELOPE = envelope_text(envelope_nodes(KEY, b"k"))
+
+
+def private_faults():
+    """What is no OpenSSH private key, by the reason's name, and the passphrase that it is read under."""
+    nodes = envelope_nodes(KEY, b"k")
+    short_public = KEY._replace(private=[[ED25519], [bytes(31)], [bytes(64)]])
+    short_secret = KEY._replace(private=[*KEY.public, [bytes(63)]])
+    return {
+        "FromUtf8Error": (envelope_text(envelope_nodes(KEY, b"\xff")), b""),
+        "IoError": (armoured(b"openssh-key-v1\0"), b""),
+        "UnsupportedKeyType": (envelope_text(envelope_nodes(KEY._replace(private=[[b"ssh-dss"]]), b"k")), b""),
+        "UnsupportedCipher": (sealed_envelope(KEY, b"aes192-ctr"), b""),
+        "UnsupportedKdf": (sealed_envelope(KEY, kdf=b"scrypt"), b""),
+        "InvalidAuthMagicHeader": (armoured(b"openssh-key-v2\0"), b""),
+        "InvalidKeysAmount": (envelope_text([*nodes[:5], uint32(2), *nodes[6:]]), b""),
+        "InvalidCheckNumbers": (envelope_text([*nodes[:7], [b"\0\0\0\1", *nodes[7][1:]]]), b""),
+        "InvalidKeyFormat": (envelope_text(envelope_nodes(short_secret, b"k")), b""),
+        "DecryptionError": (sealed_envelope(KEY, b"aes256-cbc", size=15), b"p"),
+        "HashingError": (sealed_envelope(KEY, rounds=0), b"p"),
+        "MissingPassphrase": (sealed_envelope(KEY), b""),
+        "KeyError": (envelope_text(envelope_nodes(short_public, b"k")), b""),
+        "PemError": (ENVELOPE[:-20], b""),
+        "PublicKeyMismatch": (envelope_text([*nodes[:6], KEYS[RSA].public, nodes[7]]), b""),
+    }
+
+
+def public_faults():
+    return {
+        "IoError": line_text(ED25519, [[ED25519]], b"k"),
+        "InvalidUtf8": line_text(ED25519, [[b"\xff"], [bytes(32)]], b"k"),
+        "Base64DecodeError": b"ssh-ed25519 AAAA* k\n",
+        "UnknownKeyType": b"ssh-dss AAAA k\n",
+        "KeyError": line_text(ED25519, [[ED25519], [bytes(31)]], b"k"),
+    }
+
+
+def putty_faults():
+    """What is neither PuTTY's private nor its public key, by the reason's name, and the passphrase that it is read under."""
+    plain = ppk_text(3, KEY, b"k")
+    public = putty_public(render(KEY.public), b"k")
+    return {
+        "EndOfInput": (b"PuTTY-User-Key-File-3: ssh-ed25519\n", b""),
+        "InvalidInput": (b"PuTTY-User-Key-File-1: ssh-ed25519\n", b""),
+        "InvalidKeyValueFormat": (plain.replace(b"Comment: ", b"Comment:"), b""),
+        "Aes": (sealed_ppk(2, KEY, b"k", 17), b"p"),
+        "Argon2": (sealed_ppk(3, KEY, b"k", Argon2_Memory=b"7"), b"p"),
+        "MacValidation": (plain.replace(b"Comment: k", b"Comment: l"), b""),
+        "PublicAndPrivateKeyMismatch": (ppk_text(3, KEY, b"k", name=RSA), b""),
+        "InvalidPrivateKeyData": (ppk_text(3, KEY, b"k", private=[[b"\1" * 33]]), b""),
+        "InvalidPublicKeyData": (public.replace(b"AAAA", b"AAA*", 1), b""),
+        "InvalidPublicKeyContainer": (b"---- BEGIN SSH1 PUBLIC KEY ----\r\n", b""),
+        "InvalidPublicKeyComment": (public.replace(b"Comment: ", b"Subject: "), b""),
+        "Encrypted": (sealed_ppk(3, KEY, b"k"), b""),
+        "NotSupported": (ppk_text(3, KEY, b"k", name=b"ssh-dss"), b""),
+        "SshPublicKey": (ppk_text(3, KEY, b"k", public=[[b"ssh-dss"]]), b""),
+        "IoError": (ppk_text(3, KEY, b"k", private=[b"\0\0\0\5"]), b""),
+    }
+
+
+def of_texts_that_mean_no_key():
+    faults = [(f"input.private.{name}", *it) for name, it in private_faults().items()]
+    faults += [(f"input.public.{name}", it, b"") for name, it in public_faults().items()]
+    faults += [(f"input.putty.{name}", *it) for name, it in putty_faults().items()]
+    faults.append(("input.cert.Base64DecodeError", b"ssh-ed25519-cert-v01@openssh.com AAAA* k\n", b""))
+    for row in rows_of("picky_cert_rows", "CertFault"):
+        why = re.match(r"\w+", row["why"])[0]
+        faults.append((f"input.cert.{why}", f"ssh-ed25519-cert-v01@openssh.com {row['body']} k\n".encode(), b""))
+    for wanted, text, passphrase in faults:
+        yield from (convert(wanted, target, text, wanted, passphrase) for target in TARGETS)
+        if not passphrase:
+            yield fingerprint(wanted, text, wanted)
+            yield from (part(wanted, text, word, wanted) for word in PARTS)
+
+
+def of_passphrases():
+    """Which of the three byte strings behind the target is which, and that a passphrase of no bytes is none."""
+    ppk = ppk_text(3, KEY, b"k")
+    for name, text in (("envelope", sealed_envelope(KEY)), ("file of version 2", sealed_ppk(2, KEY, b"k")),
+                       ("file of version 3", sealed_ppk(3, KEY, b"k"))):
+        missing = "input.private.MissingPassphrase" if name == "envelope" else "input.putty.Encrypted"
+        yield convert(f"encrypted {name}", "openssh", text, "NoCipher", pass_in=b"p")
+        yield convert(f"encrypted {name}, the other passphrase", "openssh", text, missing, pass_out=b"p", fresh=bytes(99))
+    padding = -len(render(KEY.secret)) % 16
+    for target, count in (("openssh", 16), ("ppk2", padding), ("ppk3", 16 + padding)):
+        yield convert("a key, with fresh bytes", target, ENVELOPE, "NoCipher", pass_out=b"p", fresh=bytes(count))
+        yield convert("a key, a fresh byte less", target, ENVELOPE, "FreshTooShort", pass_out=b"p", fresh=bytes(count - 1))
+        wanted = ENVELOPE if target == "openssh" else ppk_text(int(target[3]), KEY, b"k")
+        yield convert("a key that isn't encrypted", target, ENVELOPE, wanted, pass_in=b"p", fresh=b"p")
+        yield convert("a file that isn't encrypted", target, ppk, wanted, pass_in=b"p", fresh=b"p")
+    for given in ({"pass_in": b"\xff"}, {"pass_out": b"\xff"}):
+        yield convert(f"a line under {given}", "ssh-pub", LINE, "PassNotUtf8", **given)
+    yield convert("a line with fresh bytes that aren't UTF-8", "ssh-pub", LINE, LINE[:-1] + b"\r\n", fresh=b"\xff")
+
+
+def of_the_order():
+    """Reasons that stand together: the first in the header's order is answered."""
+    for target in (0, 6, 256, 2**32 - 1):
+        yield convert("bytes that aren't UTF-8", target, b"\xff", "NoSuchTarget", b"\xff", b"\xff")
+    for number in (0, 4, 256, 2**32 - 1):
+        yield part("bytes that aren't UTF-8", b"\xff", number, "NoSuchPart")
+    yield convert("bytes and a passphrase that aren't UTF-8", "ppk3", b"\xff", "TextNotUtf8", b"\xff", b"\xff")
+    yield convert("no key, a passphrase that isn't UTF-8", "ppk3", b"", "PassNotUtf8", b"p", b"\xff")
+    yield convert("no key, to be encrypted", "ppk3", b"", "input.public.UnknownKeyType", b"p", b"p")
+    broken = putty_public(render(KEYS[ED25519].public), b"a\rb")
+    yield convert("a public key and a comment with CR", "ppk3", broken, "NoPrivateKey", b"", b"p")
+    yield convert("a comment with CR", "ssh-pub", broken, "CommentNotCarried")
+    token = next(key for kind, key in KEYS.items() if kind.startswith(b"sk-"))
+    text = envelope_text(envelope_nodes(token, b"a\nb"))
+    yield convert("a key of a device and a comment with LF", "ppk3", text, "output.putty.NotSupported", b"", b"p")
+    text = envelope_text(envelope_nodes(KEY, b"a\nb"))
+    yield convert("a comment with LF, to be encrypted", "ppk3", text, "CommentNotCarried", b"", b"p")
+    yield fingerprint("bytes that aren't UTF-8", b"ssh-ed25519 \xff\n", "TextNotUtf8")
+    yield part("bytes that aren't UTF-8", b"ssh-ed25519 \xff\n", "type", "TextNotUtf8")
+
+
+def of_long_keys():
+    """A block of PuTTY's file has 65,535 lines at most, which are 3,145,680 bytes."""
+    most, e, rest = 3_145_680, [b"\1\0\1"], [[b"\1"]] * 4
+    for size in (most, most + 1):
+        n = [b"\1" * (size - len(render([[RSA], e, []])))]
+        key = KEYS[RSA]._replace(public=[[RSA], e, n], private=[[RSA], n, e, *rest], secret=rest)
+        text = envelope_text(envelope_nodes(key, b"k"))
+        for version in (2, 3):
+            wanted = ppk_text(version, key, b"k") if size == most else "TooManyLines"
+            yield convert(f"a public blob of {size} bytes", f"ppk{version}", text, wanted)
+
+
+GROUPS = (of_other_programs, of_the_formats, of_keyconv, of_texts_that_mean_no_key, of_passphrases, of_the_order, of_long_keys)
