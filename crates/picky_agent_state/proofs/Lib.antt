@@ -4,3 +4,4 @@ pub mod AskedLemmas
 pub mod StepLemmas
 pub mod StepLaws
 pub mod FailureLaws
+pub mod SigningLaws

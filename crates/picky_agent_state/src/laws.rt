@@ -1,7 +1,10 @@
 //! The laws of the machine, each as the contract of a function that does nothing.
 
-ghost use Rattle.std.specs.Prelude.{ℕ, List};
+ghost use Rattle.std.specs.Prelude.{◌≡◌, ◌↔◌, ℕ, List, None, IsTrue};
+ghost use Rattle.picky_keys.specs.Key.{is_security_key_kind};
+ghost use Rattle.picky_keys.specs.declared.kind.KeyKind.{KeyKind as Kind};
 ghost use Rattle.picky_agent_state.specs.Kept.{Machine};
+ghost use Rattle.picky_agent_state.specs.Signing.{way_for};
 ghost use Rattle.picky_agent_state.specs.Step.{Step};
 ghost use Rattle.picky_agent_state.specs.Failure.{FailsForCause};
 
@@ -11,4 +14,10 @@ use picky_suite::Signer;
 pub fn failure_comes_for_a_cause<G: Signer>()
     ensures { (device : G) (old : Machine) (message reply : List ℕ) (new : Machine) → Step (G.signs device) old message reply new
         → FailsForCause (G.signs device) old message reply new }
+{}
+
+/// A security key has no way to sign, and each other kind of key has one, whatever the flags.
+#[tactic(auto, using(crate::proofs::SigningLaws::only_security_keys_sign_nothing))]
+pub fn only_security_keys_sign_nothing()
+    ensures { (kind : Kind) (flags : ℕ) → (way_for kind flags ≡ None) ↔ IsTrue (is_security_key_kind kind) }
 {}

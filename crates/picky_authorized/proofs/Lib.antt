@@ -4,6 +4,7 @@ pub mod LineLemmas
 pub mod OptionLaws
 pub mod OptionLemmas
 pub mod OptionsLaws
+pub mod OwnLaws
 pub mod QuoteLaws
 pub mod QuoteLemmas
 pub mod ValueLemmas

@@ -1,10 +1,15 @@
 //! The laws of this crate, each as the contract of a function that does nothing.
 
-ghost use Rattle.std.specs.Prelude.{◌≡◌, ◌↔◌, ℕ, Bool, List, Some};
+ghost use Rattle.std.specs.Prelude.{◌≡◌, ◌↔◌, ℕ, Bool, List, Contains, Some};
 ghost use Rattle.picky_wire_base.specs.Numbers.{IsBytes};
 ghost use Rattle.picky_wire_base.specs.Equality.{IsEquality};
+ghost use Rattle.picky_wire.specs.OfWire.{IsErrorOfBytes};
+ghost use Rattle.picky_keys.specs.FromWire.{public_key_error};
+ghost use Rattle.picky_keys.specs.declared.error.SshPublicKeyError.{SshPublicKeyError as Refusal};
 ghost use Rattle.picky_authorized.specs.declared.auth_option.AuthOption.{AuthOption as AnOption};
 ghost use Rattle.picky_authorized.specs.declared.entry.AuthContent.{AuthContent as Content};
+ghost use Rattle.picky_authorized.specs.declared.entry.AuthContent.TheVariants as contents;
+ghost use Rattle.picky_authorized.specs.declared.entry.AuthEntry.{AuthEntry as Entry};
 ghost use Rattle.picky_authorized.specs.Entries.{entries_in, AreFit};
 ghost use Rattle.picky_authorized.specs.Lines.{content_of, IsContentSaid};
 ghost use Rattle.picky_authorized.specs.Options.{options_in, AreOptions};
@@ -35,6 +40,13 @@ pub fn line_says_its_content()
 #[tactic(auto, using(crate::proofs::LineLemmas::fit_entries))]
 pub fn entries_fit()
     ensures { (text : List ℕ) → AreFit (entries_in text) }
+{}
+
+/// A key line that isn't read is refused for itself: for no fault of a source, and never for want of memory.
+pub fn lines_are_refused_for_themselves()
+    ensures line { (line : List ℕ) (e : Refusal) → content_of line ≡ contents.Unread e → IsErrorOfBytes public_key_error e }
+    ensures entry { (text : List ℕ) (entry : Entry) (e : Refusal) → Contains (entries_in text) entry
+        → entry.content ≡ contents.Unread e → IsErrorOfBytes public_key_error e }
 {}
 
 /// Two values are equal exactly where their contents are.
