@@ -72,6 +72,13 @@ _keyconv() {
     "") COMPREPLY=() ;;
     *=) compopt -o nospace 2>/dev/null ;;
   esac
+
+  # A list that is shown alone (type ?) goes into no line, so it has room for a word more.
+  if ((${COMP_TYPE:-0} == 63 && ${#words[@]} == 0)); then
+    for i in "${!COMPREPLY[@]}"; do
+      [[ ${COMPREPLY[i]} == ppk[23] ]] && COMPREPLY[i]+=" (Ed25519: | puttyppk)"
+    done
+  fi
   return 0
 }
 

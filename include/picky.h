@@ -5,7 +5,9 @@
  *     cc -IPREFIX/include program.c PREFIX/lib/libpicky.a
  *
  * A key text is UTF-8, in one of five forms, told by how it begins: an OpenSSH private key, a PuTTY private key file, a PuTTY
- * public key, a certificate's line or a public key line (docs/FORMATS.md, "Key text"). A call reads it and hands out bytes, in C11:
+ * public key, a certificate's line or a public key line (docs/FORMATS.md, "Key text"). It begins with its key: one with a byte
+ * order mark, an empty line or a line of a comment (#) in front is refused. What follows the first key is ignored, a second key
+ * too: give each line of a file of several by itself. A call reads a text and hands out bytes, in C11:
  *
  *     char out[64];
  *     picky_answer answer = picky_fingerprint((picky_bytes){line, strlen(line)}, out, sizeof out);
@@ -87,13 +89,14 @@ enum {
 /* The parts of a public key. */
 enum {
     PICKY_TYPE_NAME = 1, /* the name of its type, as "ssh-ed25519" */
-    PICKY_BLOB = 2,      /* its blob, as bytes (RFC 4253, section 6.6) */
+    PICKY_BLOB = 2,      /* its blob, as bytes (RFC 4253, section 6.6), in the one spelling that is written; those that were read
+                            may differ, as by bytes behind the last field */
     PICKY_COMMENT = 3    /* the comment beside it; it may be empty */
 };
 
 /*
  * The key and the comment that a text means, as the text of a target: the one text that spells them (of a public target: the
- * public part), which means them again when it is read.
+ * public part), which means them again when it is read. Of a certificate they are the subject's key, unverified, and the comment.
  *
  * The text is read under `pass_in` and written under `pass_out`, with the fresh bytes as salt and padding; a passphrase of no
  * bytes is none. What isn't encrypted is read whatever the passphrase. An encrypted text without a passphrase is refused
@@ -109,14 +112,16 @@ picky_answer picky_convert(picky_bytes text, uint32_t target, picky_bytes pass_i
                            void *out, size_t out_len);
 
 /*
- * The SHA-256 fingerprint of the key that a text means, as `ssh-keygen -l` prints it: "SHA256:" and 43 characters.
+ * The SHA-256 fingerprint of the key that a text means, as `ssh-keygen -l` prints it: "SHA256:" and 43 characters, of PICKY_BLOB.
+ * Of a certificate it is that of the subject's key: no signature is verified.
  *
  * Reasons, in order: PICKY_TEXT_NOT_UTF8; PICKY_INPUT_..; PICKY_BUFFER_TOO_SMALL.
  */
 picky_answer picky_fingerprint(picky_bytes text, void *out, size_t out_len);
 
 /*
- * A part of the public key that a text means; of a certificate, of its subject's.
+ * A part of the public key that a text means. Of a certificate that is the subject's key, and the comment: no signature is
+ * verified, and who issued it, for whom and for how long isn't shown. So who hands in a certificate may have made it.
  *
  * Reasons, in order: PICKY_NO_SUCH_PART; PICKY_TEXT_NOT_UTF8; PICKY_INPUT_..; PICKY_BUFFER_TOO_SMALL.
  */
@@ -130,7 +135,10 @@ picky_answer picky_read_public(picky_bytes text, uint32_t part, void *out, size_
  */
 picky_name picky_error_name(uint32_t error);
 
-/* Errors. */
+/*
+ * Errors. A number has none of the values that an error carries in the library for Rattle: of PICKY_PUTTY_INVALID_INPUT which
+ * line it is, what was expected there and what stood there; of others a name, a number or the error inside.
+ */
 enum {
     PICKY_OK = 0,
     PICKY_BUFFER_TOO_SMALL = 1,    /* `out` has no room for `len` bytes and a zero */
