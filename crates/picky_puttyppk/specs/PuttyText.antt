@@ -47,7 +47,7 @@ unfoldable pub text_for_putty : Meanings → (text : List ℕ) → Result (List 
 text_for_putty m text = and_then (map_err refusal_status (ppk_meaning m text)) (file_for_putty m)
 
 -- the text is the one that is written of the file that is made for PuTTY, and is read as this file, whatever follows: it has the
--- same key, or none for the same reason, the same comment, and PuTTY's layout
+-- same key, or none for the same reason, the same comment, the same version, and PuTTY's layout
 pub record IsForPutty (m : Meanings) (file : PpkFile) (text : List ℕ) : Type 0 where
   pub made : PpkFile
   pub is_made : for_putty m file ≡ Ok made
@@ -55,6 +55,7 @@ pub record IsForPutty (m : Meanings) (file : PpkFile) (text : List ℕ) : Type 0
   pub is_read_back : (more : List ℕ) → ppk_meaning m (text ++ more) ≡ Ok made
   pub key : base_key_of made ≡ base_key_of file
   pub comment : made.comment ≡ file.comment
+  pub version : version_of made.sealing ≡ version_of file.sealing
   pub layout : HasPuttySecret made
 
 -- it is so for the file of these bytes
