@@ -11,7 +11,8 @@ use Rattle.picky_agent_state.specs.Signing.{is_set, way_for, with_format}
 
 -- RSA signs by each hash that the flags may ask for
 rsa_signs_by : (second third : Bool)
-    → with_format kinds.Rsa (algorithms.RsaPkcs1v15 (if second then hashes.SHA2_256 else if third then hashes.SHA2_512 else hashes.SHA1))
+    → with_format kinds.Rsa
+    (algorithms.RsaPkcs1v15 (if second then hashes.SHA2_256 else if third then hashes.SHA2_512 else hashes.SHA1))
     ≡ None → IsTrue false
 rsa_signs_by true third none = cc none
 rsa_signs_by false true none = cc none

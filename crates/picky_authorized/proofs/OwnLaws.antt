@@ -1,6 +1,6 @@
 -- A key line that isn't read is refused for itself: for no fault of a source, and never for want of memory.
-use Rattle.std.proofs.Common.{◌≡◌, ◌+◌, ◌==◌, ℕ, zero, suc, ◌<◌, List, [], ◌∷◌, length, Contains, Option, Some, None, Result, Ok, Err}
-use Rattle.std.proofs.Common.{arith, inl, inr, subst}
+use Rattle.std.proofs.Common.{◌≡◌, ◌+◌, ◌==◌, ℕ, zero, suc, ◌<◌, List, [], ◌∷◌, length, Contains}
+use Rattle.std.proofs.Common.{Option, Some, None, Result, Ok, Err, arith, inl, inr, subst}
 use Rattle.std.proofs.lemmas.Bool.{cases_Bool}
 use Rattle.std.specs.List.{AllByRecursion}
 use Rattle.picky_text.specs.Lines.{lines}
@@ -51,7 +51,8 @@ content_is_own line = elim (cases_Bool (begins_with_key line)) [
 abbrev AreOwn : List AuthEntry → Type 0
 AreOwn entries = AllByRecursion (λ entry. IsOwnContent entry.content) entries
 
-onto_is_own : (n : ℕ) (line : List ℕ) (entries : List AuthEntry) → AreOwn entries → AreOwn (onto_entries n (content_in line) entries)
+onto_is_own : (n : ℕ) (line : List ℕ) (entries : List AuthEntry) → AreOwn entries
+    → AreOwn (onto_entries n (content_in line) entries)
 onto_is_own n [] entries own = own
 onto_is_own n (b ∷ bs) entries own = elim (cases_Bool (b == 35)) [
   | inl comment ↦ rw comment own
