@@ -11,6 +11,7 @@ mod FollowLemmas
 mod LedgerTextLemmas
 mod WrittenLemmas
 pub mod LedgerTextLaws
+pub mod BadLineLaws
 pub mod AfterLaws
 pub mod RequestLemmas
 pub mod RunLemmas

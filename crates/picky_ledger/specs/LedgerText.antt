@@ -1,5 +1,6 @@
 -- The text of a ledger: the next serial, and a line for each entry.
-use Rattle.std.specs.Prelude.{◌==◌, ◌+◌, ◌++◌, ◌∷◌, ◌&&◌, ℕ, Bool, List, [], codes, flat_map, nat_lt, not}
+use Rattle.std.specs.Prelude.{◌≡◌, ◌<◌, ◌^◌, ◌-◌, ◌==◌, ◌+◌, ◌++◌, ◌∷◌, ◌&&◌, ℕ, Bool, List, []}
+use Rattle.std.specs.Prelude.{codes, flat_map, length, nat_lt, not}
 use Rattle.std.specs.Prelude.{Option, Some, None, Result, Ok, Err, if◌then◌else◌, bytes_eq, drop, take}
 use Rattle.std.specs.Fmt.{decimal}
 use Rattle.std.specs.List.{list_any}
@@ -15,7 +16,7 @@ use Rattle.picky_ledger.specs.declared.entry.Entry.{Entry}
 use Rattle.picky_ledger.specs.declared.ledger.LedgerTextError.{LedgerTextError}
 use Rattle.picky_ledger.specs.declared.ledger.LedgerTextError.TheVariants as errors
 use Rattle.picky_ledger.specs.Entry.{entry_in, entry_line}
-use Rattle.picky_ledger.specs.State.{State}
+use Rattle.picky_ledger.specs.State.{IsLedger, State}
 
 -- ---- writing
 
@@ -93,3 +94,24 @@ ledger_in text = of_lines (lines_with_ends text)
 -- the same, where a length of the wire can say the text's length
 abbrev pub read : (text : List ℕ) → Result State LedgerTextError
 read text = if is_short text then map_err errors.BadLine (ledger_in text) else Err errors.TooLong
+
+-- ---- the first bad line
+
+-- the text is a ledger's, and a length of the wire can say its length
+pub record IsLedgerText (text : List ℕ) : Type 0 where
+  pub ledger : State
+  pub is : IsLedger ledger
+  pub short : length (ledger_text ledger) < 2 ^ 32
+  pub whole : text ≡ ledger_text ledger
+
+-- some ledger's text has the same first lines, so many of them, or all where there are fewer; each with the LF that ends it
+pub record BeginsAsLedger (count : ℕ) (text : List ℕ) : Type 0 where
+  pub whole : List ℕ
+  pub is_text : IsLedgerText whole
+  pub same : take count (lines_with_ends whole) ≡ take count (lines_with_ends text)
+
+-- some ledger's text has the lines before this one, and none has this one behind them; lines count from 1
+pub record IsFirstBadLine (number : ℕ) (text : List ℕ) : Type 0 where
+  pub some : 0 < number
+  pub before : BeginsAsLedger (number - 1) text
+  pub none : BeginsAsLedger number text → ⊥

@@ -6,7 +6,7 @@ ghost use Rattle.picky_keys.specs.declared.key.SshBasePublicKey.{SshBasePublicKe
 ghost use Rattle.picky_wire_base.specs.Equality.{IsEquality};
 ghost use Rattle.picky_input.specs.Input.{input_limit};
 ghost use Rattle.picky_ledger.specs.Apply.{judged_request_line, IssuerTerms};
-ghost use Rattle.picky_ledger.specs.LedgerText.{ledger_in, ledger_text};
+ghost use Rattle.picky_ledger.specs.LedgerText.{ledger_in, ledger_text, IsFirstBadLine};
 ghost use Rattle.picky_ledger.specs.Run.{asked};
 ghost use Rattle.picky_ledger.specs.Runs.{IsAfter, Runs};
 ghost use Rattle.picky_ledger.specs.State.{IsLedger, State};
@@ -26,6 +26,12 @@ pub fn text_is_read_back()
     ensures back { (l : State) → IsLedger l → length (ledger_text l) < 2 ^ 32 → ledger_in (ledger_text l) ≡ Ok l }
     ensures only { (text : List ℕ) (l : State) → IsUtf8 text → length text < 2 ^ 32 → ledger_in text ≡ Ok l
         → IsLedger l × (text ≡ ledger_text l) }
+{}
+
+/// A text that is no ledger's is refused by the number of its first bad line: a ledger's text has the lines before it, and none
+/// has this one behind them.
+pub fn text_is_refused_at_its_first_bad_line()
+    ensures { (text : List ℕ) (n : ℕ) → IsUtf8 text → length text < 2 ^ 32 → (ledger_in text ≡ Err n) ↔ IsFirstBadLine n text }
 {}
 
 /// What requests leave: the entries that a ledger had stay in front, each behind them is the certificate of a request, signed by
