@@ -30,7 +30,7 @@ decimal_has_no_lf n below =
 abbrev pub next_front : ℕ → List ℕ
 next_front next = next_word ++ decimal next
 
-next_has_no_lf : (next : ℕ) → next < 2 ^ 64 → HasNo 10 (next_front next)
+pub next_has_no_lf : (next : ℕ) → next < 2 ^ 64 → HasNo 10 (next_front next)
 unfolding next_word
 next_has_no_lf next below =
     let other : (b : ℕ) → 20 < b → b ≢ 10 = λ b above same. omega (arith, above, same) in
@@ -84,7 +84,7 @@ entry_is_said next before more e is short up differ =
     ap (λ o. some_then o (if_follows next before)) (entry_is_read e is short)
     ∙ ap (λ (b : Bool). if b then Some e else None) (follows_amid next before more e up differ)
 
-line_then : (e : Entry) (more : List ℕ) → entry_line e ++ more ≡ entry_front e ++ 10 ∷ more
+pub line_then : (e : Entry) (more : List ℕ) → entry_line e ++ more ≡ entry_front e ++ 10 ∷ more
 unfolding entry_line
 line_then e more = append_assoc (entry_front e) (10 ∷ []) more
 
@@ -106,7 +106,7 @@ entries_are_read next number before (e ∷ es) each up differ short =
     ∙ entry_goes_on next number before (entry_front e) more e (entry_has_no_lf e each.0 front_short) says
     ∙ rest ∙ ap Ok one_more
 
-text_then : (l : State) → ledger_text l ≡ next_front l.next ++ 10 ∷ flat_map entry_line l.entries
+pub text_then : (l : State) → ledger_text l ≡ next_front l.next ++ 10 ∷ flat_map entry_line l.entries
 unfolding ledger_text
 text_then l = simp append_assoc
 

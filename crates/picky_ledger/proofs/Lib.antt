@@ -12,6 +12,7 @@ mod LedgerTextLemmas
 mod WrittenLemmas
 pub mod LedgerTextLaws
 pub mod BadLineLaws
+pub mod OutputLaws
 pub mod AfterLaws
 pub mod RequestLemmas
 pub mod RunLemmas

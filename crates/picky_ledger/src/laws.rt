@@ -1,13 +1,15 @@
 //! The laws of this crate, each as the contract of a function that does nothing.
 
-ghost use Rattle.std.specs.Prelude.{◌≡◌, ◌<◌, ◌≤◌, ◌^◌, ◌++◌, ◌∷◌, ◌↔◌, ℕ, List, length, Ok, Err};
+ghost use Rattle.std.specs.Prelude.{◌≡◌, ◌<◌, ◌≤◌, ◌^◌, ◌++◌, ◌∷◌, ◌↔◌, ℕ, List, length, Ok, Err, Some};
 ghost use Rattle.std.specs.Str.{IsUtf8};
 ghost use Rattle.picky_keys.specs.declared.key.SshBasePublicKey.{SshBasePublicKey as IssuerKey};
 ghost use Rattle.picky_wire_base.specs.Equality.{IsEquality};
+ghost use Rattle.picky_issuing.specs.Parts.{cut};
 ghost use Rattle.picky_input.specs.Input.{input_limit};
 ghost use Rattle.picky_ledger.specs.Apply.{judged_request_line, IssuerTerms};
 ghost use Rattle.picky_ledger.specs.LedgerText.{ledger_in, ledger_text, IsFirstBadLine};
-ghost use Rattle.picky_ledger.specs.Run.{asked};
+ghost use Rattle.picky_ledger.specs.Replies.{replies_text};
+ghost use Rattle.picky_ledger.specs.Run.{asked, IsAnswerTo};
 ghost use Rattle.picky_ledger.specs.Runs.{IsAfter, Runs};
 ghost use Rattle.picky_ledger.specs.State.{IsLedger, State};
 ghost use Rattle.picky_ledger.specs.declared.entry.Entry.{Entry as AnEntry};
@@ -32,6 +34,12 @@ pub fn text_is_read_back()
 /// has this one behind them.
 pub fn text_is_refused_at_its_first_bad_line()
     ensures { (text : List ℕ) (n : ℕ) → IsUtf8 text → length text < 2 ^ 32 → (ledger_in text ≡ Err n) ↔ IsFirstBadLine n text }
+{}
+
+/// What a run writes is, cut at its first line `%%`, the new ledger's text and the replies.
+pub fn output_is_cut_at_its_first_mark<G: Signer>(_signer: &G)
+    ensures { (fresh input text : List ℕ) (answer : IsAnswerTo (G.signs _signer.now) fresh input text)
+        → cut text ≡ Some (ledger_text answer.new, replies_text answer.given.requests answer.replies) }
 {}
 
 /// What requests leave: the entries that a ledger had stay in front, each behind them is the certificate of a request, signed by
