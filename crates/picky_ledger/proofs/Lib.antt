@@ -16,4 +16,5 @@ pub mod OutputLaws
 pub mod AfterLaws
 pub mod RequestLemmas
 pub mod RunLemmas
+pub mod OwnLaws
 mod EqualityLemmas

@@ -13,7 +13,9 @@ use Rattle.picky_input.specs.declared.source_text.SourceError.TheVariants as sou
 use Rattle.picky_input.proofs.TextLaws.{is_source_text, no_text_exactly, some_input, text_err, too_long_exactly}
 use Rattle.picky_wire.specs.Count.{Rose}
 use Rattle.picky_wire_base.specs.declared.error.SizeError.TheVariants as sizes
-use Rattle.picky_keys.specs.LineRefusal.{is_short, line_meaning}
+use Rattle.picky_wire.specs.OfWire.{IsErrorOfBytes}
+use Rattle.picky_keys.specs.{FromWire.{public_key_error}, LineRefusal.{is_short, line_meaning}}
+use Rattle.picky_keys.specs.carried.SourceLine.{line_own}
 use Rattle.picky_suite.specs.Signs.{SignRelation}
 use Rattle.picky_issuing.specs.{Parts.{cut, mark_lf}, Steps.{some_then}}
 use Rattle.picky_issuing.proofs.PartsLaws.{cut_both_ways}
@@ -30,12 +32,12 @@ use Rattle.picky_ledger.proofs.AfterLaws.{runs_leave}
 -- ---- bytes that ask for nothing
 
 -- the status says why these do
-abbrev IsReason : (input : List ℕ) → LedgerStatus → Type 0
+abbrev pub IsReason : (input : List ℕ) → LedgerStatus → Type 0
 IsReason input statuses.InputTooLong = input_limit < length input
 IsReason input statuses.InputNotUtf8 = (length input ≤ input_limit) × (IsUtf8 input → ⊥)
 IsReason input statuses.BadInput = Unit {0}
 IsReason input (statuses.BadLedger line) = Unit {0}
-IsReason input (statuses.BadIssuer e) = Unit {0}
+IsReason input (statuses.BadIssuer e) = IsErrorOfBytes public_key_error e
 IsReason input statuses.FreshTooShort = Unit {0}
 IsReason input status = ⊥
 
@@ -88,7 +90,7 @@ unfit_text input fresh text short =
     some_then_fails (IsReason input) (parts_in text) statuses.BadInput (of_parts fresh) tt (λ p parts.
     named_then (IsReason input) text_status (read p.ledger) _
     (bad_read input p.ledger (omega (arith, short, ledger_within text p parts))) (λ l ledger.
-    named_then (IsReason input) statuses.BadIssuer (line_meaning p.issuer) _ (λ e bad. tt) (λ issuer key.
+    named_then (IsReason input) statuses.BadIssuer (line_meaning p.issuer) _ (line_own p.issuer) (λ issuer key.
     test_fails (IsReason input) _ statuses.FreshTooShort _ tt)))
 
 -- ---- what a source asks for
@@ -115,7 +117,7 @@ asks_none fresh input =
     unfit_text input fresh text (subst (λ t. length t ≤ input_limit) (sym is.1) is.0.short))
 
 -- so that is why, wherever they do
-reason_is : (fresh input : List ℕ) (status : LedgerStatus) → asked fresh input ≡ Err status → IsReason input status
+pub reason_is : (fresh input : List ℕ) (status : LedgerStatus) → asked fresh input ≡ Err status → IsReason input status
 reason_is fresh input status failed = IfErr-at_err (IsReason input) failed (asks_none fresh input)
 
 pub refused_as_too_long : (fresh input : List ℕ) → (asked fresh input ≡ Err statuses.InputTooLong) ↔ (input_limit < length input)

@@ -1,9 +1,14 @@
 //! The laws of this crate, each as the contract of a function that does nothing.
 
-ghost use Rattle.std.specs.Prelude.{◌≡◌, ◌<◌, ◌≤◌, ◌^◌, ◌++◌, ◌∷◌, ◌↔◌, ℕ, List, length, Ok, Err, Some};
+ghost use Rattle.std.specs.Prelude.{◌≡◌, ◌≢◌, ◌<◌, ◌≤◌, ◌^◌, ◌++◌, ◌∷◌, ◌↔◌, ℕ, List, length, Ok, Err, Some};
 ghost use Rattle.std.specs.Str.{IsUtf8};
 ghost use Rattle.picky_keys.specs.declared.key.SshBasePublicKey.{SshBasePublicKey as IssuerKey};
+ghost use Rattle.picky_keys.specs.declared.error.SshPublicKeyError.{SshPublicKeyError as KeyRefusal};
+ghost use Rattle.picky_keys.specs.FromWire.{public_key_error};
+ghost use Rattle.picky_wire.specs.OfWire.{IsErrorOfBytes};
 ghost use Rattle.picky_wire_base.specs.Equality.{IsEquality};
+ghost use Rattle.picky_cert_builder.specs.declared.error.SshCertificateGenerationError.{SshCertificateGenerationError as Refusal};
+ghost use Rattle.picky_cert_builder.specs.declared.error.SshCertificateGenerationError.TheVariants as refusals;
 ghost use Rattle.picky_issuing.specs.Parts.{cut};
 ghost use Rattle.picky_input.specs.Input.{input_limit};
 ghost use Rattle.picky_ledger.specs.Apply.{judged_request_line, IssuerTerms};
@@ -15,6 +20,7 @@ ghost use Rattle.picky_ledger.specs.State.{IsLedger, State};
 ghost use Rattle.picky_ledger.specs.declared.entry.Entry.{Entry as AnEntry};
 ghost use Rattle.picky_ledger.specs.declared.reply.Reply.{Reply as AReply};
 ghost use Rattle.picky_ledger.specs.declared.reply.Reply.TheVariants as replies;
+ghost use Rattle.picky_ledger.specs.declared.status.LedgerStatus.{LedgerStatus as Status};
 
 use crate::apply::LedgerError;
 use crate::entry::Entry;
@@ -60,6 +66,16 @@ pub fn bytes_are_refused_for_what_they_are()
     ensures too_long { (fresh input : List ℕ) → (asked fresh input ≡ Err LedgerStatus.InputTooLong) ↔ (input_limit < length input) }
     ensures not_utf8 { (fresh input : List ℕ) → (asked fresh input ≡ Err LedgerStatus.InputNotUtf8)
         ↔ ((length input ≤ input_limit) × (IsUtf8 input → ⊥)) }
+{}
+
+/// No bytes, no issuer's line and no request are refused for a fault of a source or a device, or for want of memory.
+pub fn bytes_are_refused_for_themselves()
+    ensures source { (fresh input : List ℕ) (status : Status) → asked fresh input ≡ Err status
+        → (status ≢ LedgerStatus.ReadFault) × (status ≢ LedgerStatus.OutsideFault) × (status ≢ LedgerStatus.NoMemory) }
+    ensures issuer { (fresh input : List ℕ) (e : KeyRefusal) → asked fresh input ≡ Err (LedgerStatus.BadIssuer e)
+        → IsErrorOfBytes public_key_error e }
+    ensures request { (t : IssuerTerms) (l : State) (line : List ℕ) (e : Refusal)
+        → judged_request_line t l line ≡ Err (replies.Refused e) → (e ≢ refusals.NoMemory) × (e ≢ refusals.SignatureError) }
 {}
 
 /// Two values are equal exactly where their contents are.
