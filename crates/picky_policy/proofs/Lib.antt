@@ -4,6 +4,7 @@ pub mod EndLemmas
 pub mod KeyLemmas
 pub mod OfferLaws
 pub mod OfferLemmas
+pub mod OfferOwnLaws
 pub mod RuleLaws
 pub mod RuleLemmas
 pub mod RunLemmas

@@ -7,13 +7,20 @@ ghost use Rattle.picky_wire_base.specs.Equality.{IsEquality};
 ghost use Rattle.picky_wire.specs.declared.timestamp.Timestamp.{Timestamp as Moment};
 ghost use Rattle.picky_input.specs.Input.{input_limit};
 ghost use Rattle.picky_input.specs.SourceText.{IsSourceText};
+ghost use Rattle.picky_wire.specs.OfWire.{IsErrorOfBytes};
+ghost use Rattle.picky_keys.specs.FromWire.{public_key_error};
+ghost use Rattle.picky_keys.specs.declared.error.SshPublicKeyError.{SshPublicKeyError as KeyRefusal};
 ghost use Rattle.picky_keys.specs.declared.key.SshBasePublicKey.{SshBasePublicKey as BaseKey};
 ghost use Rattle.picky_authorized.specs.declared.auth_option.AuthOption.{AuthOption as AnOption};
 ghost use Rattle.picky_authorized.specs.declared.entry.AuthEntry.{AuthEntry as Entry};
 ghost use Rattle.picky_cert.specs.Certificate.{said};
+ghost use Rattle.picky_cert.specs.Want.{IsReadFault};
+ghost use Rattle.picky_cert_parts.specs.declared.error.SshCertificateError.{SshCertificateError as CertificateRefusal};
 ghost use Rattle.picky_cert.specs.declared.certificate.SshCertificate.{SshCertificate as Certificate};
 ghost use Rattle.picky_cert_parts.specs.declared.critical_option.SshCriticalOption.{SshCriticalOption as Critical};
+ghost use Rattle.picky_key_text.specs.Want.{IsFault, WantsMemory};
 ghost use Rattle.picky_key_text.specs.declared.error.ReadError.{ReadError};
+ghost use Rattle.picky_key_text.specs.declared.error.ReadError.TheVariants as reads;
 ghost use Rattle.picky_policy.specs.Command.{Asked, Names};
 ghost use Rattle.picky_policy.specs.Decided.{line_for, IsLineFor, Line};
 ghost use Rattle.picky_policy.specs.Demands.{demands_in, AreDemands, Demands};
@@ -30,6 +37,14 @@ use crate::status::PolicyStatus;
 /// A text is read as an offer exactly where it is one; so it is one.
 pub fn text_is_one_offer()
     ensures { (text : List ℕ) (offer : AnOffer) → IsBytes text → (offer_in text ≡ Ok offer) ↔ IsOffer text offer }
+{}
+
+/// An offer is refused for itself: at no depth for a fault of a source or a suite, and never for want of memory.
+pub fn offers_are_refused_for_themselves()
+    ensures device { (text : List ℕ) (e : ReadError) → offer_in text ≡ Err e → (WantsMemory e → ⊥) × (IsFault e → ⊥) }
+    ensures key { (text : List ℕ) (e : KeyRefusal) → offer_in text ≡ Err (reads.Public e) → IsErrorOfBytes public_key_error e }
+    ensures certificate { (text : List ℕ) (e : CertificateRefusal) → offer_in text ≡ Err (reads.Certificate e)
+        → IsReadFault e → ⊥ }
 {}
 
 /// The message that is verified binds all that the certificate says: of two certificates that are offered, the message of one is
