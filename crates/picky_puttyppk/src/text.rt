@@ -45,6 +45,7 @@ pub fn text_for_putty<S: Suite>(
 }
 
 /// The text of the file for PuTTY. Refuses as above.
+#[tactic(auto, using(crate::proofs::VersionLemmas::version_stays))]
 fn file_for_putty<S: Suite>(alloc: Global, suite: &S, ppk: &Ppk) -> Result<Text, PuttyPpkStatus>
     ensures gives { Gives PuttyPpkStatus.NoMemory (λ made. made) result (file_for_putty_of (S.meanings suite.now) ppk.now) }
     ensures means { IfOk result (λ made. IsForPutty (S.meanings suite.now) ppk.now made) }
