@@ -19,9 +19,8 @@ returns-in-Ok-clause-suite g c =
     let o = outside (g.S.Suite.meanings c.args.suite.now) c.args.given in
     let part = c.parts_of-parts.ensures.issuer in
     let key = c.parts_of-parts.ensures.key in
-    let asked = c.of_options.ensures in
     then_leaves _ _ o c.args.input.now c.in-Ok.issuer c.convert_owned.result _ _ _ (rw part at c.in-Ok.ensures.gives)
-    (rw part at c.in-Ok.ensures.suite) (rw (key, asked) at c.convert_owned.ensures.suite)
+    (rw part at c.in-Ok.ensures.suite) (rw key at c.convert_owned.ensures.suite)
 
 pub returns-in-Ok-clause-signer : goal.returns-in-Ok-clause-signer
 returns-in-Ok-clause-signer g c =

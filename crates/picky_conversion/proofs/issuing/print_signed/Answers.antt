@@ -20,9 +20,8 @@ returns-in-Ok-clause-suite g c =
     let o = outside (g.S.Suite.meanings c.args.suite.now) c.args.given in
     let part = c.parts_of-parts.ensures.issuer in
     let key = c.parts_of-parts.ensures.key in
-    let asked = c.of_options-request.ensures in
     then_leaves _ _ o c.args.input.now c.in-Ok.issuer c.print_request.result _ _ _ (rw part at c.in-Ok.ensures.gives)
-    (rw part at c.in-Ok.ensures.suite) (rw (key, asked) at c.print_request.ensures.suite)
+    (rw part at c.in-Ok.ensures.suite) (rw key at c.print_request.ensures.suite)
 
 pub returns-in-Err-clause-gives : goal.returns-in-Err-clause-gives
 returns-in-Err-clause-gives g c =
