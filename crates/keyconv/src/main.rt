@@ -7,13 +7,14 @@ use picky_suite::{HandedSigner, PlainSuite};
 use picky_wire::{Bytes, StdSink, StdSource, Text};
 use std::process::ExitCode;
 
-const HELP: &str = "usage: keyconv COMMAND [OPTION VALUE]... < KEY
-       keyconv sample N
+const HELP: &str = "usage: keyconv COMMAND [OPTION VALUE]... < KEY, or keyconv sample N
+
+An Ed25519 key for PuTTY: keyconv ppk3 < key | puttyppk > key.ppk. Without
+puttyppk PuTTY takes about every second such file, silently, for another secret.
 
 Reads a key or a certificate of OpenSSH or PuTTY from standard input. Writes:
-
   openssh      the private key and its comment as OpenSSH has them
-  ppk2, ppk3   the same as PuTTY has them; for Ed25519 keys see puttyppk(1)
+  ppk2, ppk3   the same as PuTTY has them
   ssh-pub      the public key as a line, and putty-pub as PuTTY has it
   fingerprint  the MD5, SHA-1 and SHA-256 fingerprints, a line each
   cert         a certificate, with a signature that another device made
