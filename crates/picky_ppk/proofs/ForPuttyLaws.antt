@@ -21,7 +21,7 @@ use Rattle.picky_ppk_parts.specs.Secret.{ppk_ed_secret, ppk_ed_fields, ppk_secre
 use Rattle.picky_ppk_parts.specs.Parts.{StandsForKey}
 use Rattle.picky_ppk_parts.proofs.PartsLaws.{parts_stand_for_one}
 use Rattle.picky_ppk_file.specs.declared.file.PpkFile.{PpkFile}
-use Rattle.picky_ppk_file.specs.File.{is_sealed}
+use Rattle.picky_ppk_file.specs.File.{is_sealed, version_of}
 use Rattle.picky_ppk.specs.Mac.{own_mac, with_own_mac, CarriesMac}
 use Rattle.picky_ppk.specs.KeyOf.{base_key_of}
 use Rattle.picky_ppk.specs.ForPutty.{HasPuttySecret, is_ed25519, with_putty_secret, putty_fields}
@@ -153,6 +153,7 @@ key_under_mac f mac unsealed = rw unsealed refl
 pub record IsForPutty (m : Meanings) (f file : PpkFile) : Type 0 where
   pub key : base_key_of file ≡ base_key_of f
   pub comment : file.comment ≡ f.comment
+  pub version : version_of file.sealing ≡ version_of f.sealing
   pub layout : HasPuttySecret file
   pub same : HasPuttySecret f → CarriesMac m f → file ≡ f
 
@@ -163,6 +164,7 @@ made_of_fields m f fields unsealed are =
     record {
       key = key_under_mac fields (own_mac m fields) unsealed_too ∙ are.key;
       comment = are.comment;
+      version = ap version_of are.sealing;
       layout = are.layout;
       same = λ has carries.
           ap (with_own_mac m) (are.same has) ∙ ap (λ mac. record f { mac = mac }) (sym carries.1);

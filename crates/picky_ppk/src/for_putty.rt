@@ -4,6 +4,7 @@ ghost use Rattle.std.specs.Prelude.{◌≡◌, ◌<◌, ◌^◌, ◌+◌, ◌++�
 ghost use Rattle.picky_keys.specs.LineRefusal.{is_short};
 ghost use Rattle.picky_wire_base.specs.Gives.{Gives};
 ghost use Rattle.picky_wire_base.specs.Wire.{string_of};
+ghost use Rattle.picky_ppk_file.specs.File.{version_of};
 ghost use Rattle.picky_ppk.specs.Mac.{CarriesMac};
 ghost use Rattle.picky_ppk.specs.KeyOf.{base_key_of};
 ghost use Rattle.picky_ppk.specs.ForPutty.{HasPuttySecret, for_putty as for_putty_of, is_ed25519 as is_ed25519_of};
@@ -30,9 +31,10 @@ impl Ppk {
         ensures gives { Gives PuttyError.NoMemory (λ ppk. ppk) result (for_putty_of (S.meanings suite.now) self.now) }
         ensures mac { IfOk result (λ ppk. CarriesMac (S.meanings suite.now) ppk) }
 
-        // It is read as the same key, or refused for the same reason, and its comment is the same.
+        // It is read as the same key, or refused for the same reason, and its comment and version are the same.
         ensures key { IfOk result (λ ppk. base_key_of ppk ≡ base_key_of self.now) }
         ensures comment { IfOk result (λ ppk. ppk.comment ≡ self.now.comment) }
+        ensures version { IfOk result (λ ppk. version_of ppk.sealing ≡ version_of self.now.sealing) }
 
         // A file that has PuTTY's layout and its own MAC, as each of RSA and ECDSA has, is the result itself.
         ensures layout { IfOk result (λ ppk. HasPuttySecret ppk) }

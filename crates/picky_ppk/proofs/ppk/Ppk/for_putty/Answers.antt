@@ -19,6 +19,13 @@ returns-in-Ok-clause-comment g c =
     IfOk-weaker c.remade.result (IsForPutty m c.args.self.now) _ (λ file is. is.comment)
     (remade_is m c.args.self.now c.in-Ok.file c.remade.result unsealed c.in-Ok.ensures.gives c.remade.ensures.gives)
 
+pub returns-in-Ok-clause-version : goal.returns-in-Ok-clause-version
+returns-in-Ok-clause-version g c =
+    let m = g.S.Suite.meanings c.args.suite.now in
+    let unsealed : is_sealed c.args.self.now.sealing ≡ false = cc (c.is_encrypted.ensures, c.if-is_encrypted.false) in
+    IfOk-weaker c.remade.result (IsForPutty m c.args.self.now) _ (λ file is. is.version)
+    (remade_is m c.args.self.now c.in-Ok.file c.remade.result unsealed c.in-Ok.ensures.gives c.remade.ensures.gives)
+
 pub returns-in-Ok-clause-layout : goal.returns-in-Ok-clause-layout
 returns-in-Ok-clause-layout g c =
     let m = g.S.Suite.meanings c.args.suite.now in
