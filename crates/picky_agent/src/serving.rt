@@ -5,6 +5,7 @@ ghost use Rattle.picky_keys.specs.declared.public_key.PublicKey.{PublicKey};
 ghost use Rattle.picky_keys.specs.declared.algorithm.SignatureAlgorithm.{SignatureAlgorithm as Algorithm};
 ghost use Rattle.picky_wire_base.specs.Wire.{string_of};
 ghost use Rattle.picky_wire.specs.Puts.{Puts};
+ghost use Rattle.picky_suite.specs.Asked.{IsAskedAtMost};
 ghost use Rattle.picky_agent.specs.Ending.{Ending, EndsAs, HasNoSign, Tells};
 ghost use Rattle.picky_agent.specs.Served.{Served, Serves, scene};
 ghost use Rattle.picky_agent.specs.inner.Turn.{frame_status as frame_status_of, taken_in};
@@ -69,6 +70,7 @@ fn serve_one<G: Signer, I: Source, O: Sink>(
     ensures signs { (k : PublicKey) (a : Algorithm) (m s : List ℕ) → G.signs signer.new k a m s ↔ G.signs signer.old k a m s }
     ensures source_tells { I.tells source.old → I.tells source.new }
     ensures out_tells { O.tells out.old → O.tells out.new }
+    ensures asked { IsAskedAtMost 1 G.calls signer.old signer.new }
 {
     match take_message(alloc, source) {
         Ok(Some(message)) => match agent.answer(signer, message.as_slice()) {

@@ -85,6 +85,7 @@ impl Agent {
         ensures signs { (k : PublicKey) (a : Algorithm) (m s : List ℕ) → G.signs signer.new k a m s ↔ G.signs signer.old k a m s }
         ensures never_falls { G.faults signer.old ≤ G.faults signer.new }
         ensures unasked { (AsksSigner self.old (request_of message.now) → ⊥) → signer.new ≡ signer.old }
+        ensures asked { IsAskedAtMost 1 G.calls signer.old signer.new }
     {
         match read_request(message) {
             Asked::Identities => self.list(),
@@ -123,6 +124,7 @@ impl Agent {
         ensures signs { (k : PublicKey) (a : Algorithm) (m s : List ℕ) → G.signs signer.new k a m s ↔ G.signs signer.old k a m s }
         ensures never_falls { G.faults signer.old ≤ G.faults signer.new }
         ensures unasked { (CanSign self.now (sign_request (key_seen key.now) message.now flags) → ⊥) → signer.new ≡ signer.old }
+        ensures asked { IsAskedAtMost 1 G.calls signer.old signer.new }
     {
         if self.is_locked() {
             return failure(self.alloc);

@@ -4,6 +4,7 @@ ghost use Rattle.std.specs.Prelude.{◌≡◌, ◌≤◌, ◌↔◌, ℕ, List, 
 ghost use Rattle.picky_keys.specs.declared.public_key.PublicKey.{PublicKey};
 ghost use Rattle.picky_keys.specs.declared.algorithm.SignatureAlgorithm.{SignatureAlgorithm as Algorithm};
 ghost use Rattle.picky_keys.specs.Key.{kind_of};
+ghost use Rattle.picky_suite.specs.Asked.{IsAskedAtMost};
 ghost use Rattle.picky_sshkey_blob.specs.Key.{public_part};
 ghost use Rattle.picky_agent_state.specs.Kept.{Kept, machine};
 ghost use Rattle.picky_agent_state.specs.Signing.{algorithm_for as algorithm_of, is_set as is_set_in};
@@ -75,6 +76,7 @@ pub(crate) fn sign_with<G: Signer>(
     ensures unasked { way_of (kind_of (public_part key.now)) flags ≡ None → signer.new ≡ signer.old }
     ensures signs { (k : PublicKey) (a : Algorithm) (m s : List ℕ) → G.signs signer.new k a m s ↔ G.signs signer.old k a m s }
     ensures never_falls { G.faults signer.old ≤ G.faults signer.new }
+    ensures asked { IsAskedAtMost 1 G.calls signer.old signer.new }
 {
     match way_for(key.kind(), flags) {
         Some((algorithm, format)) => ask(alloc, signer, key, algorithm, format, message),
@@ -95,6 +97,7 @@ fn ask<G: Signer>(
         (sign_request (public_part key.now) message.now flags) (Some (algorithm, format)) reply (machine kept (G.faults signer.new))) }
     ensures signs { (k : PublicKey) (a : Algorithm) (m s : List ℕ) → G.signs signer.new k a m s ↔ G.signs signer.old k a m s }
     ensures never_falls { G.faults signer.old ≤ G.faults signer.new }
+    ensures asked { IsAskedAtMost 1 G.calls signer.old signer.new }
 {
     let issuer = private_issuer(alloc, key)?;
     match signer.sign(alloc, &issuer, algorithm, message) {

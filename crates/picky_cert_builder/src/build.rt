@@ -4,6 +4,7 @@ ghost use Rattle.std.specs.Prelude.{◌≡◌, Ok, IfOk, OnOk, OnErr};
 ghost use Rattle.picky_wire_base.specs.Outcome.{map_ok};
 ghost use Rattle.picky_wire.specs.Count.{Rose};
 ghost use Rattle.picky_wire_base.specs.Gives.{Gives};
+ghost use Rattle.picky_suite.specs.Asked.{IsAskedAtMost};
 ghost use Rattle.picky_cert.specs.Spelled.{signed_of};
 ghost use Rattle.picky_cert_builder.specs.Built.{IsBuilt, LeavesSigner};
 ghost use Rattle.picky_cert_builder.specs.Draft.{requested};
@@ -53,6 +54,7 @@ impl SshCertificateBuilder {
 
         ensures unset { OnOk result (self.new ≡ unset self.old) }
         ensures kept { OnErr result (self.new ≡ self.old) }
+        ensures asked { IsAskedAtMost 1 G.calls signer.old signer.new }
     {
         match self.draft(alloc, nonce) {
             Ok(draft) => match draft.sign(alloc, signer) {
@@ -86,6 +88,7 @@ impl CertificateDraft {
         requires { IsWholeDraft self }
         ensures answers { IsBuilt (G.signs signer.old) (Ok (draft_shown self)) (Rose (G.faults signer.old) (G.faults signer.new)) result }
         ensures signer { LeavesSigner G.signs G.faults (Ok (draft_shown self)) result signer.old signer.new }
+        ensures asked { IsAskedAtMost 1 G.calls signer.old signer.new }
     {
         let CertificateDraft {
             mut certificate,

@@ -41,6 +41,11 @@ abbrev pub asks_to : Outside → Way → List ℕ → Bool
 asks_to o (Written target) input = converting_asks o target input
 asks_to o (Certified request) input = asks o.pass_in input
 
+-- how often it is, at most: to open what it reads, and to seal what it writes, each a derivation and a cipher
+abbrev pub most_asked : Way → ℕ
+most_asked (Written target) = 4
+most_asked (Certified request) = 2
+
 -- the refusal is the suite's fault
 abbrev pub IsFaultTo : Outside → Way → List ℕ → ConvertError → Type 0 → Type 0
 IsFaultTo o (Written target) input e rose = IsFaultOf o target input e rose

@@ -2,6 +2,7 @@
 
 ghost use Rattle.std.specs.Prelude.{◌≡◌, ◌≢◌, Ok, Err, IfErr, IfOk};
 ghost use Rattle.picky_wire.specs.Count.{Rose};
+ghost use Rattle.picky_suite.specs.Asked.{IsAskedAtMost};
 ghost use Rattle.picky_cert_parts.specs.declared.error.SshCertificateError.TheVariants as lines;
 ghost use Rattle.picky_cert.specs.LineRefusal.{cert_line_text};
 ghost use Rattle.picky_cert_builder.specs.Drafted.{IsWholeDraft, draft_shown};
@@ -37,6 +38,7 @@ pub fn write_certificate<G: Signer>(
     ensures answers { Certifies (G.signs signer.old) (line_drafted request meaning fresh.now)
         (Rose (G.faults signer.old) (G.faults signer.new)) result }
     ensures signer { LeavesDraftSigner G.signs G.faults (line_drafted request meaning fresh.now) result signer.old signer.new }
+    ensures asked { IsAskedAtMost 1 G.calls signer.old signer.new }
 {
     match draft_line(alloc, request, meaning, fresh) {
         Ok(draft) => sign_line(alloc, signer, draft),
@@ -54,6 +56,7 @@ fn sign_line<G: Signer>(
     requires back { IsReadBack draft.certificate }
     ensures answers { Certifies (G.signs signer.old) (Ok (draft_shown draft)) (Rose (G.faults signer.old) (G.faults signer.new)) result }
     ensures signer { LeavesDraftSigner G.signs G.faults (Ok (draft_shown draft)) result signer.old signer.new }
+    ensures asked { IsAskedAtMost 1 G.calls signer.old signer.new }
 {
     match draft.sign(alloc, signer) {
         Ok(certificate) => {

@@ -4,6 +4,7 @@ ghost use Rattle.std.specs.Prelude.{◌≡◌, ◌⊎◌, Err, IfOk, IsOk};
 ghost use Rattle.std.specs.Option.{IfSome, option_copied};
 ghost use Rattle.std.specs.Str.{IsUtf8};
 ghost use Rattle.picky_wire_base.specs.Outcome.{map_ok};
+ghost use Rattle.picky_suite.specs.Asked.{IsAskedAtMost};
 ghost use Rattle.picky_suite.specs.Meanings.{Meanings};
 ghost use Rattle.picky_cert.specs.Spelled.{signed_of};
 ghost use Rattle.picky_wire.specs.Count.{Rose};
@@ -17,7 +18,7 @@ ghost use Rattle.picky_conversion.specs.Chain.{IsGiven};
 ghost use Rattle.picky_conversion.specs.Outside.{outside, outside_of, reader};
 ghost use Rattle.picky_conversion.specs.Convert.{AnswersKeyText, LeavesAskedSuite, converting_asks};
 ghost use Rattle.picky_conversion.specs.Made.{AnswersMade, AnswersPlain, IsLeft, LeavesAskedSigner, ToSign, is_signed};
-ghost use Rattle.picky_conversion.specs.To.{CanConvert, IsConverted, IsFaultTo, IsWay, asks_to, converted, way_to};
+ghost use Rattle.picky_conversion.specs.To.{CanConvert, IsConverted, IsFaultTo, IsWay, asks_to, converted, most_asked, way_to};
 ghost use Rattle.picky_conversion.specs.Refusal.{input_refusal as input_refusal_of, issuer_refusal as issuer_refusal_of};
 
 use crate::certificate::write_certificate;
@@ -73,6 +74,8 @@ pub fn convert<S: Suite, G: Signer>(
         → IsOk result ⊎ (result ≡ Err ConvertError.NoMemory) ⊎ ((e : ConvertError) × (result ≡ Err e)
         × (IsFaultTo o (way_to target.now) input.now e (Rose (S.faults suite.old) (S.faults suite.new))
         ⊎ IsLeft (G.signs signer.old) (converted o (way_to target.now) input.now) (Rose (G.faults signer.old) (G.faults signer.new)) e)) }
+    ensures suite_asked { IsAskedAtMost (most_asked (way_to target.now)) S.calls suite.old suite.new }
+    ensures signer_asked { IsAskedAtMost 1 G.calls signer.old signer.new }
 {
     is_given(pass_in, pass_out, fresh);
     is_target(target);
@@ -105,6 +108,8 @@ pub fn convert_owned<S: Suite, G: Signer>(
     ensures signer { LeavesAskedSigner G.signs G.faults
         (is_signed (converted (outside (S.meanings suite.old) given.entry) (way_to target) input.now))
         result signer.old signer.new }
+    ensures suite_asked { IsAskedAtMost (most_asked (way_to target)) S.calls suite.old suite.new }
+    ensures signer_asked { IsAskedAtMost 1 G.calls signer.old signer.new }
 {
     match target {
         Target::OpenSsh => convert_key(alloc, suite, input, KeyTarget::OpenSsh, given),
@@ -129,6 +134,7 @@ fn convert_key<S: Suite>(
         (Rose (S.faults suite.old) (S.faults suite.new)) result }
     ensures suite { LeavesAskedSuite S.meanings S.faults
         (converting_asks (outside (S.meanings suite.old) given.entry) target input.now) result suite.old suite.new }
+    ensures asked { IsAskedAtMost 4 S.calls suite.old suite.new }
 {
     let ConversionGiven {
         pass_in,
@@ -158,6 +164,8 @@ fn certify<S: Suite, G: Signer>(
     ensures signer { LeavesAskedSigner G.signs G.faults
         (is_signed (map_ok ToSign (certification (outside (S.meanings suite.old) given.entry) request input.now)))
         result signer.old signer.new }
+    ensures suite_asked { IsAskedAtMost 2 S.calls suite.old suite.new }
+    ensures signer_asked { IsAskedAtMost 1 G.calls signer.old signer.new }
 {
     match read_text(alloc, suite, input, given.pass_in) {
         Ok(meaning) => write_certificate(alloc, signer, request, meaning, given.fresh),
@@ -182,6 +190,7 @@ pub fn bytes_to_sign<S: Suite>(
         (map_ok (λ u. signed_of u.certificate) (drafting (outside (S.meanings suite.old) given.entry) request input.now))
         (λ e. IsInputFault (outside (S.meanings suite.old) given.entry) input.now e (Rose (S.faults suite.old) (S.faults suite.new))) result }
     ensures suite { LeavesAskedSuite S.meanings S.faults (asks (option_copied given.entry.pass_in) input.now) result suite.old suite.new }
+    ensures asked { IsAskedAtMost 2 S.calls suite.old suite.new }
 {
     match read_text(alloc, suite, input, given.pass_in) {
         Ok(meaning) => write_signed_bytes(alloc, request, meaning, given.fresh),

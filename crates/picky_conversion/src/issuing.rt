@@ -3,6 +3,7 @@
 ghost use Rattle.std.specs.Prelude.{◌≡◌, IfOk, string_bytes};
 ghost use Rattle.std.specs.Option.{option_copied};
 ghost use Rattle.picky_wire_base.specs.Outcome.{map_ok};
+ghost use Rattle.picky_suite.specs.Asked.{IsAskedAtMost};
 ghost use Rattle.picky_suite.specs.Failures.{IsAskedFault};
 ghost use Rattle.picky_wire.specs.Count.{Rose};
 ghost use Rattle.picky_cert_builder.specs.Draft.{Unsigned};
@@ -43,6 +44,8 @@ pub fn issue<S: Suite, G: Signer>(
     ensures suite { LeavesAskedSuite S.meanings S.faults (issuing_asks (outside (S.meanings suite.old) given.entry) input.now) result suite.old suite.new }
     ensures signer { LeavesAskedSigner G.signs G.faults
         (is_signed (map_ok ToSign (issued (outside (S.meanings suite.old) given.entry) options input.now))) result signer.old signer.new }
+    ensures suite_asked { IsAskedAtMost 4 S.calls suite.old suite.new }
+    ensures signer_asked { IsAskedAtMost 1 G.calls signer.old signer.new }
 {
     let parts = parts_of(input);
     match issuer_of(alloc, suite, parts.issuer, given) {
@@ -70,6 +73,7 @@ pub fn print_signed<S: Suite>(
     ensures gives { AnswersPlain string_bytes (issued_bytes (outside (S.meanings suite.old) given.entry) options input.now)
         (λ e. IsIssuingFault (outside (S.meanings suite.old) given.entry) input.now e (Rose (S.faults suite.old) (S.faults suite.new))) result }
     ensures suite { LeavesAskedSuite S.meanings S.faults (issuing_asks (outside (S.meanings suite.old) given.entry) input.now) result suite.old suite.new }
+    ensures asked { IsAskedAtMost 4 S.calls suite.old suite.new }
 {
     let parts = parts_of(input);
     match issuer_of(alloc, suite, parts.issuer, given) {
@@ -95,6 +99,7 @@ fn print_request<S: Suite>(
     ensures gives { AnswersPlain string_bytes (map_ok hex_line (drafting (outside (S.meanings suite.old) given.entry) request input.now))
         (λ e. IsInputFault (outside (S.meanings suite.old) given.entry) input.now e (Rose (S.faults suite.old) (S.faults suite.new))) result }
     ensures suite { LeavesAskedSuite S.meanings S.faults (asks (option_copied given.entry.pass_in) input.now) result suite.old suite.new }
+    ensures asked { IsAskedAtMost 2 S.calls suite.old suite.new }
 {
     match bytes_to_sign(alloc, suite, input, request, given) {
         Ok(bytes) => match hex_text(alloc, bytes.as_slice()) {
@@ -126,6 +131,7 @@ fn issuer_of<S: Suite>(
         × IsAskedFault (asks_issuer (outside (S.meanings suite.old) given.entry) (option_copied issuer.entry)) (Rose (S.faults suite.old) (S.faults suite.new))) result }
     ensures suite { LeavesAskedSuite S.meanings S.faults
         (asks_issuer (outside (S.meanings suite.old) given.entry) (option_copied issuer.entry)) result suite.old suite.new }
+    ensures asked { IsAskedAtMost 2 S.calls suite.old suite.new }
 {
     match issuer {
         Some(text) => match read_text(alloc, suite, text, given.pass_in) {

@@ -3,6 +3,7 @@
 ghost use Rattle.std.specs.Prelude.{◌≡◌, ◌≤◌, ◌∷◌, false, length, string_bytes, Err, IfOk};
 ghost use Rattle.std.specs.Option.{option_copied};
 ghost use Rattle.picky_wire.specs.Count.{Rose};
+ghost use Rattle.picky_suite.specs.Asked.{IsAskedAtMost};
 ghost use Rattle.picky_ppk_parts.specs.Config.{default_config};
 ghost use Rattle.picky_key_text.specs.Order.{asks};
 ghost use Rattle.picky_conversion.specs.Certify.{IsInputFault};
@@ -194,6 +195,8 @@ pub fn perform<S: Suite, G: Signer>(
         (outcome_asks (outside (S.meanings suite.old) given.entry) command input.now ≡ false)
         (outcome_signs (outside (S.meanings suite.old) given.entry) command input.now ≡ false)
         suite.old suite.new signer.old signer.new }
+    ensures suite_asked { IsAskedAtMost 4 S.calls suite.old suite.new }
+    ensures signer_asked { IsAskedAtMost 1 G.calls signer.old signer.new }
 {
     match as_text(input) {
         Some(text) => match answer_to(alloc, command, given, suite, signer, text) {
@@ -246,6 +249,8 @@ fn answer_to<S: Suite, G: Signer>(
         (answering_asks (outside (S.meanings suite.old) given.entry) command text.now) result suite.old suite.new }
     ensures signer { LeavesAskedSigner G.signs G.faults
         (is_signed (answer (outside (S.meanings suite.old) given.entry) command text.now)) result signer.old signer.new }
+    ensures suite_asked { IsAskedAtMost 4 S.calls suite.old suite.new }
+    ensures signer_asked { IsAskedAtMost 1 G.calls signer.old signer.new }
 {
     match command {
         Command::Convert(target) => {
@@ -278,6 +283,7 @@ fn fingerprint<S: Suite>(
     ensures gives { AnswersPlain string_bytes (fingerprints (outside (S.meanings suite.old) given.entry) text.now)
         (λ e. IsInputFault (outside (S.meanings suite.old) given.entry) text.now e (Rose (S.faults suite.old) (S.faults suite.new))) result }
     ensures suite { LeavesAskedSuite S.meanings S.faults (asks (option_copied given.entry.pass_in) text.now) result suite.old suite.new }
+    ensures asked { IsAskedAtMost 2 S.calls suite.old suite.new }
 {
     match read_text(alloc, suite, text, given.pass_in) {
         Ok(meaning) => {

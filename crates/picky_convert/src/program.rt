@@ -3,6 +3,7 @@
 ghost use Rattle.std.specs.Prelude.{◌≡◌, ◌≢◌, ◌⊎◌, ℕ, List, true, Result, Ok, Err, string_bytes};
 ghost use Rattle.picky_wire.specs.Count.{Rose};
 ghost use Rattle.picky_wire.specs.Puts.{Puts};
+ghost use Rattle.picky_suite.specs.Asked.{IsAskedAtMost};
 ghost use Rattle.picky_input.specs.Extent.{IsUnasked, ReadsInput, WritesLast};
 ghost use Rattle.picky_conversion.specs.Outside.{outside, outside_of};
 ghost use Rattle.picky_convert.specs.Command.{Names, command_of as command_named};
@@ -83,6 +84,8 @@ pub fn run<S: Suite, G: Signer, I: Source, O: Sink, E: Sink>(
         ((c : Command) → Names words.now c → IsUnasked (I.tells source.old) (outcome_signs o c) (input_for c (I.left source.old)))
         suite.old suite.new signer.old signer.new }
     ensures said { SaysEnd E.tells E.written E.faults result err.old err.new }
+    ensures suite_asked { IsAskedAtMost 4 S.calls suite.old suite.new }
+    ensures signer_asked { IsAskedAtMost 1 G.calls signer.old signer.new }
 {
     is_given(pass_in, pass_out, fresh);
     let given = ConversionGiven {
@@ -121,6 +124,8 @@ fn attempt<S: Suite, G: Signer, I: Source, O: Sink>(
         ((c : Command) → Names words.now c → IsUnasked (I.tells source.old) (outcome_asks (outside (S.meanings suite.old) given.entry) c) (input_for c (I.left source.old)))
         ((c : Command) → Names words.now c → IsUnasked (I.tells source.old) (outcome_signs (outside (S.meanings suite.old) given.entry) c) (input_for c (I.left source.old)))
         suite.old suite.new signer.old signer.new }
+    ensures suite_asked { IsAskedAtMost 4 S.calls suite.old suite.new }
+    ensures signer_asked { IsAskedAtMost 1 G.calls signer.old signer.new }
 {
     match command_of(alloc, words) {
         Ok(Some(command)) => carry_out(alloc, command, given, suite, signer, source, out),
@@ -154,6 +159,8 @@ fn carry_out<S: Suite, G: Signer, I: Source, O: Sink>(
         (IsUnasked (I.tells source.old) (outcome_asks (outside (S.meanings suite.old) given.entry) command) (input_for command (I.left source.old)))
         (IsUnasked (I.tells source.old) (outcome_signs (outside (S.meanings suite.old) given.entry) command) (input_for command (I.left source.old)))
         suite.old suite.new signer.old signer.new }
+    ensures suite_asked { IsAskedAtMost 4 S.calls suite.old suite.new }
+    ensures signer_asked { IsAskedAtMost 1 G.calls signer.old signer.new }
 {
     match take_text(alloc, command, given, suite, signer, source) {
         Ok(text) => match put(out, text.as_str()) {
@@ -194,6 +201,8 @@ fn take_text<S: Suite, G: Signer, I: Source>(
         (IsUnasked (I.tells source.old) (outcome_asks (outside (S.meanings suite.old) given.entry) command) (input_for command (I.left source.old)))
         (IsUnasked (I.tells source.old) (outcome_signs (outside (S.meanings suite.old) given.entry) command) (input_for command (I.left source.old)))
         suite.old suite.new signer.old signer.new }
+    ensures suite_asked { IsAskedAtMost 4 S.calls suite.old suite.new }
+    ensures signer_asked { IsAskedAtMost 1 G.calls signer.old signer.new }
 {
     if reads_source(&command) {
         match read_input(alloc, source) {

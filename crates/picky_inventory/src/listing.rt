@@ -4,7 +4,7 @@ ghost use Rattle.std.specs.Prelude.{◌≡◌, map, IfErr, OnOk};
 ghost use Rattle.std.specs.Option.{option_copied};
 ghost use Rattle.picky_wire_base.specs.Outcome.{map_ok};
 ghost use Rattle.picky_wire.specs.Count.{Rose};
-ghost use Rattle.picky_suite.specs.Asked.{GivesAsked, LeavesSuite};
+ghost use Rattle.picky_suite.specs.Asked.{GivesAsked, IsAskedAtMost, LeavesSuite};
 ghost use Rattle.picky_key_text.specs.Order.{asks, fault_of, reading};
 ghost use Rattle.picky_key_text.specs.Want.{IsFault};
 ghost use Rattle.picky_inventory.specs.Items.{item_line, item_of};
@@ -113,6 +113,7 @@ fn part_line<S: Suite>(
         (asks (option_copied pass.entry) part.now) (Rose (S.faults suite.old) (S.faults suite.new)) }
     ensures suite { LeavesSuite S.meanings S.faults (fault_of part.now) (asks (option_copied pass.entry) part.now) result
         suite.old suite.new }
+    ensures asked { IsAskedAtMost 2 S.calls suite.old suite.new }
 {
     match read_text(alloc, suite, part, pass) {
         Ok(meaning) => {

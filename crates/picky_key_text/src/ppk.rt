@@ -2,7 +2,7 @@
 
 ghost use Rattle.std.specs.Prelude.{◌≡◌, ◌≢◌, Ok, Err};
 ghost use Rattle.std.specs.Option.{option_copied};
-ghost use Rattle.picky_suite.specs.Asked.{GivesAsked, LeavesSuite};
+ghost use Rattle.picky_suite.specs.Asked.{GivesAsked, IsAskedAtMost, LeavesSuite};
 ghost use Rattle.picky_wire_base.specs.Outcome.{and_then};
 ghost use Rattle.picky_wire.specs.Count.{Rose};
 ghost use Rattle.picky_wire_base.specs.Gives.{Gives};
@@ -29,6 +29,7 @@ pub fn ppk_key<S: Suite>(
         (ppk_asks (option_copied pass.entry) text.now) (Rose (S.faults suite.old) (S.faults suite.new)) }
     ensures suite { LeavesSuite S.meanings S.faults PuttyError.SuiteFault (ppk_asks (option_copied pass.entry) text.now) result
         suite.old suite.new }
+    ensures asked { IsAskedAtMost 2 S.calls suite.old suite.new }
 {
     match Ppk::from_str(alloc, suite, text) {
         Ok(ppk) => key_of_file(alloc, suite, ppk, pass),
@@ -48,6 +49,7 @@ fn key_of_file<S: Suite>(
         (file_asks (option_copied pass.entry) (Ok ppk)) (Rose (S.faults suite.old) (S.faults suite.new)) }
     ensures suite { LeavesSuite S.meanings S.faults PuttyError.SuiteFault (file_asks (option_copied pass.entry) (Ok ppk)) result
         suite.old suite.new }
+    ensures asked { IsAskedAtMost 2 S.calls suite.old suite.new }
 {
     match opened(alloc, suite, ppk, pass) {
         Ok(ppk) => meaning_of_opened_file(alloc, ppk),
@@ -67,6 +69,7 @@ fn opened<S: Suite>(
         (file_asks (option_copied pass.entry) (Ok ppk)) (Rose (S.faults suite.old) (S.faults suite.new)) }
     ensures suite { LeavesSuite S.meanings S.faults PuttyError.SuiteFault (file_asks (option_copied pass.entry) (Ok ppk)) result
         suite.old suite.new }
+    ensures asked { IsAskedAtMost 2 S.calls suite.old suite.new }
 {
     if !ppk.is_encrypted() {
         return Ok(ppk);

@@ -3,7 +3,7 @@
 ghost use Rattle.std.specs.Prelude.{◌≡◌, ◌≢◌, ◌⊎◌, Ok, Err, IfOk};
 ghost use Rattle.std.specs.Option.{option_copied, IfSome};
 ghost use Rattle.picky_wire_base.specs.Numbers.{IsBytes};
-ghost use Rattle.picky_suite.specs.Asked.{GivesAsked, LeavesSuite};
+ghost use Rattle.picky_suite.specs.Asked.{GivesAsked, IsAskedAtMost, LeavesSuite};
 ghost use Rattle.picky_suite.specs.Failures.{IsAskedFault};
 ghost use Rattle.picky_wire.specs.Count.{Rose};
 ghost use Rattle.picky_wire_base.specs.Gives.{Gives};
@@ -55,6 +55,7 @@ pub fn read_text<S: Suite>(
         → (result ≡ Ok meaning) ⊎ (result ≡ Err ReadError.NoMemory)
         ⊎ ((result ≡ Err (fault_of input.now))
         × IsAskedFault (asks (option_copied pass.entry) input.now) (Rose (S.faults suite.old) (S.faults suite.new))) }
+    ensures asked { IsAskedAtMost 2 S.calls suite.old suite.new }
 {
     pass_is_bytes(pass);
     read_as(alloc, suite, form_of(input), input, pass)

@@ -5,6 +5,7 @@ ghost use Rattle.std.specs.Str.{IsUtf8};
 ghost use Rattle.std.specs.Option.{option_copied};
 ghost use Rattle.picky_wire_base.specs.Numbers.{IsBytes};
 ghost use Rattle.picky_wire.specs.Count.{Rose};
+ghost use Rattle.picky_suite.specs.Asked.{IsAskedAtMost};
 ghost use Rattle.picky_cert_parts.specs.Signature.{IsSignature};
 ghost use Rattle.picky_cert_builder.specs.Built.{IsBuilt, LeavesSigner as LeavesBuilder};
 ghost use Rattle.picky_cert_builder.specs.Draft.{requested};
@@ -63,6 +64,7 @@ impl Ledger {
             (Rose (G.faults signer.old) (G.faults signer.new)) result self.new }
         ensures signer { LeavesLedgerSigner G.signs G.faults
             (judged_request_line (record { issuer = issuer.now.inner_key; nonce = nonce.now }) self.old line.now) result signer.old signer.new }
+        ensures asked { IsAskedAtMost 1 G.calls signer.old signer.new }
     {
         match CertRequestLine::from_str(alloc, line) {
             Ok(Some(request)) => self.answer(alloc, issuer, line, request, nonce, signer),
@@ -89,6 +91,7 @@ impl Ledger {
         ensures signer { LeavesLedgerSigner G.signs G.faults
             (unless_kept (record { issuer = issuer.now.inner_key; nonce = nonce.now }) line.now self.old.next request
             (entry_with_id request.id self.old.entries)) result signer.old signer.new }
+        ensures asked { IsAskedAtMost 1 G.calls signer.old signer.new }
     {
         match entry_named(request.id.as_str(), self.entries.as_slice()) {
             Some(entry) => Ok(kept_reply(entry, line)),
@@ -114,6 +117,7 @@ impl Ledger {
             (Rose (G.faults signer.old) (G.faults signer.new)) result self.new }
         ensures signer { LeavesLedgerSigner G.signs G.faults
             (issuing (record { issuer = issuer.now.inner_key; nonce = nonce.now }) self.old.next request) result signer.old signer.new }
+        ensures asked { IsAskedAtMost 1 G.calls signer.old signer.new }
     {
         if self.next == u64::MAX {
             return Ok(Reply::Full);
@@ -196,6 +200,7 @@ fn certificate_for<G: Signer>(
     ensures fields { IfOk result (λ c. (c.key_id ≡ request.id) × (c.serial ≡ serial)) }
     ensures entry { (line : List ℕ) → IsUtf8 line → request_in line ≡ Some request
         → IfOk result (λ c. IsEntry (entry_by request.id line c)) }
+    ensures asked { IsAskedAtMost 1 G.calls signer.old signer.new }
 {
     match request.builder(alloc, &issuer.inner_key, serial) {
         Ok(mut builder) => {
@@ -223,6 +228,7 @@ fn built<G: Signer>(
     ensures bytes { IsBytes nonce.now }
     ensures len { length nonce.now ≡ 32 }
     ensures signature { IfOk result (λ c. IsSignature c.signature) }
+    ensures asked { IsAskedAtMost 1 G.calls signer.old signer.new }
 {
     request_keeps_its_ranges(builder);
     match builder.build(alloc, nonce, signer) {

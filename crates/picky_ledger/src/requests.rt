@@ -5,6 +5,7 @@ ghost use Rattle.picky_keys.specs.declared.public_key.PublicKey.{PublicKey};
 ghost use Rattle.picky_keys.specs.declared.algorithm.SignatureAlgorithm.{SignatureAlgorithm as Algorithm};
 ghost use Rattle.picky_wire_base.specs.Outcome.{map_ok};
 ghost use Rattle.picky_wire.specs.Count.{Rose};
+ghost use Rattle.picky_suite.specs.Asked.{IsAskedAtMost};
 ghost use Rattle.picky_ledger.specs.Apply.{judged_request_line, LeavesLedgerSigner};
 ghost use Rattle.picky_ledger.specs.Run.{requests_in, LeavesDevice};
 ghost use Rattle.picky_ledger.specs.Runs.{nonce_len, NoneSigns};
@@ -70,6 +71,7 @@ fn answer_request<G: Signer>(
         (Rose (G.faults signer.old) (G.faults signer.new)) (string_bytes replies.old) (string_bytes replies.new) result ledger.new }
     ensures signer { LeavesLedgerSigner G.signs G.faults
         (judged_request_line (record { issuer = issuer.now.inner_key; nonce = fresh.now }) ledger.old line.now) result signer.old signer.new }
+    ensures asked { IsAskedAtMost 1 G.calls signer.old signer.new }
 {
     let mut nonce = [0; NONCE_LEN];
     nonce.copy_from_slice(fresh);

@@ -1,5 +1,5 @@
 -- What a call promises that asks a device whether a signature is good.
-use Rattle.std.specs.Prelude.{◌≡◌, ◌↔◌, ◌⊎◌, ℕ, Bool, true, IsTrue, List, Option, Some, None, Result, IfOk, IsErr, OnErr, OnOk}
+use Rattle.std.specs.Prelude.{◌≡◌, ◌↔◌, ℕ, Bool, true, IsTrue, List, Option, Some, None, Result, IfOk, IsErr, OnErr, OnOk}
 use Rattle.picky_wire.specs.Count.{Calls, Rose, count_one, failed, next_fails, passed}
 use Rattle.picky_wire.specs.declared.error.Failed.{Failed}
 use Rattle.picky_keys.specs.declared.key.SshBasePublicKey.{SshBasePublicKey}
@@ -14,20 +14,13 @@ abbrev pub KeepsVerified : (before after : VerifyRelation) → Type 0
 KeepsVerified before after = (key : SshBasePublicKey) (signature : SshSignature) (message : List ℕ)
     → after key signature message ↔ before key signature message
 
--- which signatures are good stays; Ok says whether this one is, and leaves the count of faults; Failed counts one; and the
--- device is what one call made of it
-pub record Verifies {S : Type 0} (verifies : S → VerifyRelation) (faults : S → ℕ) (called : S → S → Type 0)
-    (key : SshBasePublicKey) (signature : SshSignature) (message : List ℕ) (result : Result Bool Failed)
-    (old new : S) : Type 0 where
+-- which signatures are good stays; Ok says whether this one is, and leaves the count of faults; Failed counts one
+pub record Verifies {S : Type 0} (verifies : S → VerifyRelation) (faults : S → ℕ) (key : SshBasePublicKey)
+    (signature : SshSignature) (message : List ℕ) (result : Result Bool Failed) (old new : S) : Type 0 where
   pub kept : KeepsVerified (verifies old) (verifies new)
   pub says : IfOk result (λ good. IsTrue good ↔ verifies old key signature message)
   pub counted : OnErr result (Rose (faults old) (faults new))
   pub calm : OnOk result (faults new ≡ faults old)
-  pub once : called old new
-
--- a device is asked once, or not at all
-abbrev pub IsAskedOnce : {S : Type 0} → (called : S → S → Type 0) → (old new : S) → Type 0
-IsAskedOnce called old new = (new ≡ old) ⊎ called old new
 
 -- ---- the verifier that was handed an answer
 

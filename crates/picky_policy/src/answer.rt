@@ -5,6 +5,7 @@ ghost use Rattle.std.specs.Option.{option_copied};
 ghost use Rattle.picky_wire_base.specs.Outcome.{map_err, map_ok};
 ghost use Rattle.picky_wire.specs.Count.{Rose};
 ghost use Rattle.picky_wire_base.specs.Gives.{Gives};
+ghost use Rattle.picky_suite.specs.Asked.{IsAskedAtMost};
 ghost use Rattle.picky_input.specs.Extent.{LeavesDevice, ReadsInput};
 ghost use Rattle.picky_authorized.specs.Entries.{entries_in};
 ghost use Rattle.picky_policy.specs.Command.{asked_by, Deciding};
@@ -12,7 +13,7 @@ ghost use Rattle.picky_policy.specs.Decided.{verifier_asks};
 ghost use Rattle.picky_policy.specs.Offer.{message_of, offer_in};
 ghost use Rattle.picky_policy.specs.Printed.{decision_text as decision_text_of, message_text as message_text_of};
 ghost use Rattle.picky_policy.specs.Run.{asks_with, bad_offer, file_or_none, is_asked, offered_in, IsSpared};
-ghost use Rattle.picky_policy.specs.Verifies.{IsAskedOnce, KeepsVerified};
+ghost use Rattle.picky_policy.specs.Verifies.{KeepsVerified};
 ghost use Rattle.picky_policy.specs.inner.Comes.{answer_shown, decision_status, extent_for, AnswersOffer};
 ghost use Rattle.picky_policy.specs.inner.Comes.{AnswersText, Comes};
 
@@ -56,7 +57,7 @@ pub(crate) fn take_answer<V: Verifier, I: Source>(
     ensures verifier { LeavesDevice (KeepsVerified (V.verifies verifier.old) (V.verifies verifier.new)) V.faults
         (result ≡ Err PolicyStatus.OutsideFault)
         (IsSpared (Some (asked_by command.entry)) (I.tells source.old) (I.left source.old)) verifier.old verifier.new }
-    ensures once { IsAskedOnce V.called verifier.old verifier.new }
+    ensures asked { IsAskedAtMost 1 V.calls verifier.old verifier.new }
 {
     match take_text(alloc, source) {
         Ok(text) => {
@@ -80,7 +81,7 @@ fn answer_to<V: Verifier>(
     ensures kept { KeepsVerified (V.verifies verifier.old) (V.verifies verifier.new) }
     ensures calm { result ≢ Err PolicyStatus.OutsideFault → V.faults verifier.new ≡ V.faults verifier.old }
     ensures unasked { asks_with (asked_by command.entry) text.now (offered_in text.now) ≡ false → verifier.new ≡ verifier.old }
-    ensures once { IsAskedOnce V.called verifier.old verifier.new }
+    ensures asked { IsAskedAtMost 1 V.calls verifier.old verifier.new }
 {
     let cut = parts_of(text);
     match take_offer(alloc, cut.key) {
@@ -141,7 +142,7 @@ fn answer_offer<V: Verifier>(
     ensures kept { KeepsVerified (V.verifies verifier.old) (V.verifies verifier.new) }
     ensures calm { result ≢ Err PolicyStatus.OutsideFault → V.faults verifier.new ≡ V.faults verifier.old }
     ensures unasked { is_asked (asked_by command.entry) file.now offer.now ≡ false → verifier.new ≡ verifier.old }
-    ensures once { IsAskedOnce V.called verifier.old verifier.new }
+    ensures asked { IsAskedAtMost 1 V.calls verifier.old verifier.new }
 {
     match command {
         Command::Deciding { user, moment } => decided(alloc, verifier, file, offer, user, moment),
@@ -175,7 +176,7 @@ fn decided<V: Verifier>(
     ensures kept { KeepsVerified (V.verifies verifier.old) (V.verifies verifier.new) }
     ensures calm { result ≢ Err PolicyStatus.OutsideFault → V.faults verifier.new ≡ V.faults verifier.old }
     ensures unasked { verifier_asks (entries_in file.now) offer.now user.now moment ≡ false → verifier.new ≡ verifier.old }
-    ensures once { IsAskedOnce V.called verifier.old verifier.new }
+    ensures asked { IsAskedAtMost 1 V.calls verifier.old verifier.new }
 {
     match read_keys(alloc, file) {
         Ok(entries) => {

@@ -4,11 +4,11 @@ ghost use Rattle.std.specs.Prelude.{◌≡◌, ◌≢◌, ◌++◌, ◌∷◌, [
 ghost use Rattle.std.specs.Option.{option_copied};
 ghost use Rattle.picky_wire.specs.Count.{Rose};
 ghost use Rattle.picky_wire.specs.declared.timestamp.Timestamp.{Timestamp as Moment};
+ghost use Rattle.picky_suite.specs.Asked.{IsAskedAtMost};
 ghost use Rattle.picky_authorized.specs.Entries.{AreFit};
 ghost use Rattle.picky_policy.specs.Decided.{verifier_asks, decided, granted as granted_by};
 ghost use Rattle.picky_policy.specs.Decided.{is_kept_back as is_kept_back_option, options_left};
 ghost use Rattle.picky_policy.specs.Decided.{Accepts, Allows, Decides, LeavesVerifier};
-ghost use Rattle.picky_policy.specs.Verifies.{IsAskedOnce};
 ghost use Rattle.picky_policy.specs.declared.decision.Denial.{Denial as Why};
 ghost use Rattle.picky_policy.specs.declared.decision.Grant.{Grant as Given};
 ghost use Rattle.picky_policy.specs.declared.offer.Offer.TheVariants as offers;
@@ -66,7 +66,7 @@ pub fn decide<V: Verifier>(
         (verifier_asks entries.now offer.now user.now moment) (Rose (V.faults verifier.old) (V.faults verifier.new)) result }
     ensures verifier { LeavesVerifier V.verifies V.faults (verifier_asks entries.now offer.now user.now moment) result
         verifier.old verifier.new }
-    ensures once { IsAskedOnce V.called verifier.old verifier.new }
+    ensures asked { IsAskedAtMost 1 V.calls verifier.old verifier.new }
 {
     decide_over(alloc, entries.as_slice(), offer, user, moment, verifier)
 }
@@ -84,7 +84,7 @@ fn decide_over<V: Verifier>(
         (verifier_asks entries.now offer.now user.now moment) (Rose (V.faults verifier.old) (V.faults verifier.new)) result }
     ensures verifier { LeavesVerifier V.verifies V.faults (verifier_asks entries.now offer.now user.now moment) result
         verifier.old verifier.new }
-    ensures once { IsAskedOnce V.called verifier.old verifier.new }
+    ensures asked { IsAskedAtMost 1 V.calls verifier.old verifier.new }
 {
     match offer {
         Offer::Key(key) => decide_key(alloc, entries, key),
@@ -133,7 +133,7 @@ fn decide_certificate<V: Verifier>(
         (Rose (V.faults verifier.old) (V.faults verifier.new)) result }
     ensures verifier { LeavesVerifier V.verifies V.faults
         (verifier_asks entries.now (offers.Certificate certificate.now message.now) user.now moment) result verifier.old verifier.new }
-    ensures once { IsAskedOnce V.called verifier.old verifier.new }
+    ensures asked { IsAskedAtMost 1 V.calls verifier.old verifier.new }
 {
     match line_for(true, &certificate.signature_key.inner_key, entries) {
         Some(line) => match judge(line.options, certificate, user, moment) {

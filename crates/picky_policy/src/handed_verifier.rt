@@ -52,7 +52,7 @@ impl Verifier for HandedVerifier {
         ensures handed { SaysAsHanded result self.old self.new }
 
         // What every verifier promises.
-        ensures verifies { Verifies VerifiesAsHanded (λ v. min v.faults (2 ^ 64 - 1)) (λ _ _. Unit {0})
+        ensures verifies { Verifies VerifiesAsHanded (λ v. min v.faults (2 ^ 64 - 1))
             key.now signature.now message.now result self.old self.new }
     {
         match &self.message {

@@ -57,7 +57,7 @@ impl Verifier for MemoryVerifier {
         ensures listed { SaysAsFixed result self.old self.new }
 
         // What every verifier promises.
-        ensures verifies { Verifies VerifiesAsFixed (λ v. min v.calls.faults (2 ^ 64 - 1)) (λ _ _. Unit {0})
+        ensures verifies { Verifies VerifiesAsFixed (λ v. min v.calls.faults (2 ^ 64 - 1))
             key.now signature.now message.now result self.old self.new }
     {
         if self.calls.next_fails() {

@@ -3,10 +3,11 @@
 ghost use Rattle.std.specs.Prelude.{◌≡◌, ◌≢◌, ◌↔◌, ◌⊎◌, ℕ, List, Some, Ok, Err};
 ghost use Rattle.picky_wire.specs.Count.{Rose};
 ghost use Rattle.picky_wire.specs.Puts.{Puts};
+ghost use Rattle.picky_suite.specs.Asked.{IsAskedAtMost};
 ghost use Rattle.picky_input.specs.Extent.{LeavesDevice, ReadsInput, WritesLast};
 ghost use Rattle.picky_policy.specs.Command.{asked_by, asked_for, Asked, Names};
 ghost use Rattle.picky_policy.specs.Run.{extent_of, offered, Ends, IsDone, IsOutsideFault, IsSpared, WritesAnswer};
-ghost use Rattle.picky_policy.specs.Verifies.{IsAskedOnce, KeepsVerified};
+ghost use Rattle.picky_policy.specs.Verifies.{KeepsVerified};
 ghost use Rattle.picky_policy.specs.declared.offer.Offer.{Offer as AnOffer};
 
 use crate::answer::take_answer;
@@ -61,7 +62,7 @@ pub fn run_policy<V: Verifier, I: Source, O: Sink>(
     ensures verifier { LeavesDevice (KeepsVerified (V.verifies verifier.old) (V.verifies verifier.new)) V.faults
         (result ≡ PolicyStatus.OutsideFault) (IsSpared (asked_for words.now) (I.tells source.old) (I.left source.old))
         verifier.old verifier.new }
-    ensures once { IsAskedOnce V.called verifier.old verifier.new }
+    ensures asked { IsAskedAtMost 1 V.calls verifier.old verifier.new }
 {
     match command_of(words) {
         Some(command) => perform(alloc, command, verifier, source, out),
@@ -89,7 +90,7 @@ fn perform<V: Verifier, I: Source, O: Sink>(
     ensures verifier { LeavesDevice (KeepsVerified (V.verifies verifier.old) (V.verifies verifier.new)) V.faults
         (result ≡ PolicyStatus.OutsideFault) (IsSpared (Some (asked_by command.entry)) (I.tells source.old) (I.left source.old))
         verifier.old verifier.new }
-    ensures once { IsAskedOnce V.called verifier.old verifier.new }
+    ensures asked { IsAskedAtMost 1 V.calls verifier.old verifier.new }
 {
     match take_answer(alloc, command, verifier, source) {
         Ok(answer) => match put(out, answer.text.as_bytes()) {

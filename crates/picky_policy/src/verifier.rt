@@ -2,6 +2,7 @@
 
 ghost use Rattle.std.specs.Prelude.{◌^◌, ◌<◌, ℕ, List};
 ghost use Rattle.picky_keys.specs.declared.key.SshBasePublicKey.{SshBasePublicKey as BaseKey};
+ghost use Rattle.picky_suite.specs.Asked.{IsAskedAtMost};
 ghost use Rattle.picky_cert_parts.specs.declared.signature.SshSignature.{SshSignature as Signature};
 ghost use Rattle.picky_policy.specs.Verifies.{Verifies};
 
@@ -17,8 +18,8 @@ pub trait Verifier {
     // how many calls failed; it stays at 2^64 - 1
     ghost faults: { Self → ℕ };
 
-    // what one call may make of the device; a device need not say it, and who hands one on can't take two calls for one
-    ghost called: { Self → Self → Type 0 } = { λ _ _. Unit {0} };
+    // how often it was asked, at most; a device need not count, and who hands one on can't take two calls for one
+    ghost calls: { Self → ℕ } = { λ _. 0 };
 
     /// Whether the signature of the message is good under the key. Refuses: `Failed`.
     fn verify(
@@ -27,7 +28,8 @@ pub trait Verifier {
         signature: &SshSignature,
         message: &[u8],
     ) -> Result<bool, Failed>
-        ensures { Verifies verifies faults called key.now signature.now message.now result self.old self.new };
+        ensures asked { IsAskedAtMost 1 calls self.old self.new }
+        ensures verifies { Verifies verifies faults key.now signature.now message.now result self.old self.new };
 
     ghost in_range: { (s : Self) → faults s < 2 ^ 64 };
 }

@@ -2,7 +2,7 @@
 
 ghost use Rattle.std.specs.Prelude.{◌≡◌, ◌<◌, ◌^◌, true, is_some, length, Ok, IfOk};
 ghost use Rattle.picky_wire.specs.Count.{Rose};
-ghost use Rattle.picky_suite.specs.Asked.{LeavesSuite};
+ghost use Rattle.picky_suite.specs.Asked.{IsAskedAtMost, LeavesSuite};
 ghost use Rattle.picky_ppk_parts.specs.Asked.{GivesUnlessFault};
 ghost use Rattle.picky_ppk_parts.specs.Mac.{mac_bytes};
 ghost use Rattle.picky_ppk_file.specs.File.{params_of};
@@ -41,6 +41,7 @@ impl FileKeys {
             (Rose (S.faults suite.old) (S.faults suite.new)) }
         ensures suite { LeavesSuite S.meanings S.faults PuttyError.SuiteFault (is_some (params_of sealing.now)) result
             suite.old suite.new }
+        ensures asked { IsAskedAtMost 1 S.calls suite.old suite.new }
     {
         match sealing {
             PpkSealing::Unsealed(_) | PpkSealing::SealedV2 => Ok(FileKeys::of_passphrase(

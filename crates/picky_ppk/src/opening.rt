@@ -4,7 +4,7 @@ ghost use Rattle.std.specs.Prelude.{◌≡◌, ◌≢◌, ◌<◌, ◌^◌, true
 ghost use Rattle.picky_wire_base.specs.Outcome.{and_then};
 ghost use Rattle.picky_wire.specs.Count.{Rose};
 ghost use Rattle.picky_wire_base.specs.Gives.{Gives};
-ghost use Rattle.picky_suite.specs.Asked.{GivesAsked, LeavesSuite};
+ghost use Rattle.picky_suite.specs.Asked.{GivesAsked, IsAskedAtMost, LeavesSuite};
 ghost use Rattle.picky_ppk_parts.specs.Aes.{is_aligned};
 ghost use Rattle.picky_ppk_parts.specs.Counted.{counted};
 ghost use Rattle.picky_ppk.specs.Accepted.{MacHolds};
@@ -46,6 +46,7 @@ impl Ppk {
 
         // The answer carries the MAC of its own version and fields.
         ensures mac { IfOk result (λ ppk. CarriesMac (S.meanings suite.old) ppk) }
+        ensures asked { IsAskedAtMost 2 S.calls suite.old suite.new }
     {
         match openable(self.file(), passphrase) {
             Ok(()) => match self.try_clone(alloc) {
@@ -76,6 +77,7 @@ impl Ppk {
 
         // The answer carries the MAC of its own version and fields.
         ensures mac { IfOk result (λ ppk. CarriesMac (S.meanings suite.old) ppk) }
+        ensures asked { IsAskedAtMost 2 S.calls suite.old suite.new }
     {
         match openable(self.file(), passphrase) {
             Ok(()) => opened(alloc, suite, self.into_file(), passphrase),
@@ -117,6 +119,7 @@ fn opened<S: Suite>(
         (decrypted (S.meanings suite.old) passphrase.now file) true (Rose (S.faults suite.old) (S.faults suite.new)) }
     ensures suite { LeavesSuite S.meanings S.faults PuttyError.SuiteFault true result suite.old suite.new }
     ensures mac { IfOk result (λ ppk. CarriesMac (S.meanings suite.old) ppk) }
+    ensures asked { IsAskedAtMost 2 S.calls suite.old suite.new }
 {
     match FileKeys::derive(suite, &file.sealing, passphrase) {
         Ok(keys) => opened_under(alloc, suite, file, &keys),
@@ -142,6 +145,7 @@ fn opened_under<S: Suite>(
         true (Rose (S.faults suite.old) (S.faults suite.new)) }
     ensures suite { LeavesSuite S.meanings S.faults PuttyError.SuiteFault true result suite.old suite.new }
     ensures mac { IfOk result (λ ppk. CarriesMac (S.meanings suite.old) ppk) }
+    ensures asked { IsAskedAtMost 1 S.calls suite.old suite.new }
 {
     let mut file = file;
     let private_bytes = replace(&mut file.private_bytes, Bytes::from_vec(Vec::new(alloc)));

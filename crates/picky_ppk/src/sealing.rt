@@ -2,7 +2,7 @@
 
 ghost use Rattle.std.specs.Prelude.{◌≡◌, ◌≢◌, ◌<◌, ◌^◌, true, false, length, Ok, Err, IfOk, IfErr, OnOk};
 ghost use Rattle.picky_wire.specs.Count.{Rose};
-ghost use Rattle.picky_suite.specs.Asked.{GivesAsked, LeavesSuite};
+ghost use Rattle.picky_suite.specs.Asked.{GivesAsked, IsAskedAtMost, LeavesSuite};
 ghost use Rattle.picky_kv.specs.declared.PpkVersionKey.TheVariants.{V3};
 ghost use Rattle.picky_ppk_parts.specs.Aes.{is_aligned};
 ghost use Rattle.picky_ppk_file.specs.File.{version_of};
@@ -50,6 +50,7 @@ impl Ppk {
         ensures suite { LeavesSuite S.meanings S.faults PuttyError.SuiteFault
             (is_sealable passphrase.now self.now (file_to_seal config salt.now padding.now self.now)) result
             suite.old suite.new }
+        ensures asked { IsAskedAtMost 2 S.calls suite.old suite.new }
     {
         match sealable(self.file(), passphrase, config, salt, padding) {
             Ok(()) => {
@@ -81,6 +82,7 @@ impl Ppk {
         ensures suite { LeavesSuite S.meanings S.faults PuttyError.SuiteFault
             (is_sealable passphrase.now self (file_to_seal config salt.now padding.now self)) result
             suite.old suite.new }
+        ensures asked { IsAskedAtMost 2 S.calls suite.old suite.new }
     {
         match sealable(self.file(), passphrase, config, salt, padding) {
             Ok(()) => {
@@ -117,6 +119,7 @@ impl Ppk {
         ensures drawn { can_draw passphrase.now config self.now ≡ true → result ≢ Err PuttyError.NoMemory
             → R.stream rng.new ≡ (fresh_for config self.now (R.stream rng.old)).left }
         ensures undrawn { can_draw passphrase.now config self.now ≡ false → rng.new ≡ rng.old }
+        ensures asked { IsAskedAtMost 2 S.calls suite.old suite.new }
     {
         match drawable(self.file(), passphrase, config) {
             Ok(()) => match fresh(alloc, self, config, rng) {
@@ -208,6 +211,7 @@ fn sealed<S: Suite>(
         (Ok (seal_draft (S.meanings suite.old) (keys_under (S.meanings suite.old) draft.sealing passphrase.now) draft))
         true (Rose (S.faults suite.old) (S.faults suite.new)) }
     ensures suite { LeavesSuite S.meanings S.faults PuttyError.SuiteFault true result suite.old suite.new }
+    ensures asked { IsAskedAtMost 2 S.calls suite.old suite.new }
 {
     match FileKeys::derive(suite, &draft.sealing, passphrase) {
         Ok(keys) => sealed_under(alloc, suite, draft, &keys),
@@ -231,6 +235,7 @@ fn sealed_under<S: Suite>(
         (Ok (seal_draft (S.meanings suite.old) (keys_seen keys.now) draft))
         true (Rose (S.faults suite.old) (S.faults suite.new)) }
     ensures suite { LeavesSuite S.meanings S.faults PuttyError.SuiteFault true result suite.old suite.new }
+    ensures asked { IsAskedAtMost 1 S.calls suite.old suite.new }
 {
     let mac = match kept_mac(alloc, suite, keys, &draft, draft.private_bytes.as_slice()) {
         Ok(mac) => mac,

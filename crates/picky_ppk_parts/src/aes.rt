@@ -2,7 +2,7 @@
 
 ghost use Rattle.std.specs.Prelude.{◌≡◌, Err};
 ghost use Rattle.picky_wire.specs.Count.{Rose};
-ghost use Rattle.picky_suite.specs.Asked.{LeavesSuite};
+ghost use Rattle.picky_suite.specs.Asked.{IsAskedAtMost, LeavesSuite};
 ghost use Rattle.picky_ppk_parts.specs.Asked.{GivesUnlessFault};
 ghost use Rattle.picky_ppk_parts.specs.Aes.{is_aligned, sealed_message, opened_message};
 
@@ -30,6 +30,7 @@ pub fn encrypt<S: Suite>(
         (Rose (S.faults suite.old) (S.faults suite.new)) }
     ensures suite { LeavesSuite S.meanings S.faults PuttyError.SuiteFault (is_aligned message.old) result suite.old suite.new }
     ensures unchanged { result ≡ Err PuttyError.Aes → message.new ≡ message.old }
+    ensures asked { IsAskedAtMost 1 S.calls suite.old suite.new }
 {
     if message.len() % BLOCK_SIZE != 0 {
         return Err(PuttyError::Aes);
@@ -53,6 +54,7 @@ pub fn decrypt<S: Suite>(
         (Rose (S.faults suite.old) (S.faults suite.new)) }
     ensures suite { LeavesSuite S.meanings S.faults PuttyError.SuiteFault (is_aligned message.old) result suite.old suite.new }
     ensures unchanged { result ≡ Err PuttyError.Aes → message.new ≡ message.old }
+    ensures asked { IsAskedAtMost 1 S.calls suite.old suite.new }
 {
     if message.len() % BLOCK_SIZE != 0 {
         return Err(PuttyError::Aes);

@@ -1,7 +1,7 @@
 //! The keys that a passphrase makes.
 
 ghost use Rattle.std.specs.Prelude.{◌≡◌, ℕ, List, length, Ok, IfOk, IsOk};
-ghost use Rattle.picky_suite.specs.Asked.{LeavesSuite};
+ghost use Rattle.picky_suite.specs.Asked.{IsAskedAtMost, LeavesSuite};
 ghost use Rattle.picky_wire.specs.Count.{Rose};
 ghost use Rattle.picky_ppk_parts.specs.Asked.{GivesUnlessFault};
 ghost use Rattle.picky_ppk_parts.specs.Material.{flavour_named, counted_digest, cipher_key_v2, cipher_iv_v2};
@@ -154,6 +154,7 @@ impl KeyMaterialV3 {
             (Rose (S.faults suite.old) (S.faults suite.new)) }
         ensures suite { LeavesSuite S.meanings S.faults PuttyError.SuiteFault (params_fit params.now passphrase.now)
             result suite.old suite.new }
+        ensures asked { IsAskedAtMost 1 S.calls suite.old suite.new }
     {
         let salt = params.salt.as_slice();
         if !argon2_ok(

@@ -5,7 +5,7 @@ ghost use Rattle.std.specs.Prelude.{IfErr, IfSome, if◌then◌else◌};
 ghost use Rattle.std.specs.Option.{option_copied};
 ghost use Rattle.picky_wire_base.specs.Front.{read_front};
 ghost use Rattle.picky_wire_base.specs.Outcome.{and_then, map_ok};
-ghost use Rattle.picky_suite.specs.Asked.{GivesAsked, LeavesSuite};
+ghost use Rattle.picky_suite.specs.Asked.{GivesAsked, IsAskedAtMost, LeavesSuite};
 ghost use Rattle.picky_suite.specs.Ranges.{BcryptOk, IsWhole};
 ghost use Rattle.picky_wire.specs.Count.{Rose};
 ghost use Rattle.picky_wire_base.specs.Gives.{Gives};
@@ -57,6 +57,7 @@ impl SshPrivateKey {
             (text_asks (option_copied passphrase.entry) text.now) (Rose (S.faults suite.old) (S.faults suite.new)) }
         ensures suite { LeavesSuite S.meanings S.faults SshPrivateKeyError.SuiteFault
             (text_asks (option_copied passphrase.entry) text.now) result suite.old suite.new }
+        ensures asked { IsAskedAtMost 2 S.calls suite.old suite.new }
     {
         match parse_pem(alloc, text) {
             Ok(pem) => SshPrivateKey::from_pem(alloc, suite, &pem, passphrase),
@@ -81,6 +82,7 @@ impl SshPrivateKey {
             (content_asks (option_copied passphrase.entry) pem.now.content) (Rose (S.faults suite.old) (S.faults suite.new)) }
         ensures suite { LeavesSuite S.meanings S.faults SshPrivateKeyError.SuiteFault
             (content_asks (option_copied passphrase.entry) pem.now.content) result suite.old suite.new }
+        ensures asked { IsAskedAtMost 2 S.calls suite.old suite.new }
     {
         match key_found(alloc, suite, pem.content(), passphrase) {
             Ok(found) => match kept(alloc, found) {
@@ -106,6 +108,7 @@ impl SshPrivateKey {
             (text_asks (option_copied passphrase.entry) text.now) (Rose (S.faults suite.old) (S.faults suite.new)) }
         ensures suite { LeavesSuite S.meanings S.faults SshPrivateKeyError.SuiteFault
             (text_asks (option_copied passphrase.entry) text.now) result suite.old suite.new }
+        ensures asked { IsAskedAtMost 2 S.calls suite.old suite.new }
     {
         match parse_pem(alloc, text) {
             Ok(pem) => match key_found(alloc, suite, pem.content(), passphrase) {
@@ -132,6 +135,7 @@ fn key_found<'a, S: Suite>(
         (content_asks (option_copied pass.entry) content.now) (Rose (S.faults suite.old) (S.faults suite.new)) }
     ensures suite { LeavesSuite S.meanings S.faults SshPrivateKeyError.SuiteFault
         (content_asks (option_copied pass.entry) content.now) result suite.old suite.new }
+    ensures asked { IsAskedAtMost 2 S.calls suite.old suite.new }
 {
     let envelope = match short_envelope(content, pass) {
         Ok(envelope) => envelope,
@@ -285,6 +289,7 @@ fn key_sealed<'a, S: Suite>(
         (key_closed (S.meanings suite.old) (option_copied pass.entry) (record { envelope = envelope_seen envelope.now; lock = Some (lock_seen lock.entry) }))
         true (Rose (S.faults suite.old) (S.faults suite.new)) }
     ensures suite { LeavesSuite S.meanings S.faults SshPrivateKeyError.SuiteFault true result suite.old suite.new }
+    ensures asked { IsAskedAtMost 2 S.calls suite.old suite.new }
 {
     let mut block = match Vec::from_slice(alloc, envelope.block) {
         Ok(block) => block,

@@ -1,6 +1,7 @@
 //! A block, opened and sealed in place under a passphrase.
 
 ghost use Rattle.std.specs.Prelude.{◌≡◌, ◌+◌, length, take, drop, true, if◌then◌else◌};
+ghost use Rattle.picky_suite.specs.Asked.{IsAskedAtMost};
 ghost use Rattle.picky_suite.specs.Ranges.{BcryptOk, IsCipherKey, IsWhole};
 ghost use Rattle.picky_suite.specs.Fills.{Fills};
 ghost use Rattle.picky_sshkey.specs.Cipher.{key_len, is_cbc};
@@ -22,9 +23,10 @@ pub fn open<S: Suite>(
 ) -> Result<(), Failed>
     requires range { BcryptOk (length pass.now) (length salt.now) rounds }
     requires whole { is_cbc cipher ≡ true → IsWhole block.old }
-    ensures { Fills S.meanings S.faults
+    ensures fills { Fills S.meanings S.faults
         (opened (S.meanings suite.old) (record { cipher = cipher; pass = pass.now }) (record { salt = salt.now; rounds = rounds }) block.old)
         result block.old block.new suite.old suite.new }
+    ensures asked { IsAskedAtMost 2 S.calls suite.old suite.new }
 {
     match cipher {
         Cipher::Aes128Cbc | Cipher::Aes128Ctr => {
@@ -49,10 +51,11 @@ fn run_cipher<S: Suite>(
 ) -> Result<(), Failed>
     requires len { length derived.now ≡ key_len cipher + 16 }
     requires whole { is_cbc cipher ≡ true → IsWhole block.old }
-    ensures { Fills S.meanings S.faults
+    ensures fills { Fills S.meanings S.faults
         (if is_cbc cipher then (S.meanings suite.old).cbc_open (take (key_len cipher) derived.now) (drop (key_len cipher) derived.now) block.old
         else (S.meanings suite.old).ctr (take (key_len cipher) derived.now) (drop (key_len cipher) derived.now) block.old)
         result block.old block.new suite.old suite.new }
+    ensures asked { IsAskedAtMost 1 S.calls suite.old suite.new }
 {
     let (key, behind) = derived.split_at(cipher.key_len());
     let mut iv = [0; 16];

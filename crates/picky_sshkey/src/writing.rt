@@ -4,7 +4,7 @@ ghost use Rattle.std.specs.Prelude.{◌≡◌, ◌⊎◌, ◌^◌, ◌<◌, ◌�
 ghost use Rattle.std.specs.Prelude.{is_some, IfOk, IfErr, OnOk, vec_len};
 ghost use Rattle.std.specs.List.{concat};
 ghost use Rattle.std.specs.Option.{IfSome};
-ghost use Rattle.picky_suite.specs.Asked.{GivesAsked, LeavesSuite};
+ghost use Rattle.picky_suite.specs.Asked.{GivesAsked, IsAskedAtMost, LeavesSuite};
 ghost use Rattle.picky_wire_base.specs.Wire.{string_of};
 ghost use Rattle.picky_wire.specs.Count.{Rose};
 ghost use Rattle.picky_wire_base.specs.Gives.{Gives};
@@ -51,6 +51,7 @@ impl SshPrivateKey {
         // It is read back under the key's own passphrase, whatever follows.
         ensures read_back { IfOk result (λ pem. (more : List ℕ)
             → content_key (S.meanings suite.old) self.now.passphrase (pem.content ++ more) ≡ Ok (read_again self.now)) }
+        ensures asked { IsAskedAtMost 2 S.calls suite.old suite.new }
     {
         match content_of_key(alloc, suite, self) {
             Ok(content) => Ok(Pem::take(content)),
@@ -73,6 +74,7 @@ impl SshPrivateKey {
         // It is read back under the key's own passphrase, whatever follows.
         ensures read_back { IfOk result (λ text. (more : List ℕ)
             → text_key (S.meanings suite.old) self.now.passphrase (text ++ more) ≡ Ok (read_again self.now)) }
+        ensures asked { IsAskedAtMost 2 S.calls suite.old suite.new }
     {
         match text_of_key(alloc, suite, self) {
             Ok(text) => Ok(text),
@@ -91,6 +93,7 @@ impl SshPrivateKey {
             (Rose (S.faults suite.old) (S.faults suite.new)) result stream.old stream.new }
         ensures suite { LeavesSuite S.meanings S.faults SshPrivateKeyError.SuiteFault (key_writing_asks self.now) result
             suite.old suite.new }
+        ensures asked { IsAskedAtMost 2 S.calls suite.old suite.new }
     {
         match self.to_pem(alloc, suite) {
             Ok(pem) => match write_all(stream, pem.content()) {
@@ -114,6 +117,7 @@ fn content_of_key<S: Suite>(
     ensures suite { LeavesSuite S.meanings S.faults SshPrivateKeyError.SuiteFault (key_writing_asks key.now) result
         suite.old suite.new }
     ensures kept { OnOk result (IsSshPrivateKey key.now) }
+    ensures asked { IsAskedAtMost 2 S.calls suite.old suite.new }
 {
     match private_key_draft(alloc, key) {
         Ok(draft) => match sealed_content(alloc, suite, key, draft) {
@@ -136,6 +140,7 @@ fn text_of_key<S: Suite>(
     ensures suite { LeavesSuite S.meanings S.faults SshPrivateKeyError.SuiteFault (text_writing_asks key.now) result
         suite.old suite.new }
     ensures kept { OnOk result (IsSshPrivateKey key.now) }
+    ensures asked { IsAskedAtMost 2 S.calls suite.old suite.new }
 {
     match private_key_draft(alloc, key) {
         Ok(draft) => {
@@ -166,6 +171,7 @@ fn sealed_content<S: Suite>(
     ensures suite { LeavesSuite S.meanings S.faults SshPrivateKeyError.SuiteFault (is_some (lock_kept key.now.passphrase)) result
         suite.old suite.new }
     ensures len { IfOk result (λ content. vec_len content ≡ draft.len) }
+    ensures asked { IsAskedAtMost 2 S.calls suite.old suite.new }
 {
     let PrivateKeyDraft { outer, block, .. } = draft;
     match &key.passphrase {

@@ -1,9 +1,13 @@
 -- What a call promises that may ask a suite, after it has judged what it was given.
-use Rattle.std.specs.Prelude.{◌≡◌, ◌⊎◌, ℕ, Bool, false, Result, Ok, Err}
+use Rattle.std.specs.Prelude.{◌≡◌, ◌⊎◌, ◌+◌, ◌≤◌, ℕ, Bool, false, Result, Ok, Err}
 use Rattle.picky_wire.specs.Count.{Rose}
 use Rattle.picky_wire.specs.Takes.{Calm}
 use Rattle.picky_suite.specs.Meanings.{Meanings}
 use Rattle.picky_suite.specs.Failures.{IsAskedFault}
+
+-- a device was asked at most so often
+abbrev pub IsAskedAtMost : {S : Type 0} → (n : ℕ) → (calls : S → ℕ) → (old new : S) → Type 0
+IsAskedAtMost n calls old new = calls new ≤ n + calls old
 
 -- the call answers what the definition says, seen by view; in its place want of memory may come, or the device's fault,
 -- where the device was asked and counted one

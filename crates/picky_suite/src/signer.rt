@@ -4,6 +4,7 @@ ghost use Rattle.std.specs.Prelude.{◌^◌, ◌<◌, ℕ, List};
 ghost use Rattle.picky_keys.specs.PrivateKey.{issuer_key};
 ghost use Rattle.picky_keys.specs.declared.public_key.PublicKey.{PublicKey};
 ghost use Rattle.picky_keys.specs.declared.algorithm.SignatureAlgorithm.{SignatureAlgorithm as Algorithm};
+ghost use Rattle.picky_suite.specs.Asked.{IsAskedAtMost};
 ghost use Rattle.picky_suite.specs.Signs.{Signs};
 
 use picky_keys::{Issuer, SignatureAlgorithm};
@@ -30,6 +31,9 @@ pub trait Signer {
     // how many calls failed; it stays at 2^64 - 1
     ghost faults: { Self → ℕ };
 
+    // how often it was asked, at most; a device need not count, and who hands one on can't take two calls for one
+    ghost calls: { Self → ℕ } = { λ _. 0 };
+
     /// A signature of the message, good under the issuer's public key. Refuses: `Failed`; `NoMemory`, with
     /// nothing changed.
     fn sign(
@@ -39,7 +43,8 @@ pub trait Signer {
         algorithm: SignatureAlgorithm,
         message: &[u8],
     ) -> Result<Bytes, SignError>
-        ensures { Signs signs faults (issuer_key issuer.now) algorithm message.now result self.old self.new };
+        ensures asked { IsAskedAtMost 1 calls self.old self.new }
+        ensures signs { Signs signs faults (issuer_key issuer.now) algorithm message.now result self.old self.new };
 
     ghost in_range: { (s : Self) → faults s < 2 ^ 64 };
 }

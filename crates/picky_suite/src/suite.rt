@@ -1,6 +1,7 @@
 //! The cryptography that callers hand in.
 
 ghost use Rattle.std.specs.Prelude.{◌≡◌, ◌^◌, ◌<◌, ℕ, length};
+ghost use Rattle.picky_suite.specs.Asked.{IsAskedAtMost};
 ghost use Rattle.picky_suite.specs.Meanings.{Meanings};
 ghost use Rattle.picky_suite.specs.Ranges.{BcryptOk, Argon2Ok, IsBcryptLen, IsCipherKey, IsWhole};
 ghost use Rattle.picky_suite.specs.Fills.{Fills};
@@ -16,6 +17,9 @@ pub trait Suite {
 
     // how many calls failed; it stays at 2^64 - 1
     ghost faults: { Self → ℕ };
+
+    // how often it was asked, at most; a device need not count, and who hands one on can't take two calls for one
+    ghost calls: { Self → ℕ } = { λ _. 0 };
 
     /// HMAC-SHA-1 of the message, under a key of any length.
     fn hmac_sha1(&self, key: &[u8], message: &[u8]) -> [u8; 20]
@@ -35,7 +39,8 @@ pub trait Suite {
     ) -> Result<(), Failed>
         requires range { BcryptOk (length pass.now) (length salt.now) rounds }
         requires sized { IsBcryptLen (length out.old) }
-        ensures { Fills meanings faults
+        ensures asked { IsAskedAtMost 1 calls self.old self.new }
+        ensures fills { Fills meanings faults
             ((meanings self.old).bcrypt pass.now salt.now rounds (length out.old))
             result out.old out.new self.old self.new };
 
@@ -52,7 +57,8 @@ pub trait Suite {
         out: &mut [u8; 80],
     ) -> Result<(), Failed>
         requires { Argon2Ok memory passes parallelism (length pass.now) (length salt.now) }
-        ensures { Fills meanings faults
+        ensures asked { IsAskedAtMost 1 calls self.old self.new }
+        ensures fills { Fills meanings faults
             ((meanings self.old).argon2 flavour memory passes parallelism pass.now salt.now)
             result out.old out.new self.old self.new };
 
@@ -60,20 +66,23 @@ pub trait Suite {
     fn cbc_seal(&mut self, key: &[u8], iv: &[u8; 16], block: &mut [u8]) -> Result<(), Failed>
         requires key { IsCipherKey key.now }
         requires whole { IsWhole block.old }
-        ensures { Fills meanings faults ((meanings self.old).cbc_seal key.now iv.now block.old)
+        ensures asked { IsAskedAtMost 1 calls self.old self.new }
+        ensures fills { Fills meanings faults ((meanings self.old).cbc_seal key.now iv.now block.old)
             result block.old block.new self.old self.new };
 
     /// Opens whole blocks in place, by AES in CBC mode. Refuses: `Failed`.
     fn cbc_open(&mut self, key: &[u8], iv: &[u8; 16], block: &mut [u8]) -> Result<(), Failed>
         requires key { IsCipherKey key.now }
         requires whole { IsWhole block.old }
-        ensures { Fills meanings faults ((meanings self.old).cbc_open key.now iv.now block.old)
+        ensures asked { IsAskedAtMost 1 calls self.old self.new }
+        ensures fills { Fills meanings faults ((meanings self.old).cbc_open key.now iv.now block.old)
             result block.old block.new self.old self.new };
 
     /// Seals or opens bytes in place, by AES in CTR mode, whose first counter is the iv. Refuses: `Failed`.
     fn ctr(&mut self, key: &[u8], iv: &[u8; 16], block: &mut [u8]) -> Result<(), Failed>
         requires { IsCipherKey key.now }
-        ensures { Fills meanings faults ((meanings self.old).ctr key.now iv.now block.old)
+        ensures asked { IsAskedAtMost 1 calls self.old self.new }
+        ensures fills { Fills meanings faults ((meanings self.old).ctr key.now iv.now block.old)
             result block.old block.new self.old self.new };
 
     ghost in_range: { (s : Self) → faults s < 2 ^ 64 };

@@ -2,7 +2,7 @@
 
 ghost use Rattle.std.specs.Prelude.{◌≡◌, IfOk, IfErr, Ok, Err, take};
 ghost use Rattle.std.specs.Option.{option_copied};
-ghost use Rattle.picky_suite.specs.Asked.{GivesAsked, LeavesSuite};
+ghost use Rattle.picky_suite.specs.Asked.{GivesAsked, IsAskedAtMost, LeavesSuite};
 ghost use Rattle.picky_wire.specs.Count.{Rose};
 ghost use Rattle.picky_wire_base.specs.Gives.{Gives};
 ghost use Rattle.picky_sshkey.specs.Made.{made_option};
@@ -43,6 +43,7 @@ pub fn write_envelope<S: Suite>(
     ensures suite { LeavesSuite S.meanings S.faults (ConvertError.Private SshPrivateKeyError.SuiteFault)
         (envelope_asks (record { pass = option_copied pass.entry; fresh = fresh.now }) key comment.now) result
         suite.old suite.new }
+    ensures asked { IsAskedAtMost 2 S.calls suite.old suite.new }
 {
     match drafted(alloc, key, comment, pass, fresh) {
         Ok(key) => {
@@ -131,6 +132,7 @@ fn text_of_key<S: Suite>(
         (Rose (S.faults suite.old) (S.faults suite.new)) }
     ensures suite { LeavesSuite S.meanings S.faults (ConvertError.Private SshPrivateKeyError.SuiteFault)
         (text_writing_asks key.now) result suite.old suite.new }
+    ensures asked { IsAskedAtMost 2 S.calls suite.old suite.new }
 {
     match key.to_string(alloc, suite) {
         Ok(text) => Ok(text),

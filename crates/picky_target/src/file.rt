@@ -5,7 +5,7 @@ ghost use Rattle.std.specs.Option.{option_copied};
 ghost use Rattle.picky_wire_base.specs.Mpint.{mpint_of};
 ghost use Rattle.picky_wire_base.specs.Zeros.{without_zeros};
 ghost use Rattle.picky_kv.specs.declared.PpkVersionKey.TheVariants.{V3};
-ghost use Rattle.picky_suite.specs.Asked.{GivesAsked, LeavesSuite};
+ghost use Rattle.picky_suite.specs.Asked.{GivesAsked, IsAskedAtMost, LeavesSuite};
 ghost use Rattle.picky_wire.specs.Count.{Rose};
 ghost use Rattle.picky_wire_base.specs.Gives.{Gives};
 ghost use Rattle.picky_sshkey_blob.specs.Key.{public_part};
@@ -52,6 +52,7 @@ pub fn write_file<S: Suite>(
     ensures suite { LeavesSuite S.meanings S.faults (ConvertError.Putty PuttyError.SuiteFault)
         (ppk_writing_asks (S.meanings suite.old) (record { pass = option_copied pass.entry; fresh = fresh.now }) version config key.now comment) result
         suite.old suite.new }
+    ensures asked { IsAskedAtMost 2 S.calls suite.old suite.new }
 {
     if is_security_key(key) {
         return Err(no_such_kind(alloc));
@@ -120,6 +121,7 @@ fn write_sealed<S: Suite>(
         (Rose (S.faults suite.old) (S.faults suite.new)) }
     ensures suite { LeavesSuite S.meanings S.faults (ConvertError.Putty PuttyError.SuiteFault)
         (sealed_asks (S.meanings suite.old) pass.now fresh.now version config key.now comment) result suite.old suite.new }
+    ensures asked { IsAskedAtMost 2 S.calls suite.old suite.new }
 {
     let fresh = match drawn_under(version, config, key, pass, fresh) {
         Ok(fresh) => fresh,
@@ -151,6 +153,7 @@ fn sealed_text<S: Suite>(
     ensures suite { LeavesSuite S.meanings S.faults (ConvertError.Putty PuttyError.SuiteFault)
         (is_sealable pass.now ppk (file_to_seal config fresh.now.salt.now fresh.now.padding.now ppk)) result
         suite.old suite.new }
+    ensures asked { IsAskedAtMost 2 S.calls suite.old suite.new }
 {
     match ppk.into_encrypted(alloc, suite, pass, config, fresh.salt, fresh.padding) {
         Ok(sealed) => {

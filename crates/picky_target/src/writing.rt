@@ -2,7 +2,7 @@
 
 ghost use Rattle.std.specs.Prelude.{Ok, Err};
 ghost use Rattle.std.specs.Option.{option_copied};
-ghost use Rattle.picky_suite.specs.Asked.{GivesAsked, LeavesSuite};
+ghost use Rattle.picky_suite.specs.Asked.{GivesAsked, IsAskedAtMost, LeavesSuite};
 ghost use Rattle.picky_wire.specs.Count.{Rose};
 ghost use Rattle.picky_target.specs.Written.{target_fault, written, writing_asks};
 
@@ -38,6 +38,7 @@ pub fn write_text<S: Suite>(
         (Rose (S.faults suite.old) (S.faults suite.new)) }
     ensures suite { LeavesSuite S.meanings S.faults (target_fault target)
         (writing_asks (record { pass = option_copied pass.entry; fresh = fresh.now }) target meaning) result suite.old suite.new }
+    ensures asked { IsAskedAtMost 2 S.calls suite.old suite.new }
 {
     match target {
         KeyTarget::OpenSsh => {

@@ -16,7 +16,7 @@ returns-in-Ok-content_round-clause-len g c =
     (omega (
       arith,
       ap length block,
-      c.open.ensures.len,
+      c.open.ensures.fills.len,
       c.as_slice-in-Ok.ensures.len,
       ap length c.as_slice-in-Ok.ensures.value,
       ap length c.as_mut_slice.ensures.value,
