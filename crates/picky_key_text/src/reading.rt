@@ -89,6 +89,7 @@ fn read_as<S: Suite>(
         (asks_as form (option_copied pass.entry) input.now) (Rose (S.faults suite.old) (S.faults suite.new)) }
     ensures suite { LeavesSuite S.meanings S.faults (fault_as form) (asks_as form (option_copied pass.entry) input.now) result
         suite.old suite.new }
+    ensures asked { IsAskedAtMost 2 S.calls suite.old suite.new }
 {
     match form {
         Form::Envelope => match SshPrivateKey::base_key_from_pem_str(alloc, suite, input, pass) {
