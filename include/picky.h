@@ -1,8 +1,9 @@
 /*
  * picky from C: SSH keys converted, fingerprinted and taken apart. Every call is proved. ./install PREFIX puts this header and the
- * library there:
+ * library there, as an archive and as a shared library:
  *
  *     cc -IPREFIX/include program.c PREFIX/lib/libpicky.a
+ *     cc program.c $(pkg-config --cflags --libs picky)
  *
  * A key text is UTF-8, in one of five forms, told by how it begins: an OpenSSH private key, a PuTTY private key file, a PuTTY
  * public key, a certificate's line or a public key line (docs/FORMATS.md, "Key text"). It begins with its key: one with a byte
