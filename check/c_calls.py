@@ -28,6 +28,8 @@ TARGETS = {"openssh": 1, "ppk2": 2, "ppk3": 3, "ssh-pub": 4, "putty-pub": 5}
 PARTS = {"type": 1, "blob": 2, "comment": 3}
 PRIVATE_TARGETS, PUTTY_TARGETS = ("openssh", "ppk2", "ppk3"), ("ppk2", "ppk3", "putty-pub")
 UNTOUCHED = b"\xa5"
+# What a library takes of the C library at most, as picky.h says.
+TAKEN = {"malloc", "realloc", "free", "memmove", "memcpy", "memset", "memcmp"}
 
 
 class Call(NamedTuple):
@@ -55,18 +57,43 @@ def fingerprint(name, text, wanted):
 # ---- the library, by examples/python
 
 def module(folder):
-    """examples/python/picky.py as a module, from a folder where libpicky.so stands beside it."""
+    """examples/python/picky.py as a module, from a folder where libpicky.so.0 stands beside it."""
     spec = importlib.util.spec_from_file_location("picky", folder / "picky.py")
     picky = importlib.util.module_from_spec(spec)
     spec.loader.exec_module(picky)
     return picky
 
 
-def linked(archive, folder):
-    """The same in that folder, over what ld makes of the archive: no compiler is needed."""
-    subprocess.run(["ld", "-shared", "-o", folder / "libpicky.so", "--whole-archive", archive, "--no-whole-archive"], check=True)
+def loaded(library, folder):
+    """The same in that folder, over a shared library, or over what ld makes of an archive: no compiler is needed."""
+    made = folder / "libpicky.so.0"
+    if library.suffix == ".a":
+        subprocess.run(["ld", "-shared", "-o", made, "--whole-archive", library, "--no-whole-archive"], check=True)
+    else:
+        shutil.copy(library, made)
     shutil.copy(TOP / "examples/python/picky.py", folder)
     return module(folder)
+
+
+def said_by(*words):
+    return subprocess.run(words, check=True, capture_output=True, text=True).stdout
+
+
+def wrong_symbols(library, text):
+    """What is wrong with the names of a library: it shows those of the header's text alone, and takes few of the C library's."""
+    shared = library.suffix != ".a"
+    rows = [it.split()[-2:] for it in said_by("nm", *["-D"] * shared, library).splitlines() if " " in it]
+    shows = {name for kind, name in rows if kind.isupper() and kind != "U"}
+    takes = {name.partition("@")[0] for kind, name in rows if kind in "Uvw"}
+    if shows != set(header.declared(text)):
+        yield f"it shows {sorted(shows)}, and the header declares {sorted(header.declared(text))}"
+    if not takes <= TAKEN:
+        yield f"it takes {sorted(takes - TAKEN)} of the C library, too"
+    if shared:
+        told = said_by("readelf", "-dW", library)
+        names = re.findall(r"\((NEEDED|SONAME)\).*\[(.*)\]", told)
+        if names != [("NEEDED", "libc.so.6"), ("SONAME", library.name)] or "TEXTREL" in told:
+            yield f"it says of itself {told}"
 
 
 def complaint(picky, numbers, call):

@@ -1,8 +1,9 @@
 /*
  * picky from C: SSH keys converted, fingerprinted and taken apart. Every call is proved. ./install PREFIX puts this header and the
- * library there:
+ * library there, as an archive and as a shared library:
  *
  *     cc -IPREFIX/include program.c PREFIX/lib/libpicky.a
+ *     cc program.c $(pkg-config --cflags --libs picky)
  *
  * A key text is UTF-8, in one of five forms, told by how it begins: an OpenSSH private key, a PuTTY private key file, a PuTTY
  * public key, a certificate's line or a public key line (docs/FORMATS.md, "Key text"). It begins with its key: one with a byte
@@ -52,6 +53,12 @@
 
 #include <stddef.h>
 #include <stdint.h>
+
+/* The version of this header, which is that of the programs beside it (`keyconv --version`). CHANGELOG.md has what changed. */
+#define PICKY_VERSION_MAJOR 0
+#define PICKY_VERSION_MINOR 1
+#define PICKY_VERSION_PATCH 0
+#define PICKY_VERSION "0.1.0"
 
 #ifdef __cplusplus
 extern "C" {
@@ -137,7 +144,8 @@ picky_name picky_error_name(uint32_t error);
 
 /*
  * Errors. A number has none of the values that an error carries in the library for Rattle: of PICKY_PUTTY_INVALID_INPUT which
- * line it is, what was expected there and what stood there; of others a name, a number or the error inside.
+ * line it is, what was expected there and what stood there; of others a name, a number or the error inside. A number of 100 or
+ * more is a sum, as PICKY_INPUT_PUTTY + PICKY_PUTTY_ENCRYPTED. All stand in one enum, since C++26 doesn't add numbers of two.
  */
 enum {
     PICKY_OK = 0,
@@ -152,21 +160,17 @@ enum {
     PICKY_COMMENT_NOT_CARRIED = 9, /* the target can't hold the comment */
     PICKY_FRESH_TOO_SHORT = 10,    /* to encrypt takes more fresh bytes */
     PICKY_TOO_LONG = 11,           /* what is to be written has 2^32 bytes or more */
-    PICKY_TOO_MANY_LINES = 12      /* a block of PuTTY's file has 65,536 lines or more */
-};
+    PICKY_TOO_MANY_LINES = 12,     /* a block of PuTTY's file has 65,536 lines or more */
 
-/* The hundreds of errors. A number in one of them is the sum of the hundred and of an error of its kind, below. */
-enum {
+    /* The hundreds of errors. A number in one of them is the sum of the hundred and of an error of its kind, below. */
     PICKY_INPUT_PRIVATE = 100,  /* read as an OpenSSH private key, the text means no key; plus PICKY_PRIVATE_.. */
     PICKY_INPUT_PUBLIC = 200,   /* read as a public key line, the text means no key; plus PICKY_PUBLIC_.. */
     PICKY_INPUT_CERT = 300,     /* read as a certificate's line, the text means no key; plus PICKY_CERT_.. */
     PICKY_INPUT_PUTTY = 400,    /* read as PuTTY's private or public key, the text means no key; plus PICKY_PUTTY_.. */
     PICKY_OUTPUT_PRIVATE = 500, /* the key can't be encrypted as an OpenSSH private key; plus PICKY_PRIVATE_.. */
-    PICKY_OUTPUT_PUTTY = 600    /* PuTTY has no such key, or it can't be encrypted as its file; plus PICKY_PUTTY_.. */
-};
+    PICKY_OUTPUT_PUTTY = 600,   /* PuTTY has no such key, or it can't be encrypted as its file; plus PICKY_PUTTY_.. */
 
-/* Of OpenSSH private keys. */
-enum {
+    /* Of OpenSSH private keys. */
     PICKY_PRIVATE_FROM_UTF8_ERROR = 0,           /* a string that must be UTF-8 isn't */
     PICKY_PRIVATE_IO_ERROR = 1,                  /* the bytes are cut inside a field */
     PICKY_PRIVATE_UNSUPPORTED_KEY_TYPE = 2,      /* a key type that isn't read here */
@@ -184,22 +188,18 @@ enum {
     PICKY_PRIVATE_SUITE_FAULT = 14,              /* never: it is PICKY_NO_CIPHER */
     PICKY_PRIVATE_TOO_LONG = 15,                 /* there are 2^32 bytes or more */
     PICKY_PRIVATE_NO_MEMORY = 16,                /* never: it is PICKY_NO_MEMORY */
-    PICKY_PRIVATE_PUBLIC_KEY_MISMATCH = 17       /* the public key before the private one is another */
-};
+    PICKY_PRIVATE_PUBLIC_KEY_MISMATCH = 17,      /* the public key before the private one is another */
 
-/* Of public key lines. */
-enum {
+    /* Of public key lines. */
     PICKY_PUBLIC_IO_ERROR = 0,            /* the blob is cut inside a field */
     PICKY_PUBLIC_INVALID_UTF8 = 1,        /* a string that must be UTF-8 isn't */
     PICKY_PUBLIC_BASE64_DECODE_ERROR = 2, /* the second word is no base64 */
     PICKY_PUBLIC_UNKNOWN_KEY_TYPE = 3,    /* the first word, or the name in the blob, names no key type that is read here */
     PICKY_PUBLIC_KEY_ERROR = 4,           /* an Ed25519 key isn't 32 bytes */
     PICKY_PUBLIC_TOO_LONG = 5,            /* there are 2^32 bytes or more */
-    PICKY_PUBLIC_NO_MEMORY = 6            /* never: it is PICKY_NO_MEMORY */
-};
+    PICKY_PUBLIC_NO_MEMORY = 6,           /* never: it is PICKY_NO_MEMORY */
 
-/* Of certificates' lines. */
-enum {
+    /* Of certificates' lines. */
     PICKY_CERT_CERTIFICATE_PROCESSING_ERROR = 0, /* the bytes end inside a field */
     PICKY_CERT_UNSUPPORTED_CERTIFICATE_TYPE = 1, /* a certificate for a DSS key */
     PICKY_CERT_SSH_CRITICAL_OPTION_ERROR = 2,    /* a critical option is refused */
@@ -213,11 +213,9 @@ enum {
     PICKY_CERT_SUBJECT_MISMATCH = 10,            /* never: reading doesn't give it */
     PICKY_CERT_SSH_SIGNATURE_ERROR = 11,         /* the signature is refused; none is verified */
     PICKY_CERT_TOO_LONG = 12,                    /* there are 2^32 bytes or more */
-    PICKY_CERT_NO_MEMORY = 13                    /* never: it is PICKY_NO_MEMORY */
-};
+    PICKY_CERT_NO_MEMORY = 13,                   /* never: it is PICKY_NO_MEMORY */
 
-/* Of PuTTY's files. */
-enum {
+    /* Of PuTTY's files. */
     PICKY_PUTTY_END_OF_INPUT = 0,                    /* a line is missing */
     PICKY_PUTTY_INVALID_INPUT = 1,                   /* a line's key or value, a count or a block is none that is known there */
     PICKY_PUTTY_INVALID_KEY_VALUE_FORMAT = 2,        /* a line has no ": " */

@@ -1,8 +1,9 @@
 #!/usr/bin/env python3
 """picky from Python, by ctypes: a module, and a program that converts a key.
 
-    make && ./picky.py ppk3 < key
+    ./picky.py ppk3 < key
 
+It takes libpicky.so.0 from its own folder, else from where ./install puts it without a PREFIX, else from where the system has it.
 The program takes one of keyconv's "openssh", "ppk2", "ppk3", "ssh-pub" and "putty-pub", or "fingerprint", which prints the SHA-256
 fingerprint alone. Ed25519: PuTTY takes about every second file of "ppk2" and "ppk3" for another secret; pass it through
 `puttyppk`. It refuses as keyconv does, with status 1 and a line on standard error.
@@ -40,7 +41,13 @@ class PickyError(Exception):
         self.number = number
 
 
-def load(path=Path(__file__).with_name("libpicky.so")):
+def library_file(name="libpicky.so.0"):
+    """The library's file in this folder or in lib/ of the repository; its name alone, where neither has it."""
+    here = Path(__file__).resolve().parent
+    return next((it for it in (here / name, here / "../../lib" / name) if it.exists()), name)
+
+
+def load(path=library_file()):
     """The library, with the types of its calls."""
     library = ctypes.CDLL(str(path))
     out = [ctypes.c_char_p, ctypes.c_size_t]
