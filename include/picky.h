@@ -113,7 +113,8 @@ picky_answer picky_convert(picky_bytes text, uint32_t target, picky_bytes pass_i
 
 /*
  * The SHA-256 fingerprint of the key that a text means, as `ssh-keygen -l` prints it: "SHA256:" and 43 characters, of PICKY_BLOB.
- * Of a certificate it is that of the subject's key: no signature is verified.
+ * Those by MD5 and SHA-1, which keyconv prints, too, no call gives: they are these digests of PICKY_BLOB. Of a certificate it is
+ * that of the subject's key: no signature is verified.
  *
  * Reasons, in order: PICKY_TEXT_NOT_UTF8; PICKY_INPUT_..; PICKY_BUFFER_TOO_SMALL.
  */
