@@ -120,7 +120,8 @@ picky_answer picky_convert(picky_bytes text, uint32_t target, picky_bytes pass_i
 
 /*
  * The SHA-256 fingerprint of the key that a text means, as `ssh-keygen -l` prints it: "SHA256:" and 43 characters, of PICKY_BLOB.
- * Of a certificate it is that of the subject's key: no signature is verified.
+ * Those by MD5 and SHA-1, which keyconv prints, too, no call gives: they are these digests of PICKY_BLOB. Of a certificate it is
+ * that of the subject's key: no signature is verified.
  *
  * Reasons, in order: PICKY_TEXT_NOT_UTF8; PICKY_INPUT_..; PICKY_BUFFER_TOO_SMALL.
  */
@@ -141,6 +142,12 @@ picky_answer picky_read_public(picky_bytes text, uint32_t part, void *out, size_
  * a variable first.
  */
 picky_name picky_error_name(uint32_t error);
+
+/*
+ * The version of the library that runs, as PICKY_VERSION is that of the header: they differ where a program was built with another
+ * header than the library's. It is handed out by value, as a name is.
+ */
+picky_name picky_version(void);
 
 /*
  * Errors. A number has none of the values that an error carries in the library for Rattle: of PICKY_PUTTY_INVALID_INPUT which

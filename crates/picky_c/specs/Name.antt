@@ -78,6 +78,10 @@ with_path path (b ∷ more) = path ++ (b ∷ more)
 unfoldable pub error_name : ℕ → List ℕ
 error_name number = with_path (path_to (number / 100)) (leaf_name number)
 
+-- the version of this library
+abbrev pub version : List ℕ
+version = codes "0.1.0"
+
 -- the text is the name, with zeros behind it
 abbrev pub IsNamed : (name text : List ℕ) → Type 0
 IsNamed name text = text ≡ name ++ replicate (48 - length name) 0

@@ -6,12 +6,12 @@ ghost use Rattle.std.specs.Prelude.{false};
 ghost use Rattle.picky_c.specs.Answer.{AnswersCall};
 ghost use Rattle.picky_c.specs.Calls.{IsConverted, IsFingerprint, IsPart, converted as converted_of};
 ghost use Rattle.picky_c.specs.Calls.{converting_is_asked, fingerprint as fingerprint_of, public_part_in};
-ghost use Rattle.picky_c.specs.Name.{IsNamed, error_name};
+ghost use Rattle.picky_c.specs.Name.{IsNamed, error_name, version};
 
 use crate::answer::{PickyAnswer, hand};
 use crate::conversion::converted;
 use crate::given::PickyBytes;
-use crate::name::{PickyName, name_of};
+use crate::name::{PickyName, name_of, version_name};
 use crate::public::{fingerprint, part as part_of_text};
 use std::alloc::Global;
 
@@ -83,4 +83,12 @@ pub extern "C" fn picky_error_name(error: u32) -> PickyName
     ensures { IsNamed (error_name error) result.text }
 {
     name_of(error)
+}
+
+/// The version of this library, and zeros behind it.
+#[unsafe(no_mangle)]
+pub extern "C" fn picky_version() -> PickyName
+    ensures { IsNamed version result.text }
+{
+    version_name()
 }

@@ -1,10 +1,13 @@
 //! The name of each number that a call answers.
 
 ghost use Rattle.std.specs.Prelude.{◌≡◌, ◌+◌, ◌++◌, ◌≤◌, ◌<◌, ◌/◌, [], length, map};
-ghost use Rattle.picky_c.specs.Name.{IsNamed, error_name, leaf_name as leaf_of, names_in, path_to};
+ghost use Rattle.picky_c.specs.Name.{IsNamed, error_name, leaf_name as leaf_of, names_in, path_to, version};
 
 /// How many bytes a name has room for.
 const NAME_LEN: usize = 48;
+
+/// The version of this library.
+const VERSION: &str = "0.1.0";
 
 /// The names of a call itself, by number.
 const OWN: [&str; 13] = [
@@ -119,6 +122,15 @@ pub fn name_of(number: u32) -> PickyName
     }
     PickyName {
         text: joined(path_of(number / 100), name),
+    }
+}
+
+/// The version, as a name.
+pub fn version_name() -> PickyName
+    ensures { IsNamed version result.text }
+{
+    PickyName {
+        text: joined("", VERSION),
     }
 }
 
