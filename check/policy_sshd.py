@@ -265,6 +265,45 @@ def explained(file, offer, now):
     return sorted(left, key=list(RULES).index)
 
 
+# ---- a file for each rule
+
+# By its rule what is offered, and a file that the two differ on by this rule alone. KEY, RSA and CA are public lines.
+SHOWN = {
+    "malformed": ("ed25519", b'expiry-time="x" KEY'),
+    "twice": ("ed25519", b'command="echo a",command="echo a" KEY'),
+    "unknown": ("ed25519", b"no-such-option KEY"),
+    "does": ("ed25519", b'from="10.0.0.0/8" KEY'),
+    "next": ("by ed25519, one", b'cert-authority,principals="nobody" CA\ncert-authority CA'),
+    "authority": ("by ed25519, one", b"cert-authority,cert-authority CA"),
+    "blanks": ("ed25519", b"NAME\tBODY k"),
+    "tab": ("ed25519", b"NAME BODY\tk"),
+    "name": ("ed25519", b"ssh-rsa BODY k"),
+    "sha2": ("rsa", b"rsa-sha2-512 BODY k"),
+    "white": ("ed25519", b"NAME \vBODY k"),
+    "NUL": ("ed25519", b'command="echo \0" KEY'),
+    "behind": ("ed25519", b"NAME BEHIND k"),
+    "numbers": ("rsa", b"NAME NEGATIVE k"),
+    "bytes": ("ed25519", b"KEY \xe9"),
+    "empty": ("ed25519", b"no-pty,,pty KEY"),
+    "principals": ("ed25519", b'principals="root" KEY'),
+    "names": ("by ed25519, one", b'cert-authority,principals="nobody,,%b" CA' % USER.encode()),
+    "demands": ("by ed25519, another's address", b"cert-authority CA"),
+}
+
+
+def shown(rule, lines):
+    """What is offered for a rule, and its file."""
+    name, text = SHOWN[rule]
+    line = lines[name][0]
+    words = line.split()
+    blob = base64.b64decode(words[1])
+    texts = {"KEY": line, "CA": line, "NAME": words[0], "BODY": words[1], "BEHIND": base64.b64encode(blob + b"\0")}
+    if b"NEGATIVE" in text:
+        # The modulus is the last field, and its first byte is zero.
+        texts["NEGATIVE"] = base64.b64encode(blob[:-261] + string(blob[-256:]))
+    return name, re.sub(rb"\b(KEY|CA|NAME|BODY|BEHIND|NEGATIVE)\b", lambda it: texts[it[0].decode()], text) + b"\n"
+
+
 # ---- random files
 
 COMMENTS = [it.encode() for it in ("", "k", "me@host", "two  words", "t\tb", "tab\t", "\u00e9", '"', "a\\", "#", "x" * 99, "\u00a0", "%%")]
