@@ -12,4 +12,4 @@ returns-in-Ok-true-clause-decides g c =
     (line_shown c.in-Some.line) (demands_shown c.in-Ok.demands) c.grant.result
     (sym c.line_for.ensures ∙ ap (option_map line_shown) c.in-Some.is)
     (sym c.judge.ensures ∙ ap (map_ok demands_shown) c.in-Ok.is)
-    (c.in-Ok-true.ensures.says.0 c.in-Ok-true.field-0-test) c.grant.ensures.granted c.grant.ensures.no_fault
+    (c.in-Ok-true.ensures.verifies.says.0 c.in-Ok-true.field-0-test) c.grant.ensures.granted c.grant.ensures.no_fault
