@@ -10,7 +10,7 @@ from typing import NamedTuple, Optional
 from agent_reference import ADD, FAILURE, IDENTITIES, LIST, LOCK, REMOVE, REMOVE_ALL, SIGN, SIGNED, SUCCESS, UNLOCK
 from formats import string, uint32
 from inventory_random import some, some_change
-from inventory_reference import CERT_TYPES, CURVES, KEY_TYPES, RSA, SK_ECDSA, SK_ED25519, Fields, Refused, private_fields, public_key
+from inventory_reference import CERT_TYPES, CURVES, RSA, SK_ECDSA, SK_ED25519, Fields, Refused, private_fields, public_key
 from inventory_texts import render
 
 # Each rule, and how its row of the table in docs/DIFFERENCES.md begins.
@@ -23,11 +23,12 @@ RULES = {
     "DSA": "DSA keys are taken",
     "short": "RSA keys of fewer than 1,024 bits",
     "negative": "13 and 18 with an RSA number without the zero byte",
+    "curve": "an identifier that isn't the name's curve",
     "names": "`rsa-sha2-256`, `rsa-sha2-512` and `rsa` are names",
     "copy": "an Ed25519 key is taken whose copy",
     "behind": "bytes behind a public key's blob",
     "text": "a comment needn't be UTF-8",
-    "NUL": "a NUL in a comment or in an application",
+    "NUL": "a NUL at the end of a comment",
     "passphrase": "22 or 23 with a passphrase that is cut or has NUL",
     "empty": "an empty passphrase doesn't lock",
 }
@@ -63,18 +64,20 @@ class State(NamedTuple):
 # ---- fields
 
 
-def renamed(fields, rules):
-    """The fields of a key under the name of its type."""
-    at = fields.at
-    name = Fields(fields.content[at:]).text()
+def named(content, rules):
+    """The name of a key's type, and its fields under it."""
+    fields = Fields(content)
+    given = fields.string()
+    name = c_string(given, rules).decode()
     other = SHORT_NAMES.get(name if "-" in name else name.lower())
-    if "names" in rules and other:
-        return Fields(string(other.encode()) + fields.content[at + 4 + len(name):])
-    return Fields(fields.content[at:])
+    name = other if "names" in rules and other else name
+    return name, Fields(string(name.encode()) + content[fields.at:])
 
 
-def c_string(content):
+def c_string(content, rules):
     """A string of C's, which may have a NUL at its end, that isn't kept."""
+    if "NUL" not in rules:
+        return content
     if b"\0" in content[:-1]:
         raise Refused("NUL")
     return content.removesuffix(b"\0")
@@ -82,67 +85,62 @@ def c_string(content):
 
 def public_of(blob, rules):
     """The canonical blob."""
-    fields = renamed(Fields(blob), rules)
-    name = fields.text()
-    fields.at = 0
-    if name == DSA and "DSA" in rules:
-        fields.string()
-        return string(DSA.encode()) + b"".join(string(fields.string()) for _ in range(4))
-    judge_public(name, Fields(fields.content), rules)
+    name, fields = named(blob, rules)
+    judge(name, fields.content, rules)
     key = public_key(fields)
     if "behind" in rules and fields.left():
         raise Refused("bytes behind")
     return key
 
 
-def judge_public(name, fields, rules):
-    """Refuses a public key that ssh-agent doesn't take, of which the fields come with its name."""
+def judge(name, content, rules):
+    """Refuses a public key that ssh-agent doesn't take."""
+    fields = Fields(content)
     fields.string()
     if name == RSA:
         numbers = fields.string(), fields.string()
         if "negative" in rules and any(it[:1] >= b"\x80" for it in numbers):
             raise Refused("negative")
-        if "short" in rules and 8 * len(numbers[1].lstrip(b"\0")) < 1024:
+        if "short" in rules and is_short(numbers[1]):
             raise Refused("short")
+    if name in CURVES and "curve" in rules and c_string(fields.string(), rules) != CURVES[name].encode():
+        raise Refused("another curve")
 
 
-def added(state, fields, rules, took, made):
+def is_short(modulus):
+    return int.from_bytes(modulus, "big").bit_length() < 1024
+
+
+def added(state, content, rules, took, made):
     """The state with the key of a message of 17 or 25."""
-    start = fields.content[fields.at:]
-    within = renamed(fields, rules)
-    name, size = Fields(within.content).text(), len(within.content)
+    name, fields = named(content, rules)
     if name == DSA and "DSA" in rules or name in CERT_TYPES and "certificates" in rules:
-        # Those that are sent are as they were made, or have other numbers.
-        if not took:
-            raise Refused("no key")
-        return state.added(string(name.encode()), Identity(b"", False))
-    if name == "ssh-ed25519" and "copy" in rules:
-        other = Fields(within.content)
-        public, secret = [other.string(), other.string()][1], other.string()
-        if len(public) == 32 and len(secret) == 64:
-            at = other.at - 32
-            within = Fields(within.content[:at] + public + within.content[other.at:])
-    if "text" in rules and name in (SK_ECDSA, SK_ED25519):
-        within = Fields(with_ascii_application(name, within.content, rules))
-        size = len(within.content)
-    blob = private_fields(within)
-    key = start[:within.at] if within.content == start else None
-    is_made = name in ("ssh-ed25519", SK_ED25519) or key in made
-    if "short" in rules and name == RSA and 8 * len(Fields(blob[11 + 4 + 3:]).string().lstrip(b"\0")) < 1024:
-        raise Refused("short")
-    if not is_made and "numbers" in rules and not took:
+        blob = b"".join([fields.string() for _ in range(6 if name == DSA else 4)])
+    else:
+        if name == "ssh-ed25519" and "copy" in rules:
+            fields = with_copy(fields)
+        if name in CURVES:
+            judge(name, fields.content, rules)
+        blob = private_fields(fields)
+        if name == RSA and "short" in rules and is_short(Fields(blob[15 + int.from_bytes(blob[11:15], "big"):]).string()):
+            raise Refused("short")
+    is_made = name in ("ssh-ed25519", SK_ED25519) or fields.content[:fields.at] in made
+    if not is_made and not took and ("numbers" in rules or name == DSA or name in CERT_TYPES):
         raise Refused("numbers")
-    comment = within.string()
+    comment = c_string(fields.string(), rules)
     if "text" not in rules:
         comment.decode()
-    if "NUL" in rules:
-        comment = c_string(comment)
-    is_constrained = "constraints" in rules and constrained(within)
-    return state.added(blob, Identity(comment, is_made, is_constrained))
+    return state.added(blob, Identity(comment, is_made, "constraints" in rules and constrained(fields)))
 
 
-def with_ascii_application(name, content, rules):
-    return content
+def with_copy(fields):
+    """An Ed25519 key's fields, with the public key behind the secret."""
+    copied = Fields(fields.content)
+    copied.string()
+    public, secret = copied.string(), copied.string()
+    if len(public) != 32 or len(secret) != 64:
+        return fields
+    return Fields(fields.content[:copied.at - 32] + public + fields.content[copied.at:])
 
 
 def constrained(fields):
@@ -150,8 +148,10 @@ def constrained(fields):
     seen = set()
     while fields.left():
         kind = fields.number(1)
-        if kind not in (1, 2) or kind in seen or kind == 1 and not fields.number():
+        if kind not in (1, 2) or kind in seen:
             raise Refused("constraint")
+        if kind == 1:
+            fields.number()
         seen.add(kind)
     return bool(seen)
 
@@ -196,7 +196,7 @@ def stepped(state, kind, fields, rules, took, made):
     if kind == REMOVE_ALL or kind == REMOVE_ALL_OF_1 and "nine" in rules:
         return bytes([SUCCESS]), state._replace(identities=())
     if kind == ADD or kind == CONSTRAINED and "constrained" in rules:
-        return bytes([SUCCESS]), added(state, fields, rules, took, made)
+        return bytes([SUCCESS]), added(state, fields.content, rules, took, made)
     raise Refused("no such message")
 
 
@@ -235,6 +235,7 @@ CONSTRAINTS = (b"\2", b"\1\0\0\1\0", b"\2\1\0\0\0\x3c", b"\0", b"\2\2", b"x", b"
 
 
 class Key(NamedTuple):
+    """A key that was made, as layouts of inventory_texts."""
     name: str
     public: list
     private: list
@@ -245,7 +246,9 @@ def changed_name(rng, nodes):
 
 
 def some_key(rng, nodes, share):
-    """The nodes of a key, of which a share is changed."""
+    """The nodes of a key, of which a share is changed; those of a device and certificates aren't."""
+    if render(nodes)[4:7] == b"sk-" or b"-cert-" in render(nodes)[:60]:
+        return nodes
     how = rng.random()
     if how < share:
         return some_change(rng, nodes)
@@ -267,7 +270,11 @@ def some_message(rng, keys, state):
         if rng.random() < (0.04 if kind == "add" else 0.8):
             message += rng.choice(CONSTRAINTS)
     elif kind in ("sign", "remove"):
-        public = render(some_key(rng, key.public, 0.06))
+        nodes = key.public
+        if key.name == RSA and rng.random() < 0.1:
+            # The modulus without the zero byte.
+            nodes = [*nodes[:2], [nodes[2][0].lstrip(b"\0")]]
+        public = render(some_key(rng, nodes, 0.06))
         if rng.random() < 0.03:
             public += rng.choice((b"x", b"\0", string(b"")))
         message = bytes([SIGN if kind == "sign" else REMOVE]) + string(public)
