@@ -12,7 +12,7 @@ ghost use Rattle.picky_convert.specs.inner.Fed.{Feeds};
 
 use crate::command::file_of;
 use crate::keys::{kind_of, meaning_of};
-use picky_conversion::{Target, convert};
+use picky_conversion::{ConversionGiven, Target, convert_owned};
 use picky_ppk::PpkVersion;
 use picky_suite::{HandedSigner, Signer, Suite};
 use picky_target::{ConvertError, KeyTarget, write_text};
@@ -173,8 +173,12 @@ fn converted_by<S: Suite, G: Signer>(
     ensures text { IfOk result (λ text. conversion (without_passphrase (S.meanings suite.old)) target from.now ≡ Ok text) }
     ensures suite { suite.new ≡ suite.old }
 {
-    let target = Target::from(target);
-    match convert(alloc, suite, signer, from, None, &target, None, &[]) {
+    let given = ConversionGiven {
+        pass_in: None,
+        pass_out: None,
+        fresh: &[],
+    };
+    match convert_owned(alloc, suite, signer, from, Target::from(target), given) {
         Ok(text) => Ok(text),
         Err(e) => Err(want_of(e)),
     }

@@ -15,23 +15,23 @@ use Rattle.picky_convert.proofs.command.answer_to.Goals as goal
 pub returns-in-Ok-clause-gives : goal.returns-in-Ok-clause-gives
 returns-in-Ok-clause-gives g c =
     let text = c.into_string.ensures.bytes in
-    rw (c.in-Convert.is, text) (rw c.from.ensures at c.in-Ok.ensures.gives)
+    rw (c.in-Convert.is, text) (rw c.from-target.ensures at c.in-Ok.ensures.gives)
 
 pub returns-in-Ok-clause-suite : goal.returns-in-Ok-clause-suite
 returns-in-Ok-clause-suite g c =
-    rw c.in-Convert.is (ok_leaves _ _ _ c.in-Ok.text _ _ _ (rw c.from.ensures at c.in-Ok.ensures.suite))
+    rw c.in-Convert.is (ok_leaves _ _ _ c.in-Ok.text _ _ _ (rw c.from-target.ensures at c.in-Ok.ensures.suite))
 
 pub returns-in-Ok-clause-signer : goal.returns-in-Ok-clause-signer
 returns-in-Ok-clause-signer g c =
-    rw c.in-Convert.is (ok_signs _ _ _ c.in-Ok.text _ _ _ (rw c.from.ensures at c.in-Ok.ensures.signer))
+    rw c.in-Convert.is (ok_signs _ _ _ c.in-Ok.text _ _ _ (rw c.from-target.ensures at c.in-Ok.ensures.signer))
 
 pub returns-in-Err-clause-suite : goal.returns-in-Err-clause-suite
 returns-in-Err-clause-suite g c =
-    rw c.in-Convert.is (still_leaves _ _ _ c.in-Err.e _ _ (rw c.from.ensures at c.in-Err.ensures.suite))
+    rw c.in-Convert.is (still_leaves _ _ _ c.in-Err.e _ _ (rw c.from-target.ensures at c.in-Err.ensures.suite))
 
 pub returns-in-Err-clause-signer : goal.returns-in-Err-clause-signer
 returns-in-Err-clause-signer g c =
-    rw c.in-Convert.is (still_signs _ _ _ c.in-Err.e _ _ (rw c.from.ensures at c.in-Err.ensures.signer))
+    rw c.in-Convert.is (still_signs _ _ _ c.in-Err.e _ _ (rw c.from-target.ensures at c.in-Err.ensures.signer))
 
 pub returns-in-Err-issue-clause-suite : goal.returns-in-Err-issue-clause-suite
 returns-in-Err-issue-clause-suite g c = rw c.in-Certify.is (still_leaves _ _ _ c.in-Err-issue.e _ _ c.in-Err-issue.ensures.suite)

@@ -10,8 +10,8 @@ use Rattle.picky_convert.proofs.texts.converted_by.Goals as goal
 pub want_of-requires : goal.want_of-requires
 want_of-requires g c =
     let m = g.S.Suite.meanings c.args.suite.now in
-    let rose = Rose (g.S.Suite.faults c.args.suite.now) (g.S.Suite.faults c.convert.new.suite) in
-    let signer_rose = Rose (g.G.Signer.faults c.args.signer.now) (g.G.Signer.faults c.convert.new.signer) in
+    let rose = Rose (g.S.Suite.faults c.args.suite.now) (g.S.Suite.faults c.convert_owned.new.suite) in
+    let signer_rose = Rose (g.G.Signer.faults c.args.signer.now) (g.G.Signer.faults c.convert_owned.new.signer) in
     converted_wants (g.G.Signer.signs c.args.signer.now) m c.args.target c.args.from.now c.in-Err.e rose signer_rose c.requires
     (rw c.from.ensures at c.in-Err.ensures.gives)
 
@@ -23,8 +23,8 @@ returns-in-Ok-clause-text g c =
 
 pub returns-in-Ok-clause-suite : goal.returns-in-Ok-clause-suite
 returns-in-Ok-clause-suite g c =
-    c.convert.ensures.suite.unasked (rw c.from.ensures (converting_asks_none (g.S.Suite.meanings c.args.suite.now) c.args.target c.args.from.now))
+    c.convert_owned.ensures.suite.unasked (rw c.from.ensures (converting_asks_none (g.S.Suite.meanings c.args.suite.now) c.args.target c.args.from.now))
 
 pub returns-in-Err-clause-suite : goal.returns-in-Err-clause-suite
 returns-in-Err-clause-suite g c =
-    c.convert.ensures.suite.unasked (rw c.from.ensures (converting_asks_none (g.S.Suite.meanings c.args.suite.now) c.args.target c.args.from.now))
+    c.convert_owned.ensures.suite.unasked (rw c.from.ensures (converting_asks_none (g.S.Suite.meanings c.args.suite.now) c.args.target c.args.from.now))
