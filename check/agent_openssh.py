@@ -182,8 +182,10 @@ def stepped(state, kind, fields, rules, took, made):
             passphrase = None
         if "passphrase" in rules and (passphrase is None or b"\0" in passphrase[:-1]):
             return None, State()
-        if passphrase is None or "empty" in rules and not passphrase or locked == (kind == LOCK) or locked and passphrase != state.passphrase:
+        if passphrase is None or "empty" in rules and not passphrase or locked == (kind == LOCK):
             raise Refused("passphrase")
+        if locked and passphrase != state.passphrase:
+            raise Refused("another passphrase")
         return bytes([SUCCESS]), state._replace(passphrase=None if locked else passphrase)
     if kind == SIGN:
         blob, _, flags = fields.string(), fields.string(), fields.number()
@@ -220,7 +222,7 @@ def explained(state, message, took, made):
     left, theirs = set(ALL), step(state, message, ALL, took, made)
     for rule in RULES:
         if step(state, message, left - {rule}, took, made) == theirs:
-            left.remove(rule)
+            left.discard(rule)
     return tuple(rule for rule in RULES if rule in left)
 
 

@@ -130,6 +130,13 @@ def wrong_numbers(picky, text):
             yield f"{number} is {names.get(number, '')!r}, and the library says {picky.error_name(number)!r}"
 
 
+def wrong_version(picky, text):
+    """A line where the library has another version than the header's text."""
+    version = re.search(r'^#define PICKY_VERSION "(.*)"$', text, re.M)[1]
+    if picky.version() != version:
+        yield f"the library has the version {picky.version()}, and the header {version}"
+
+
 # ---- what other programs wrote
 
 def read_calls(name, text, line):
