@@ -5,11 +5,18 @@
 
 The program takes one of keyconv's "openssh", "ppk2", "ppk3", "ssh-pub" and "putty-pub", or "fingerprint", which prints the SHA-256
 fingerprint alone. Ed25519: PuTTY takes about every second file of "ppk2" and "ppk3" for another secret; pass it through
-`puttyppk`. It refuses as keyconv does, with status 1 and a line on standard error.
+`puttyppk`. It refuses as keyconv does, with status 1 and a line on standard error, and ends with status 4 where standard output
+fails.
 """
+from __future__ import annotations
+
 import ctypes
 import sys
 from pathlib import Path
+from typing import Any, Sequence, Union
+
+# What the library reads: any bytes.
+Data = Union[bytes, bytearray, memoryview]
 
 TARGETS = {"openssh": 1, "ppk2": 2, "ppk3": 3, "ssh-pub": 4, "putty-pub": 5}
 PARTS = {"type": 1, "blob": 2, "comment": 3}
@@ -19,9 +26,10 @@ OK, BUFFER_TOO_SMALL = 0, 1
 class Bytes(ctypes.Structure):
     _fields_ = [("at", ctypes.c_char_p), ("len", ctypes.c_size_t)]
 
-    def __init__(self, data):
-        super().__init__(data, len(data))
-        self.kept = data
+    def __init__(self, data: Data) -> None:
+        kept = data if isinstance(data, bytes) else bytes(memoryview(data))
+        super().__init__(kept, len(kept))
+        self.kept = kept
 
 
 class Answer(ctypes.Structure):
@@ -35,21 +43,26 @@ class Name(ctypes.Structure):
 class PickyError(Exception):
     """A refusal, by its number and its name."""
 
-    def __init__(self, number, name):
-        super().__init__(name)
-        self.number = number
+    def __init__(self, number: int, name: str) -> None:
+        # Both, so that it can be pickled.
+        super().__init__(number, name)
+        self.number, self.name = number, name
+
+    def __str__(self) -> str:
+        return self.name
 
 
-def load(path=Path(__file__).with_name("libpicky.so")):
+def load(path: Path = Path(__file__).with_name("libpicky.so")) -> ctypes.CDLL:
     """The library, with the types of its calls."""
     library = ctypes.CDLL(str(path))
-    out = [ctypes.c_char_p, ctypes.c_size_t]
-    for call, given in (
-        (library.picky_convert, [Bytes, ctypes.c_uint32, Bytes, Bytes, Bytes]),
-        (library.picky_fingerprint, [Bytes]),
-        (library.picky_read_public, [Bytes, ctypes.c_uint32]),
-    ):
-        call.argtypes, call.restype = given + out, Answer
+    taken: dict[str, list[Any]] = {
+        "picky_convert": [Bytes, ctypes.c_uint32, Bytes, Bytes, Bytes],
+        "picky_fingerprint": [Bytes],
+        "picky_read_public": [Bytes, ctypes.c_uint32],
+    }
+    for name, given in taken.items():
+        call = getattr(library, name)
+        call.argtypes, call.restype = [*given, ctypes.c_char_p, ctypes.c_size_t], Answer
     library.picky_error_name.argtypes, library.picky_error_name.restype = [ctypes.c_uint32], Name
     return library
 
@@ -57,12 +70,13 @@ def load(path=Path(__file__).with_name("libpicky.so")):
 library = load()
 
 
-def error_name(number):
+def error_name(number: int) -> str:
     """The name of an error's number; "" where it has none."""
-    return library.picky_error_name(number).text.decode()
+    name: bytes = library.picky_error_name(number).text
+    return name.decode()
 
 
-def handed_out(call, *given):
+def handed_out(call: Any, *given: Any) -> bytes:
     """What a call hands out: asked for with no room first, which tells how much it takes."""
     room = 0
     while True:
@@ -75,34 +89,39 @@ def handed_out(call, *given):
         room = answer.len + 1
 
 
-def convert(text, target, pass_in=b"", pass_out=b"", fresh=b""):
-    """The text of a target, one of TARGETS, for the key and the comment that a text means."""
-    return handed_out(library.picky_convert, Bytes(text), TARGETS[target], Bytes(pass_in), Bytes(pass_out), Bytes(fresh))
+def convert(text: Data, target: str, pass_in: Data = b"", pass_out: Data = b"", fresh: Data = b"") -> bytes:
+    """The text of a target, one of TARGETS, for the key and the comment that a text means. Another is refused: NoSuchTarget."""
+    number = TARGETS.get(target, 0)
+    return handed_out(library.picky_convert, Bytes(text), number, Bytes(pass_in), Bytes(pass_out), Bytes(fresh))
 
 
-def fingerprint(text):
+def fingerprint(text: Data) -> str:
     """The SHA-256 fingerprint of the key that a text means."""
     return handed_out(library.picky_fingerprint, Bytes(text)).decode()
 
 
-def read_public(text, part):
-    """A part, one of PARTS, of the public key that a text means."""
-    return handed_out(library.picky_read_public, Bytes(text), PARTS[part])
+def read_public(text: Data, part: str) -> bytes:
+    """A part, one of PARTS, of the public key that a text means. Another is refused: NoSuchPart."""
+    return handed_out(library.picky_read_public, Bytes(text), PARTS.get(part, 0))
 
 
-def main(words):
+def main(words: Sequence[str]) -> int:
     if len(words) != 1 or words[0] not in {*TARGETS, "fingerprint"}:
         print("usage: picky.py openssh|ppk2|ppk3|ssh-pub|putty-pub|fingerprint < KEY", file=sys.stderr)
         return 2
     text = sys.stdin.buffer.read()
     try:
-        if words[0] == "fingerprint":
-            print(fingerprint(text))
-        else:
-            sys.stdout.buffer.write(convert(text, words[0]))
+        out = fingerprint(text).encode() + b"\n" if words[0] == "fingerprint" else convert(text, words[0])
     except PickyError as refusal:
         print(f"picky.py: {refusal}", file=sys.stderr)
         return 1
+    try:
+        # Its own buffer, since Python writes out that of sys.stdout once more at its end.
+        with open(1, "wb", closefd=False) as stream:
+            stream.write(out)
+    except OSError:
+        print("picky.py: write fault", file=sys.stderr)
+        return 4
     return 0
 
 
