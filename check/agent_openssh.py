@@ -182,8 +182,10 @@ def stepped(state, kind, fields, rules, took, made):
             passphrase = None
         if "passphrase" in rules and (passphrase is None or b"\0" in passphrase[:-1]):
             return None, State()
-        if passphrase is None or "empty" in rules and not passphrase or locked == (kind == LOCK) or locked and passphrase != state.passphrase:
+        if passphrase is None or "empty" in rules and not passphrase or locked == (kind == LOCK):
             raise Refused("passphrase")
+        if locked and passphrase != state.passphrase:
+            raise Refused("another passphrase")
         return bytes([SUCCESS]), state._replace(passphrase=None if locked else passphrase)
     if kind == SIGN:
         blob, _, flags = fields.string(), fields.string(), fields.number()

@@ -1,8 +1,8 @@
 """What sshd of OpenSSH 9.2 does with a file of authorized keys, and the random files that check/policy_with_openssh tries.
 
-`outcome(file, offer, rules)` is what keypolicy decides, changed by these rules: under none of them it is keypolicy's decision, under
-all of them sshd's. So the rules are what the two differ by, and a difference that they don't explain is a new one. Each rule is a
-row of docs/DIFFERENCES.md.
+`outcome(file, offer, rules)` is what keypolicy decides, changed by these rules: under none of them it is keypolicy's decision, and
+under all of them sshd's. So the rules are what the two differ by, and a difference that they don't explain is a new one. Each rule
+is a row of docs/DIFFERENCES.md.
 """
 import base64
 import datetime
@@ -59,15 +59,18 @@ class Offer(NamedTuple):
 
 # ---- a line
 
+# Names of RSA keys to sshd, and short names, which it takes inside a blob alone, in either case.
+SHA2, SHORT = ("rsa-sha2-256", "rsa-sha2-512"), {"rsa": "ssh-rsa", "ed25519": "ssh-ed25519"}
+
 
 def blob_of(body, rules):
-    """The name in a blob, and the canonical blob."""
+    """The canonical blob of some base64."""
     if not body.isascii():
         raise Refused("base64")
     fields = Fields(unbase64(body, "base64"))
     name = fields.text()
     if "numbers" in rules and name == "ssh-rsa":
-        if any(Fields.string(fields)[:1] >= b"\x80" for _ in range(2)):
+        if any(fields.string()[:1] >= b"\x80" for _ in range(2)):
             raise Refused("a negative number")
     elif "numbers" in rules and name.startswith("ecdsa-") and fields.text() != name[-8:]:
         raise Refused("another curve")
@@ -79,9 +82,6 @@ def blob_of(body, rules):
     if "behind" in rules and fields.left():
         raise Refused("bytes behind")
     return key
-
-
-SHA2, SHORT = ("rsa-sha2-256", "rsa-sha2-512"), {"rsa": "ssh-rsa", "ed25519": "ssh-ed25519"}
 
 
 def names(rules):
@@ -220,7 +220,8 @@ def lets_in(options, offer, rules, now):
     if not offer.is_certificate:
         return listed is None or "principals" not in rules
     line, demanded = value_of(options, "command"), offer.command
-    if "demands" in rules and (None not in (line, demanded) and line != demanded or offer.source and not fits_address(offer.source)):
+    is_met = (None in (line, demanded) or line == demanded) and (not offer.source or fits_address(offer.source))
+    if "demands" in rules and not is_met:
         return False
     if not offer.is_valid:
         return False
