@@ -222,7 +222,7 @@ def explained(state, message, took, made):
     left, theirs = set(ALL), step(state, message, ALL, took, made)
     for rule in RULES:
         if step(state, message, left - {rule}, took, made) == theirs:
-            left.remove(rule)
+            left.discard(rule)
     return tuple(rule for rule in RULES if rule in left)
 
 

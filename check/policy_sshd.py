@@ -262,7 +262,7 @@ def explained(file, offer, now):
     left, theirs = set(ALL), outcome(file, offer, ALL, now)
     for rule in RULES:
         if outcome(file, offer, left - {rule}, now) == theirs:
-            left.remove(rule)
+            left.discard(rule)
     return sorted(left, key=list(RULES).index)
 
 
