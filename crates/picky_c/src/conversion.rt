@@ -82,6 +82,7 @@ fn converted_text(
         fresh,
     );
     drop(signer);
+    drop(target);
     match converted {
         Ok(text) => Ok(text.into_string().into_bytes()),
         Err(e) => Err(refusal(e)),

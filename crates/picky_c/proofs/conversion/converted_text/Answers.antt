@@ -8,5 +8,5 @@ use Rattle.picky_c.proofs.conversion.converted_text.Goals as goal
 pub returns-in-Err-clause-gives : goal.returns-in-Err-clause-gives
 returns-in-Err-clause-gives c =
     conversion_refusal (SignsAsHanded c.new-signer.result) _ (option_copied c.args.pass_in) (option_copied c.args.pass_out)
-    c.args.fresh.now (way_to c.from.result) c.args.target c.args.text.now c.in-Err.e c.refusal.result _ _
-    c.new-suite.ensures.meanings c.from.ensures c.refusal.ensures c.in-Err.ensures.gives
+    c.args.fresh.now (way_to c.from-target.result) c.args.target c.args.text.now c.in-Err.e c.refusal.result _ _
+    c.new-suite.ensures.meanings c.from-target.ensures c.refusal.ensures c.in-Err.ensures.gives
