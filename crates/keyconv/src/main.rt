@@ -8,7 +8,6 @@ use picky_wire::{Bytes, StdSink, StdSource, Text};
 use std::process::ExitCode;
 
 const HELP: &str = "usage: keyconv COMMAND [OPTION VALUE]... < KEY, or keyconv sample N
-
 An Ed25519 key for PuTTY: keyconv ppk3 < key | puttyppk > key.ppk. Without
 puttyppk PuTTY takes about every second such file, silently, for another secret.
 
