@@ -211,6 +211,8 @@ pub use Rattle.picky_key_text.specs.PpkText
 pub use Rattle.picky_key_text.specs.Reader
 pub use Rattle.picky_key_text.specs.Reads
 pub use Rattle.picky_key_text.specs.Want as KeyTextWant
+pub use Rattle.picky_shown.specs.Bits
+pub use Rattle.picky_shown.specs.Shown as TextShown
 pub use Rattle.picky_target.specs.Carried
 pub use Rattle.picky_target.specs.Drafts
 pub use Rattle.picky_target.specs.Judged

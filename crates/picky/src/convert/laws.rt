@@ -5,4 +5,5 @@ pub use picky_convert::{laws as program, sample_laws as sample_keys};
 pub use picky_input::laws as input;
 pub use picky_issuing::laws as issuing;
 pub use picky_key_text::laws as key_text;
+pub use picky_shown::laws as shown;
 pub use picky_target::laws as target;
