@@ -220,6 +220,7 @@ pub use Rattle.picky_target.specs.Output as TargetOutput
 pub use Rattle.picky_target.specs.ReadBack as TargetReadBack
 pub use Rattle.picky_target.specs.Texts
 pub use Rattle.picky_target.specs.Written as TargetWritten
+pub use Rattle.picky_changed.specs.Comment
 pub use Rattle.picky_issuing.specs.NamedPayload
 pub use Rattle.picky_issuing.specs.OptionWord
 pub use Rattle.picky_issuing.specs.Options as IssuingOptions

@@ -1,5 +1,6 @@
 //! The laws of conversions, each the contract of a function that does nothing: a call of it states the law.
 
+pub use picky_changed::laws as changed;
 pub use picky_conversion::{certificate_laws as certificate, laws as conversion};
 pub use picky_convert::{laws as program, sample_laws as sample_keys};
 pub use picky_input::laws as input;
