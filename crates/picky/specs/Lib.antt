@@ -211,6 +211,8 @@ pub use Rattle.picky_key_text.specs.PpkText
 pub use Rattle.picky_key_text.specs.Reader
 pub use Rattle.picky_key_text.specs.Reads
 pub use Rattle.picky_key_text.specs.Want as KeyTextWant
+pub use Rattle.picky_shown.specs.Bits
+pub use Rattle.picky_shown.specs.Shown as TextShown
 pub use Rattle.picky_target.specs.Carried
 pub use Rattle.picky_target.specs.Drafts
 pub use Rattle.picky_target.specs.Judged
@@ -218,6 +220,7 @@ pub use Rattle.picky_target.specs.Output as TargetOutput
 pub use Rattle.picky_target.specs.ReadBack as TargetReadBack
 pub use Rattle.picky_target.specs.Texts
 pub use Rattle.picky_target.specs.Written as TargetWritten
+pub use Rattle.picky_changed.specs.Comment
 pub use Rattle.picky_issuing.specs.NamedPayload
 pub use Rattle.picky_issuing.specs.OptionWord
 pub use Rattle.picky_issuing.specs.Options as IssuingOptions

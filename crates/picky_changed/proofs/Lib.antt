@@ -1,0 +1,2 @@
+mod UnaskedLemmas
+pub mod CommentLaws

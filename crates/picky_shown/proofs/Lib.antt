@@ -1,0 +1,5 @@
+mod BitsLemmas
+mod OpenLemmas
+mod EqualityLemmas
+pub mod ShownLaws
+pub mod RefusalLaws
