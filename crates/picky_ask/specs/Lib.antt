@@ -5,3 +5,6 @@ pub mod Operation
 pub mod Algorithm
 pub mod Head
 pub mod Question
+pub mod Whole
+pub mod Table
+pub mod inner

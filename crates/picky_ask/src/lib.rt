@@ -6,7 +6,10 @@
 //! Read first: `specs/Head.antt`, `specs/Lookup.antt` and `specs/Known.antt`; then `src/laws.rt`.
 #![tactic(auto)]
 
+mod head_view;
 mod operation;
 mod question;
+mod table;
 
 pub use question::{Entry, Head, Question};
+pub use table::{Table, TableError};

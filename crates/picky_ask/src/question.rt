@@ -1,6 +1,6 @@
 //! Questions, as values and as bytes, and their answers.
 
-ghost use Rattle.std.specs.Prelude.{◌≡◌, ◌^◌, ◌<◌, ◌≤◌, ◌↔◌, ◌++◌, length, IfOk, OnOk, IsErrOf};
+ghost use Rattle.std.specs.Prelude.{◌≡◌, ◌^◌, ◌<◌, ◌≤◌, ◌++◌, length, IfOk, OnOk, IsErrOf};
 ghost use Rattle.std.specs.List.{concat};
 ghost use Rattle.picky_wire_base.specs.Wire.{string_of};
 ghost use Rattle.std.specs.Int.{w8, to_be_bytes};
@@ -67,7 +67,7 @@ impl Question {
     pub fn to_bytes(&self, alloc: Global) -> Result<Vec<u8>, SizeError>
         ensures ok { IfOk result (λ bytes. bytes.items ≡ question_of self.now) }
         ensures whole { OnOk result (IsQuestion self.now) }
-        ensures too_long { IsErrOf result SizeError.TooLong ↔ (2 ^ 32 ≤ length (head_of self.now.head)) }
+        ensures too_long_only_if_long { IsErrOf result SizeError.TooLong → 2 ^ 32 ≤ length (head_of self.now.head) }
     {
         let head = match head_bytes(alloc, &self.head) {
             Ok(head) => head,
