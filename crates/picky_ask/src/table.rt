@@ -88,7 +88,7 @@ fn entries_of(alloc: Global, bytes: &[u8]) -> Result<Vec<Entry>, TableError>
 {
     let mut entries = Vec::new(alloc);
     let mut rest = bytes;
-    'entries: while !rest.is_empty() {
+    'entries: while rest.len() > 0 {
         let (entry, more) = match entry_in(alloc, rest) {
             Ok(found) => found,
             Err(e) => return Err(e),
@@ -149,12 +149,13 @@ fn entry_of_parts(
 }
 
 /// The head that the bytes are, all of them. Refuses: `NoQuestion`.
+#[tactic(auto, using(crate::proofs::TableLemmas::whole_heads))]
 fn one_head(alloc: Global, bytes: &[u8]) -> Result<Head, TableError>
     ensures { Gives TableError.NoMemory (λ head. head) result (whole_only TableError.NoQuestion (head_layout.read bytes.now)) }
 {
     match head_at(bytes, 0) {
         Ok((view, end)) => {
-            if end != bytes.len() {
+            if end < bytes.len() {
                 return Err(TableError::NoQuestion);
             }
             match head_copy(alloc, &view) {
