@@ -1,1 +1,7 @@
 pub mod TableLemmas
+pub mod SameLemmas
+pub mod LookupLemmas
+pub mod KnownLemmas
+pub mod QuestionLaws
+pub mod TableLaws
+pub mod SignLemmas

@@ -1,1 +1,2 @@
 pub mod HeadView
+pub mod Finding

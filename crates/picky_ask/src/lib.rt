@@ -7,9 +7,19 @@
 #![tactic(auto)]
 
 mod head_view;
+mod known;
+pub mod laws;
+mod lookup;
+mod missing;
 mod operation;
 mod question;
+mod signer;
+mod suite;
 mod table;
 
+pub use known::Known;
+pub use missing::Missing;
 pub use question::{Entry, Head, Question};
+pub use signer::AnsweredSigner;
+pub use suite::AnsweredSuite;
 pub use table::{Table, TableError};
