@@ -5,3 +5,4 @@ pub mod KnownLemmas
 pub mod QuestionLaws
 pub mod TableLaws
 pub mod SignLemmas
+pub mod SettleLemmas

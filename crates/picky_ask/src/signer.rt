@@ -1,13 +1,10 @@
 //! The signer whose signatures the caller gives.
 
-ghost use Rattle.std.specs.Prelude.{◌≡◌, ◌-◌, ◌^◌, ℕ, List, None, Some, min, IfOk};
+ghost use Rattle.std.specs.Prelude.{◌≡◌, ◌-◌, ◌^◌, List, Some, min, IfOk};
 ghost use Rattle.std.proofs.Common.{arith};
 ghost use Rattle.picky_keys.specs.PrivateKey.{issuer_key};
 ghost use Rattle.picky_keys.specs.PublicKey.{key_shown};
 ghost use Rattle.picky_keys.specs.Blob.{blob_of};
-ghost use Rattle.picky_keys.specs.declared.public_key.PublicKey.{PublicKey as AKey};
-ghost use Rattle.picky_keys.specs.declared.algorithm.SignatureAlgorithm.{SignatureAlgorithm as Algorithm};
-ghost use Rattle.picky_suite.specs.Signs.{Signs};
 ghost use Rattle.picky_ask.specs.declared.question.Entry.{Entry as AnEntry};
 ghost use Rattle.picky_ask.specs.Signing.{LooksUpSignature, SignsByTable, base_key_of, sign_question as sign_question_of};
 ghost use Rattle.picky_ask.specs.State.{IsState, fresh as fresh_state};
@@ -67,28 +64,17 @@ impl<'t, K: Known> AnsweredSigner<'t, K> {
         let AnsweredSigner { missing, .. } = self;
         missing
     }
-}
 
-impl<K: Known> Signer for AnsweredSigner<'_, K> {
-    ghost signs = { SignsByTable };
-
-    ghost faults = { λ s. min s.faults (2 ^ 64 - 1) };
-
-    ghost in_range = { λ s. Prim.omega arith };
-
-    fn sign(
+    /// The table's signature of the message, under the issuer's public key. Refuses: `Failed`; `NoMemory`, with nothing changed.
+    pub fn ask_signature(
         &mut self,
         alloc: Global,
         issuer: &Issuer,
         algorithm: SignatureAlgorithm,
         message: &[u8],
     ) -> Result<Bytes, SignError>
-        ensures looks { LooksUpSignature (sign_question_of (issuer_key issuer.now) algorithm message.now)
+        ensures { LooksUpSignature (sign_question_of (issuer_key issuer.now) algorithm message.now)
             result self.old self.new }
-
-        // What every signer promises.
-        ensures signs { Signs SignsByTable (λ s. min s.faults (2 ^ 64 - 1))
-            (issuer_key issuer.now) algorithm message.now result self.old self.new }
     {
         let question = match sign_question(alloc, issuer.public(), algorithm, message) {
             Ok(question) => question,
@@ -105,6 +91,24 @@ impl<K: Known> Signer for AnsweredSigner<'_, K> {
                 Err(SignError::Failed)
             }
         }
+    }
+}
+
+impl<K: Known> Signer for AnsweredSigner<'_, K> {
+    ghost signs = { SignsByTable };
+
+    ghost faults = { λ s. min s.faults (2 ^ 64 - 1) };
+
+    ghost in_range = { λ s. Prim.omega arith };
+
+    fn sign(
+        &mut self,
+        alloc: Global,
+        issuer: &Issuer,
+        algorithm: SignatureAlgorithm,
+        message: &[u8],
+    ) -> Result<Bytes, SignError> {
+        self.ask_signature(alloc, issuer, algorithm, message)
     }
 }
 

@@ -3,8 +3,7 @@
 ghost use Rattle.std.specs.Prelude.{◌≡◌, ◌-◌, ◌^◌, ◌<◌, ℕ, List, None, Some, Ok, Err, length, min, IfOk, IsErr, OnOk};
 ghost use Rattle.std.proofs.Common.{arith};
 ghost use Rattle.picky_wire_base.specs.Numbers.{IsBytes};
-ghost use Rattle.picky_suite.specs.Fills.{Fills};
-ghost use Rattle.picky_suite.specs.Ranges.{BcryptOk, Argon2Ok, IsBcryptLen, IsCipherKey, IsWhole};
+ghost use Rattle.picky_suite.specs.Ranges.{IsBcryptLen};
 ghost use Rattle.picky_ask.specs.declared.lookup.Mode.TheVariants as modes;
 ghost use Rattle.picky_ask.specs.declared.question.Head.TheVariants as heads;
 ghost use Rattle.picky_ask.specs.declared.question.Question.{Question as AQuestion};
@@ -70,6 +69,78 @@ impl<'t, K: Known> AnsweredSuite<'t, K> {
     {
         let AnsweredSuite { missing, .. } = self;
         missing
+    }
+
+    /// Derives by bcrypt-pbkdf, as the table says. Refuses: `Failed`.
+    pub fn ask_bcrypt(
+        &mut self,
+        pass: &[u8],
+        salt: &[u8],
+        rounds: u32,
+        out: &mut [u8],
+    ) -> Result<(), Failed>
+        requires { IsBcryptLen (length out.old) }
+        ensures looks { LooksUp (derivation (asked_question (heads.Bcrypt (length out.old) rounds salt.now) pass.now)
+            (length out.old) self.old.entries) result out.new self.old self.new }
+        ensures len { length out.new ≡ length out.old }
+        ensures bytes { OnOk result (IsBytes out.new) }
+    {
+        let asked = bcrypt_question(self.alloc, pass, salt, rounds, out.len() as u32);
+        self.derive(asked, out)
+    }
+
+    /// Derives by Argon2, as the table says. Refuses: `Failed`.
+    pub fn ask_argon2(
+        &mut self,
+        flavour: Flavour,
+        memory: u32,
+        passes: u32,
+        parallelism: u32,
+        pass: &[u8],
+        salt: &[u8],
+        out: &mut [u8],
+    ) -> Result<(), Failed>
+        ensures looks { LooksUp (derivation
+            (asked_question (heads.Argon2 flavour memory passes parallelism salt.now) pass.now)
+            (length out.old) self.old.entries) result out.new self.old self.new }
+        ensures len { length out.new ≡ length out.old }
+        ensures bytes { OnOk result (IsBytes out.new) }
+    {
+        let asked = argon2_question(self.alloc, flavour, memory, passes, parallelism, pass, salt);
+        self.derive(asked, out)
+    }
+
+    /// Seals by AES in CBC mode, as the table says. Refuses: `Failed`.
+    pub fn ask_seal(&mut self, key: &[u8], iv: &[u8; 16], block: &mut [u8]) -> Result<(), Failed>
+        ensures looks { LooksUp (exchange modes.Cbc key.now iv.now (asked_question (heads.CbcSeal key.now iv.now) block.old)
+            self.old.entries) result block.new self.old self.new }
+        ensures len { length block.new ≡ length block.old }
+        ensures bytes { OnOk result (IsBytes block.new) }
+    {
+        let asked = seal_question(self.alloc, key, iv, block);
+        self.exchange(Mode::Cbc, key, iv, asked, block)
+    }
+
+    /// Opens by AES in CBC mode, as the table says. Refuses: `Failed`.
+    pub fn ask_open(&mut self, key: &[u8], iv: &[u8; 16], block: &mut [u8]) -> Result<(), Failed>
+        ensures looks { LooksUp (exchange modes.Cbc key.now iv.now (asked_question (heads.CbcOpen key.now iv.now) block.old)
+            self.old.entries) result block.new self.old self.new }
+        ensures len { length block.new ≡ length block.old }
+        ensures bytes { OnOk result (IsBytes block.new) }
+    {
+        let asked = open_question(self.alloc, key, iv, block);
+        self.exchange(Mode::Cbc, key, iv, asked, block)
+    }
+
+    /// Seals or opens by AES in CTR mode, as the table says. Refuses: `Failed`.
+    pub fn ask_ctr(&mut self, key: &[u8], iv: &[u8; 16], block: &mut [u8]) -> Result<(), Failed>
+        ensures looks { LooksUp (exchange modes.Ctr key.now iv.now (asked_question (heads.Ctr key.now iv.now) block.old)
+            self.old.entries) result block.new self.old self.new }
+        ensures len { length block.new ≡ length block.old }
+        ensures bytes { OnOk result (IsBytes block.new) }
+    {
+        let asked = ctr_question(self.alloc, key, iv, block);
+        self.exchange(Mode::Ctr, key, iv, asked, block)
     }
 
     // Fills the buffer with the answer to a question, of its length.
@@ -171,19 +242,8 @@ impl<K: Known> Suite for AnsweredSuite<'_, K> {
         salt: &[u8],
         rounds: u32,
         out: &mut [u8],
-    ) -> Result<(), Failed>
-        requires range { BcryptOk (length pass.now) (length salt.now) rounds }
-        requires sized { IsBcryptLen (length out.old) }
-        ensures looks { LooksUp (derivation (asked_question (heads.Bcrypt (length out.old) rounds salt.now) pass.now)
-            (length out.old) self.old.entries) result out.new self.old self.new }
-
-        // What every suite promises.
-        ensures fills { Fills (λ s. meant K.known s.entries) (λ s. min s.faults (2 ^ 64 - 1))
-            ((meant K.known self.old.entries).bcrypt pass.now salt.now rounds (length out.old))
-            result out.old out.new self.old self.new }
-    {
-        let asked = bcrypt_question(self.alloc, pass, salt, rounds, out.len() as u32);
-        self.derive(asked, out)
+    ) -> Result<(), Failed> {
+        self.ask_bcrypt(pass, salt, rounds, out)
     }
 
     fn argon2(
@@ -195,63 +255,20 @@ impl<K: Known> Suite for AnsweredSuite<'_, K> {
         pass: &[u8],
         salt: &[u8],
         out: &mut [u8; 80],
-    ) -> Result<(), Failed>
-        requires { Argon2Ok memory passes parallelism (length pass.now) (length salt.now) }
-        ensures looks { LooksUp (derivation
-            (asked_question (heads.Argon2 flavour memory passes parallelism salt.now) pass.now)
-            80 self.old.entries) result out.new self.old self.new }
-
-        // What every suite promises.
-        ensures fills { Fills (λ s. meant K.known s.entries) (λ s. min s.faults (2 ^ 64 - 1))
-            ((meant K.known self.old.entries).argon2 flavour memory passes parallelism pass.now salt.now)
-            result out.old out.new self.old self.new }
-    {
-        let asked = argon2_question(self.alloc, flavour, memory, passes, parallelism, pass, salt);
-        self.derive(asked, out)
+    ) -> Result<(), Failed> {
+        self.ask_argon2(flavour, memory, passes, parallelism, pass, salt, out)
     }
 
-    fn cbc_seal(&mut self, key: &[u8], iv: &[u8; 16], block: &mut [u8]) -> Result<(), Failed>
-        requires key { IsCipherKey key.now }
-        requires whole { IsWhole block.old }
-        ensures looks { LooksUp (exchange modes.Cbc key.now iv.now (asked_question (heads.CbcSeal key.now iv.now) block.old)
-            self.old.entries) result block.new self.old self.new }
-
-        // What every suite promises.
-        ensures fills { Fills (λ s. meant K.known s.entries) (λ s. min s.faults (2 ^ 64 - 1))
-            ((meant K.known self.old.entries).cbc_seal key.now iv.now block.old)
-            result block.old block.new self.old self.new }
-    {
-        let asked = seal_question(self.alloc, key, iv, block);
-        self.exchange(Mode::Cbc, key, iv, asked, block)
+    fn cbc_seal(&mut self, key: &[u8], iv: &[u8; 16], block: &mut [u8]) -> Result<(), Failed> {
+        self.ask_seal(key, iv, block)
     }
 
-    fn cbc_open(&mut self, key: &[u8], iv: &[u8; 16], block: &mut [u8]) -> Result<(), Failed>
-        requires key { IsCipherKey key.now }
-        requires whole { IsWhole block.old }
-        ensures looks { LooksUp (exchange modes.Cbc key.now iv.now (asked_question (heads.CbcOpen key.now iv.now) block.old)
-            self.old.entries) result block.new self.old self.new }
-
-        // What every suite promises.
-        ensures fills { Fills (λ s. meant K.known s.entries) (λ s. min s.faults (2 ^ 64 - 1))
-            ((meant K.known self.old.entries).cbc_open key.now iv.now block.old)
-            result block.old block.new self.old self.new }
-    {
-        let asked = open_question(self.alloc, key, iv, block);
-        self.exchange(Mode::Cbc, key, iv, asked, block)
+    fn cbc_open(&mut self, key: &[u8], iv: &[u8; 16], block: &mut [u8]) -> Result<(), Failed> {
+        self.ask_open(key, iv, block)
     }
 
-    fn ctr(&mut self, key: &[u8], iv: &[u8; 16], block: &mut [u8]) -> Result<(), Failed>
-        requires { IsCipherKey key.now }
-        ensures looks { LooksUp (exchange modes.Ctr key.now iv.now (asked_question (heads.Ctr key.now iv.now) block.old)
-            self.old.entries) result block.new self.old self.new }
-
-        // What every suite promises.
-        ensures fills { Fills (λ s. meant K.known s.entries) (λ s. min s.faults (2 ^ 64 - 1))
-            ((meant K.known self.old.entries).ctr key.now iv.now block.old)
-            result block.old block.new self.old self.new }
-    {
-        let asked = ctr_question(self.alloc, key, iv, block);
-        self.exchange(Mode::Ctr, key, iv, asked, block)
+    fn ctr(&mut self, key: &[u8], iv: &[u8; 16], block: &mut [u8]) -> Result<(), Failed> {
+        self.ask_ctr(key, iv, block)
     }
 }
 
