@@ -5,8 +5,8 @@ use Rattle.picky_ask.specs.Lookup.{derivation, question}
 use Rattle.picky_ask.proofs.KnownLemmas.{looks_fills, meant_argon2}
 use Rattle.picky_ask.proofs.suite.AnsweredSuiteSuite.argon2.Goals as goal
 
-pub returns : goal.returns
-returns g c =
+pub returns-clause-fills : goal.returns-clause-fills
+returns-clause-fills g c =
     let eighty : length c.args.out.now ≡ 80 = omega arith in
     let head = heads.Argon2 c.args.flavour c.args.memory c.args.passes c.args.parallelism c.args.salt.now in
     looks_fills g.K.Known.known _ c.ask_argon2.result c.args.out.now c.ask_argon2.new.out _ c.args.self.now c.ask_argon2.new.self
