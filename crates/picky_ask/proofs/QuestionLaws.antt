@@ -1,11 +1,9 @@
 -- Questions and tables are read back from their bytes.
-use Rattle.std.proofs.Common.{◌≡◌, ◌<◌, ◌^◌, ◌∙◌, ◌++◌, ℕ, List, [], ◌∷◌, length, refl, sym, ap, subst, arith, append_assoc}
+use Rattle.std.proofs.Common.{◌≡◌, ◌<◌, ◌^◌, ◌∙◌, ◌++◌, ℕ, List, [], length, refl, sym, ap, arith, append_assoc}
 use Rattle.std.specs.Int.{w8, w32, to_be_bytes}
-use Rattle.std.specs.Prelude.{All, Result, Ok, Err}
+use Rattle.std.specs.Prelude.{All, Ok}
 use Rattle.std.specs.List.{flat_map}
 use Rattle.std.proofs.lemmas.List.{append-nil}
-use Rattle.picky_wire_base.specs.Flaw.{Reason}
-use Rattle.picky_wire_base.specs.Grammar.{Grammar}
 use Rattle.picky_wire_base.specs.Row.{Row}
 use Rattle.picky_wire_base.specs.Wire.{byte_array, string, string_of}
 use Rattle.picky_wire_base.specs.carried.Outcome.{same_pair}
@@ -77,16 +75,28 @@ algorithm_spells : (a : SignatureAlgorithm)
     → algorithm.piece a (to_be_bytes w8 (kind_number (algorithm_kind a)) ++ to_be_bytes w8 (algorithm_hash a))
 unfolding algorithm kind kinds rsa_hash ecdsa_hash ed_hash no_hash
 algorithm_spells (algorithms.RsaPkcs1v15 h) = (
-  variants.Rsa, _, to_be_bytes w8 (hash_number h), (1, byte_spells 1 (omega arith), refl),
-  (h, _, [], hash_spells h, (refl, refl), sym (append-nil (to_be_bytes w8 (hash_number h)))), refl,
+  variants.Rsa,
+  _,
+  to_be_bytes w8 (hash_number h),
+  (1, byte_spells 1 (omega arith), refl),
+  (h, _, [], hash_spells h, (refl, refl), sym (append-nil (to_be_bytes w8 (hash_number h)))),
+  refl,
 )
 algorithm_spells (algorithms.Ecdsa h) = (
-  variants.Ecdsa, _, to_be_bytes w8 (hash_number h), (2, byte_spells 2 (omega arith), refl),
-  (h, _, [], hash_spells h, (refl, refl), sym (append-nil (to_be_bytes w8 (hash_number h)))), refl,
+  variants.Ecdsa,
+  _,
+  to_be_bytes w8 (hash_number h),
+  (2, byte_spells 2 (omega arith), refl),
+  (h, _, [], hash_spells h, (refl, refl), sym (append-nil (to_be_bytes w8 (hash_number h)))),
+  refl,
 )
 algorithm_spells algorithms.Ed25519 = (
-  variants.Ed25519, _, to_be_bytes w8 0, (3, byte_spells 3 (omega arith), refl),
-  (0, _, [], (0, byte_spells 0 (omega arith), (refl, refl)), (refl, refl), refl), refl,
+  variants.Ed25519,
+  _,
+  to_be_bytes w8 0,
+  (3, byte_spells 3 (omega arith), refl),
+  (0, _, [], (0, byte_spells 0 (omega arith), (refl, refl)), (refl, refl), refl),
+  refl,
 )
 
 -- ---- heads
@@ -101,16 +111,28 @@ cipher_spells make key iv key_short iv_short =
 pub head_spells : (h : Head) → IsHead h → head.piece h (head_of h)
 unfolding head head_of bcrypt_fields argon2_fields sign_fields
 head_spells (heads.Bcrypt len rounds salt) is = (
-  ops.Bcrypt, _, _, operation_spells ops.Bcrypt,
+  ops.Bcrypt,
+  _,
+  _,
+  operation_spells ops.Bcrypt,
   (len, _, _, uint32_spells len is.0, (rounds, _, _, uint32_spells rounds is.1, (salt, _, _, string_spells salt is.2, (refl, refl), refl), refl), refl),
   refl,
 )
 head_spells (heads.Argon2 f memory passes parallelism salt) is = (
-  ops.Argon2, _, _, operation_spells ops.Argon2,
+  ops.Argon2,
+  _,
+  _,
+  operation_spells ops.Argon2,
   (
-    f, _, _, flavour_spells f,
+    f,
+    _,
+    _,
+    flavour_spells f,
     (
-      memory, _, _, uint32_spells memory is.0,
+      memory,
+      _,
+      _,
+      uint32_spells memory is.0,
       (passes, _, _, uint32_spells passes is.1, (parallelism, _, _, uint32_spells parallelism is.2, (salt, _, _, string_spells salt is.3, (refl, refl), refl), refl), refl),
       refl,
     ),
@@ -122,9 +144,15 @@ head_spells (heads.CbcSeal key iv) is = (ops.CbcSeal, _, _, operation_spells ops
 head_spells (heads.CbcOpen key iv) is = (ops.CbcOpen, _, _, operation_spells ops.CbcOpen, cipher_spells heads.CbcOpen key iv is.0 is.1, refl)
 head_spells (heads.Ctr key iv) is = (ops.Ctr, _, _, operation_spells ops.Ctr, cipher_spells heads.Ctr key iv is.0 is.1, refl)
 head_spells (heads.Sign by key) is = (
-  ops.Sign, _, _, operation_spells ops.Sign,
+  ops.Sign,
+  _,
+  _,
+  operation_spells ops.Sign,
   (
-    by, to_be_bytes w8 (kind_number (algorithm_kind by)) ++ to_be_bytes w8 (algorithm_hash by), _, algorithm_spells by,
+    by,
+    to_be_bytes w8 (kind_number (algorithm_kind by)) ++ to_be_bytes w8 (algorithm_hash by),
+    _,
+    algorithm_spells by,
     (key, _, [], string_spells key is, (refl, refl), refl),
     sym (append_assoc (to_be_bytes w8 (kind_number (algorithm_kind by))) (to_be_bytes w8 (algorithm_hash by)) (string_of key ++ [])),
   ),
@@ -170,7 +198,9 @@ entry_spells e is =
     let h = string_of (head_of e.question.head) in
     let t = string_of e.question.text in
     let a = string_of e.answer in (
-      e.question.head, h, t ++ (a ++ []),
+      e.question.head,
+      h,
+      t ++ (a ++ []),
       (head_of e.question.head, whole_spells (head_of e.question.head) is.question.short, head_spells e.question.head is.question.head),
       (e.question.text, t, a ++ [], whole_spells e.question.text is.question.text, (e.answer, a, [], whole_spells e.answer is.answer, (refl, refl), refl), refl),
       append_assoc h t a ∙ ap (λ b. h ++ (t ++ b)) (sym (append-nil a)),

@@ -1,13 +1,11 @@
 -- What more answers change, and what is asked.
 use Rattle.std.proofs.Common.{◌≡◌, ◌∙◌, ◌++◌, ℕ, Bool, true, false, List, [], ◌∷◌, length, refl, sym, ap}
-use Rattle.std.specs.Prelude.{◌&&◌, ◌==◌, ◌↔◌, if◌then◌else◌, Option, None, Some, Result, Ok, Err}
+use Rattle.std.specs.Prelude.{◌&&◌, ◌↔◌, if◌then◌else◌, Option, None, Some, Ok, Err}
 use Rattle.std.specs.Cmp.{unsigned_Decides}
 use Rattle.std.specs.List.{list_all}
-use Rattle.std.specs.Str.{bytes_eq}
 use Rattle.std.proofs.lemmas.Slice.Eq.{bytes_eq-Decides}
 use Rattle.picky_suite.specs.Meanings.{Meanings}
 use Rattle.picky_ask.specs.declared.lookup.Mode.{Mode}
-use Rattle.picky_ask.specs.declared.missing.Missing.{Missing}
 use Rattle.picky_ask.specs.declared.missing.Missing.TheVariants as missings
 use Rattle.picky_ask.specs.declared.question.Head.{Head}
 use Rattle.picky_ask.specs.declared.question.Head.TheVariants as heads

@@ -1,12 +1,10 @@
 -- A table's completion: meanings of a lawful suite, whatever the table says. Where the table doesn't answer, a call fails, so
 -- what the completion has there shows nowhere.
-use Rattle.std.specs.Prelude.{◌&&◌, ◌==◌, List, ℕ, Option, None, Some, length, if◌then◌else◌}
-use Rattle.std.specs.Str.{bytes_eq}
+use Rattle.std.specs.Prelude.{List}
 use Rattle.sha1.specs.Sha1.{sha1}
 use Rattle.sha2.specs.Sha256.{sha256}
 use Rattle.picky_suite.specs.Hmac.{hmac}
 use Rattle.picky_suite.specs.Meanings.{Meanings}
-use Rattle.picky_suite.specs.Zeros.{zeros}
 use Rattle.picky_suite.specs.carried.Meanings.{sha1_is_mac, sha256_is_mac}
 use Rattle.picky_ask.specs.declared.lookup.Mode.TheVariants.{Cbc, Ctr}
 use Rattle.picky_ask.specs.declared.question.Head.TheVariants as heads

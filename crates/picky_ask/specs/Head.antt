@@ -13,7 +13,7 @@ use Rattle.picky_ask.specs.declared.operation.Operation.{Operation}
 use Rattle.picky_ask.specs.declared.operation.Operation.TheVariants as ops
 use Rattle.picky_ask.specs.declared.question.Head.{Head}
 use Rattle.picky_ask.specs.declared.question.Head.TheVariants as heads
-use Rattle.picky_ask.specs.OperationNumber.{operation_number, flavour_number}
+use Rattle.picky_ask.specs.OperationNumber.{flavour_number}
 use Rattle.picky_ask.specs.Operation.{operations, flavours}
 use Rattle.picky_ask.specs.AlgorithmNumber.{kind_number, algorithm_kind, algorithm_hash}
 use Rattle.picky_ask.specs.Algorithm.{algorithm}

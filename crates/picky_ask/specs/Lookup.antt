@@ -65,7 +65,7 @@ unfoldable pub side : Mode → (key iv text : List ℕ) → Entry → Option (Li
 side mode key iv text e =
     if is_pair mode key iv e
     then (if bytes_eq e.question.text text then Some e.answer
-        else if bytes_eq e.answer text then Some e.question.text else None)
+    else if bytes_eq e.answer text then Some e.question.text else None)
     else None
 
 -- that of the first such entry

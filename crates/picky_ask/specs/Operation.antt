@@ -1,8 +1,7 @@
 -- The operations of questions, and the numbers by which a head tells them, and a kind of Argon2.
-use Rattle.std.specs.Prelude.{List, [], ◌∷◌, ℕ}
+use Rattle.std.specs.Prelude.{ℕ}
 use Rattle.picky_wire_base.specs.Table.{Table, numbers}
 use Rattle.picky_suite.specs.declared.flavour.Flavour.{Flavour}
-use Rattle.picky_suite.specs.declared.flavour.Flavour.TheVariants.{Argon2d, Argon2i, Argon2id}
 use Rattle.picky_ask.specs.declared.operation.Operation.{Operation}
 use Rattle.picky_ask.specs.OperationNumber.{operation_number, operations_in_order, flavour_number, flavours_in_order}
 use Rattle.picky_ask.specs.carried.Operation.{own_operation, own_flavour}

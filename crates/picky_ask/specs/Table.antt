@@ -1,6 +1,5 @@
 -- A table of answers as bytes: its entries one after another, each as three strings.
-use Rattle.std.specs.Prelude.{List, [], ◌∷◌, ℕ, Result, Ok, Err}
-use Rattle.picky_wire_base.specs.Flaw.{Reason}
+use Rattle.std.specs.Prelude.{List, ℕ, Result}
 use Rattle.picky_wire_base.specs.Grammar.{Grammar}
 use Rattle.picky_wire_base.specs.Narrowed.{Narrowing}
 use Rattle.picky_wire_base.specs.Combine.{done, narrow, tag, ◌>>=◌}

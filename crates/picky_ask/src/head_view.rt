@@ -313,10 +313,7 @@ fn sign_at<'a>(blob: &'a [u8], from: usize) -> Result<(HeadView<'a>, usize), Stu
 }
 
 #[tactic(auto, unfolding(crate::specs::Algorithm::algorithm))]
-fn algorithm_at<'a>(
-    blob: &'a [u8],
-    from: usize,
-) -> Result<(SignatureAlgorithm, usize), Stuck<'a>>
+fn algorithm_at<'a>(blob: &'a [u8], from: usize) -> Result<(SignatureAlgorithm, usize), Stuck<'a>>
     ensures { Sees (λ by. by) why_in algorithm blob.now from result }
 {
     let (kind, next) = match kind_at(blob, from) {

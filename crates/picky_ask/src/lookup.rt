@@ -112,14 +112,7 @@ fn are_paired(
 }
 
 /// Whether there is a pair that has the text on one of its sides, and the first one has this on the other.
-fn is_other(
-    entries: &[Entry],
-    mode: Mode,
-    key: &[u8],
-    iv: &[u8],
-    text: &[u8],
-    other: &[u8],
-) -> bool
+fn is_other(entries: &[Entry], mode: Mode, key: &[u8], iv: &[u8], text: &[u8], other: &[u8]) -> bool
     ensures { result ≡ is_side (first_side mode key.now iv.now text.now entries.now) other.now }
 {
     for entry in entries {
@@ -132,13 +125,7 @@ fn is_other(
 
 /// The other side of the entry, where it is a pair that has the text on one of its sides.
 #[tactic(auto, unfolding(crate::specs::Lookup::side))]
-fn side<'t>(
-    entry: &'t Entry,
-    mode: Mode,
-    key: &[u8],
-    iv: &[u8],
-    text: &[u8],
-) -> Option<&'t [u8]>
+fn side<'t>(entry: &'t Entry, mode: Mode, key: &[u8], iv: &[u8], text: &[u8]) -> Option<&'t [u8]>
     ensures { MatchOption result (side_of mode key.now iv.now text.now entry.now ≡ None)
         (λ other. side_of mode key.now iv.now text.now entry.now ≡ Some other.now) }
 {

@@ -21,7 +21,11 @@ use std::alloc::Global;
 #[derive(Debug, Drop, PartialEq, Eq)]
 pub enum Head {
     /// So many bytes by OpenSSH's bcrypt-pbkdf; the text is the passphrase.
-    Bcrypt { len: u32, rounds: u32, salt: Bytes },
+    Bcrypt {
+        len: u32,
+        rounds: u32,
+        salt: Bytes,
+    },
     /// The 80 bytes by Argon2 (RFC 9106), with `memory` in KiB; the text is the passphrase.
     Argon2 {
         flavour: Flavour,
@@ -31,18 +35,30 @@ pub enum Head {
         salt: Bytes,
     },
     /// The text sealed by AES in CBC mode.
-    CbcSeal { key: Bytes, iv: Bytes },
+    CbcSeal {
+        key: Bytes,
+        iv: Bytes,
+    },
     /// The text opened by AES in CBC mode.
-    CbcOpen { key: Bytes, iv: Bytes },
+    CbcOpen {
+        key: Bytes,
+        iv: Bytes,
+    },
     /// The text sealed or opened by AES in CTR mode, whose first counter is the iv.
-    Ctr { key: Bytes, iv: Bytes },
+    Ctr {
+        key: Bytes,
+        iv: Bytes,
+    },
     /// A signature of the text, good under the public key of this blob (RFC 4253, section 6.6).
     Sign {
         algorithm: SignatureAlgorithm,
         key: Bytes,
     },
     /// Whether this is a good signature of the text, under the public key of this blob.
-    Verify { key: Bytes, signature: Bytes },
+    Verify {
+        key: Bytes,
+        signature: Bytes,
+    },
 }
 
 /// A question: a head, and a text.
@@ -188,7 +204,9 @@ fn algorithm_hash(algorithm: SignatureAlgorithm) -> u8
     ensures { result ≡ algorithm_hash_of algorithm }
 {
     match algorithm {
-        SignatureAlgorithm::RsaPkcs1v15(hash) | SignatureAlgorithm::Ecdsa(hash) => hash_number(hash),
+        SignatureAlgorithm::RsaPkcs1v15(hash) | SignatureAlgorithm::Ecdsa(hash) => hash_number(
+            hash,
+        ),
         SignatureAlgorithm::Ed25519 => 0,
     }
 }

@@ -339,12 +339,7 @@ fn open_question(
 }
 
 // The question for a text that AES in CTR mode seals or opens. Refuses: `NoMemory`.
-fn ctr_question(
-    alloc: Global,
-    key: &[u8],
-    iv: &[u8; 16],
-    text: &[u8],
-) -> Result<Question, NoMemory>
+fn ctr_question(alloc: Global, key: &[u8], iv: &[u8; 16], text: &[u8]) -> Result<Question, NoMemory>
     ensures { IfOk result (λ q. q ≡ asked_question (heads.Ctr key.now iv.now) text.now) }
 {
     let ((key, iv), text) = both(both(copy(alloc, key), copy(alloc, iv)), copy(alloc, text))?;

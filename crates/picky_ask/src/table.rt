@@ -1,12 +1,14 @@
 //! A table of answers, read from the bytes that the caller gives.
 
-ghost use Rattle.std.specs.Prelude.{◌≡◌, [], IfOk, IfErr};
+ghost use Rattle.std.specs.Prelude.{◌≡◌, [], None, Some, MatchOption, IfOk, IfErr};
 ghost use Rattle.picky_wire_base.specs.Gives.{Gives};
 ghost use Rattle.picky_ask.specs.Head.{head as head_layout};
+ghost use Rattle.picky_ask.specs.Lookup.{answer_to as answer_in};
 ghost use Rattle.picky_ask.specs.Table.{entry as entry_layout, made_entry, string_whole, table_of};
 ghost use Rattle.picky_ask.specs.Whole.{whole_only};
 
 use crate::head_view::{copy, head_at, head_copy};
+use crate::lookup::answer_to;
 use crate::question::{Entry, Head, Question};
 use picky_wire::{both, uint32_at};
 use std::alloc::Global;
@@ -67,6 +69,14 @@ impl Table {
         ensures { result.now ≡ self.now }
     {
         self.entries.as_slice()
+    }
+
+    /// The first answer to a question, for a device that this crate doesn't have.
+    pub fn answer(&self, question: &Question) -> Option<&[u8]>
+        ensures { MatchOption result (answer_in question.now self.now ≡ None)
+            (λ answer. answer_in question.now self.now ≡ Some answer.now) }
+    {
+        answer_to(self.entries.as_slice(), question)
     }
 
     /// The table that the bytes are: entries one after another, each the strings head, text and answer.

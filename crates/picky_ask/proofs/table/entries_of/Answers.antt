@@ -1,5 +1,5 @@
 -- The entries are read one after another.
-use Rattle.std.proofs.Common.{◌≡◌, ◌∙◌, sym, ap, length, inl, inr, arith}
+use Rattle.std.proofs.Common.{◌∙◌, sym, ap, inl, inr, arith}
 use Rattle.picky_wire_base.specs.Row.{read_all}
 use Rattle.picky_wire_base.proofs.Solid.{read_shortens}
 use Rattle.picky_wire_base.proofs.Steps.{following, taking_more, taking_ends, taking_refused}
