@@ -36,8 +36,3 @@ abbrev pub LooksUpSignature : Question → Result (List ℕ) SignError → (old 
 LooksUpSignature q (Ok signature) old new = (answer_to q old.entries ≡ Some signature) × (new ≡ old)
 LooksUpSignature q (Err errors.Failed) old new = (answer_to q old.entries ≡ None) × FailsFor (missings.Asked q) old new
 LooksUpSignature q (Err errors.NoMemory) old new = new ≡ old
-
--- every signature of the table is good by the relation
-abbrev pub GivesSignatures : SignRelation → List Entry → Type 0
-GivesSignatures signs entries = (key : PublicKey) (algorithm : SignatureAlgorithm) (message signature : List ℕ)
-    → answer_to (sign_question key algorithm message) entries ≡ Some signature → signs key algorithm message signature
