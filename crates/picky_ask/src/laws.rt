@@ -1,12 +1,11 @@
 //! The laws of this crate, each as the contract of a function that does nothing.
 
-ghost use Rattle.std.specs.Prelude.{◌≡◌, ◌↔◌, ◌++◌, ◌∷◌, ℕ, List, true, None, Some, Ok, Err, All};
+ghost use Rattle.std.specs.Prelude.{◌≡◌, ◌↔◌, ◌++◌, ◌∷◌, ℕ, List, true, None, Some, Ok, Err, All, OnOk};
 ghost use Rattle.std.specs.List.{flat_map};
 ghost use Rattle.picky_wire_base.specs.Equality.{IsEquality};
 ghost use Rattle.picky_wire_base.specs.Row.{Row};
 ghost use Rattle.picky_suite.specs.Meanings.{Meanings};
-ghost use Rattle.picky_keys.specs.declared.algorithm.SignatureAlgorithm.{SignatureAlgorithm as Algorithm};
-ghost use Rattle.picky_keys.specs.declared.public_key.PublicKey.{PublicKey as Key};
+ghost use Rattle.picky_suite.specs.Ranges.{IsCipherKey, IsWhole};
 ghost use Rattle.picky_ask.specs.declared.lookup.Mode.{Mode as AMode};
 ghost use Rattle.picky_ask.specs.declared.missing.Missing.TheVariants as missings;
 ghost use Rattle.picky_ask.specs.declared.question.Entry.{Entry as AnEntry};
@@ -16,9 +15,15 @@ ghost use Rattle.picky_ask.specs.Lookup.{answer_to, derivation, exchange};
 ghost use Rattle.picky_ask.specs.Question.{IsEntry, IsQuestion, entry_of, question_of};
 ghost use Rattle.picky_ask.specs.Table.{entry, table_of};
 
+use crate::known::Known;
 use crate::missing::Missing;
 use crate::question::{Entry, Head, Question};
-use crate::table::TableError;
+use crate::suite::AnsweredSuite;
+use crate::table::{Table, TableError};
+use picky_suite::Suite;
+use picky_wire::Failed;
+use std::alloc::Global;
+use std::marker::Brand;
 
 /// The same bytes are the same question, whatever follows them; and the same follows.
 #[tactic(auto, using(crate::proofs::QuestionLaws::question_laws))]
@@ -72,6 +77,41 @@ pub fn a_table_that_agrees_means_the_same()
     ensures meant { (m : Meanings) (entries : List AnEntry) → Agrees m entries → meant m entries ≡ with_hmac m }
     ensures test { (m : Meanings) (entries : List AnEntry) → (agrees m entries ≡ true) ↔ Agrees m entries }
 {}
+
+/// Where each answer of the table is what some meanings give, what is sealed by the table is what they seal. Whoever hands the
+/// suite to a longer call says the same of it so: the call is generic over `Known`, and its caller picks the meanings.
+/// Refuses: `Failed`.
+pub fn what_answers_seal_is_what_was_answered(
+    alloc: Global,
+    table: &Table,
+    key: &[u8],
+    iv: &[u8; 16],
+    block: &mut [u8],
+) -> Result<(), Failed>
+    ghost m: { Meanings }
+    requires key { IsCipherKey key.now }
+    requires whole { IsWhole block.old }
+    ensures { Agrees m table.now → OnOk result (block.new ≡ m.cbc_seal key.now iv.now block.old) }
+{
+    seal_by::<Brand>(alloc, table, key, iv, block)
+}
+
+// Seals by the table's answers.
+fn seal_by<K: Known>(
+    alloc: Global,
+    table: &Table,
+    key: &[u8],
+    iv: &[u8; 16],
+    block: &mut [u8],
+) -> Result<(), Failed>
+    requires told { (entries : List AnEntry) → K.table ≡ Some entries → table.now ≡ entries }
+    requires key { IsCipherKey key.now }
+    requires whole { IsWhole block.old }
+    ensures { OnOk result (block.new ≡ (meant K.known table.now).cbc_seal key.now iv.now block.old) }
+{
+    let mut suite: AnsweredSuite<'_, K> = AnsweredSuite::new(alloc, table);
+    suite.cbc_seal(key, iv, block)
+}
 
 /// Two heads, questions, entries and reasons are equal exactly where their contents are.
 pub fn equality_is_of_contents()
