@@ -6,3 +6,4 @@ pub mod QuestionLaws
 pub mod TableLaws
 pub mod SignLemmas
 pub mod SettleLemmas
+pub mod RefusalLaws

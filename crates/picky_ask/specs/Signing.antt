@@ -12,7 +12,6 @@ use Rattle.picky_suite.specs.declared.signer.SignError.TheVariants as errors
 use Rattle.picky_ask.specs.declared.missing.Missing.TheVariants as missings
 use Rattle.picky_ask.specs.declared.question.Question.{Question}
 use Rattle.picky_ask.specs.declared.question.Head.TheVariants as heads
-use Rattle.picky_ask.specs.declared.question.Entry.{Entry}
 use Rattle.picky_ask.specs.Lookup.{answer_to, question}
 use Rattle.picky_ask.specs.State.{State, FailsFor}
 

@@ -1,6 +1,6 @@
 //! The laws of this crate, each as the contract of a function that does nothing.
 
-ghost use Rattle.std.specs.Prelude.{◌≡◌, ◌↔◌, ◌++◌, ◌∷◌, ℕ, List, true, None, Some, Ok, Err, All, OnOk};
+ghost use Rattle.std.specs.Prelude.{◌≡◌, ◌≢◌, ◌↔◌, ◌++◌, ◌∷◌, ℕ, List, true, None, Some, Ok, Err, All, OnOk, length};
 ghost use Rattle.std.specs.List.{flat_map};
 ghost use Rattle.picky_wire_base.specs.Equality.{IsEquality};
 ghost use Rattle.picky_wire_base.specs.Row.{Row};
@@ -11,7 +11,7 @@ ghost use Rattle.picky_ask.specs.declared.missing.Missing.TheVariants as missing
 ghost use Rattle.picky_ask.specs.declared.question.Entry.{Entry as AnEntry};
 ghost use Rattle.picky_ask.specs.declared.question.Question.{Question as AQuestion};
 ghost use Rattle.picky_ask.specs.Known.{Agrees, agrees, meant, with_hmac};
-ghost use Rattle.picky_ask.specs.Lookup.{answer_to, derivation, exchange};
+ghost use Rattle.picky_ask.specs.Lookup.{answer_to, derivation, exchange, first_side};
 ghost use Rattle.picky_ask.specs.Question.{IsEntry, IsQuestion, entry_of, question_of};
 ghost use Rattle.picky_ask.specs.Table.{entry, table_of};
 
@@ -76,6 +76,17 @@ pub fn no_question_comes_twice()
 pub fn a_table_that_agrees_means_the_same()
     ensures meant { (m : Meanings) (entries : List AnEntry) → Agrees m entries → meant m entries ≡ with_hmac m }
     ensures test { (m : Meanings) (entries : List AnEntry) → (agrees m entries ≡ true) ↔ Agrees m entries }
+{}
+
+/// An answer is refused for its length only where that is another, and for a contradiction only where it isn't both: what the
+/// first pair with the text has on the other side, and what has the text there.
+pub fn an_answer_is_refused_for_its_reason()
+    ensures length { (q : AQuestion) (n : ℕ) (entries : List AnEntry) → derivation q n entries ≡ Err missings.WrongLength
+        → (a : List ℕ) × (answer_to q entries ≡ Some a) × (length a ≢ n) }
+    ensures contradiction { (mode : AMode) (key iv : List ℕ) (q : AQuestion) (entries : List AnEntry)
+        → exchange mode key iv q entries ≡ Err missings.Contradiction
+        → (a : List ℕ) × (answer_to q entries ≡ Some a)
+        × (first_side mode key iv q.text entries ≡ Some a → first_side mode key iv a entries ≡ Some q.text → ⊥) }
 {}
 
 /// Where each answer of the table is what some meanings give, what is sealed by the table is what they seal. Whoever hands the
