@@ -1,0 +1,8 @@
+use Rattle.picky_ask.proofs.KnownLemmas.{looks_fills, meant_bcrypt}
+use Rattle.picky_ask.proofs.suite.AnsweredSuiteSuite.bcrypt.Goals as goal
+
+pub returns-clause-fills : goal.returns-clause-fills
+returns-clause-fills g c =
+    looks_fills g.K.Known.known _ c.ask_bcrypt.result c.args.out.now c.ask_bcrypt.new.out _ c.args.self.now c.ask_bcrypt.new.self
+    c.ask_bcrypt.ensures.looks c.ask_bcrypt.ensures.len c.ask_bcrypt.ensures.bytes
+    (meant_bcrypt g.K.Known.known c.args.self.now.entries c.args.pass.now c.args.salt.now c.args.rounds _ c.ask_bcrypt.new.out)

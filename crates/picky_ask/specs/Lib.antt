@@ -1,0 +1,17 @@
+pub mod OperationNumber
+pub mod AlgorithmNumber
+pub mod Operation
+pub mod Algorithm
+pub mod Head
+pub mod Question
+pub mod Whole
+pub mod Table
+pub mod Same
+pub mod Lookup
+pub mod Completion
+pub mod Answered
+pub mod Known
+pub mod State
+pub mod Signing
+pub mod carried
+pub mod inner

@@ -1,0 +1,4 @@
+pub mod Operation
+pub mod Table
+pub mod Tests
+pub mod Completion

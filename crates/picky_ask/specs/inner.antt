@@ -1,0 +1,2 @@
+pub mod HeadView
+pub mod Finding
