@@ -30,7 +30,8 @@ use std::alloc::Global;
 use std::mem::replace;
 
 /// The text with another comment: an OpenSSH private key or a PuTTY private key file that isn't encrypted, in its version, or
-/// a public key as a line or PuTTY's. Nothing else of it changes.
+/// a public key as a line or PuTTY's. What is written means the same key; a line is written in its one spelling, so its blank, its
+/// end and bytes behind the blob's last field may be others than those that were read.
 ///
 /// Refuses, in order: `Input` as `read_text` without a passphrase; `CommentNotCarried`, where the form can't hold the comment,
 /// and for each certificate, whose signature is of its bytes as they stand; `TooLong`; `TooManyLines`.

@@ -1,4 +1,4 @@
--- How many bits a public key has, as `ssh-keygen -l` prints them.
+-- How many bits a public key has.
 use Rattle.std.specs.Prelude.{List, [], ◌∷◌, ℕ, ◌+◌, ◌-◌, ◌*◌, ◌^◌, ◌<◌, ◌≤◌, length}
 use Rattle.std.specs.Int.{w8, leading_zeros}
 use Rattle.picky_keys.specs.declared.curve.EcCurve.{EcCurve}

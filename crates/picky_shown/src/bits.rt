@@ -5,8 +5,8 @@ ghost use Rattle.picky_shown.specs.Bits.{bit_len as bit_len_of, curve_bits as cu
 
 use picky_keys::{EcCurve, SshBasePublicKey};
 
-/// How many bits the key has, as `ssh-keygen -l` prints them: of RSA those of the modulus n, and else those of the curve's
-/// field, which are 256 of Ed25519 and of security keys.
+/// How many bits the key has: of RSA those of the modulus n, and else those of the curve's field, which are 256 of Ed25519 and of
+/// security keys.
 pub fn key_bits(key: &SshBasePublicKey) -> usize
     ensures { result ≡ key_bits_of key.now }
 {
