@@ -18,7 +18,8 @@ use Rattle.picky_ppk_parts.specs.declared.error.PuttyError.{PuttyError}
 use Rattle.picky_ppk_parts.specs.declared.error.PuttyError.TheVariants as errors
 use Rattle.picky_ppk_parts.specs.{declared.key_parts.KeyParts.{KeyParts}, Algorithm.{curve_algorithm}, Counted.{strings, counted}}
 use Rattle.picky_ppk_parts.specs.{KeyParts.{key_parts}, Parts.{StandsForKey}, PartsRefusal.{parts_flaw_error}, Secret.{secret_bytes}}
-use Rattle.picky_ppk_parts.proofs.{CountedLaws.{made_is_counted}, PartsLaws.{parts_sound}, ReadBackLaws.{parts_read_back}}
+use Rattle.picky_ppk_parts.proofs.{CountedLaws.{made_is_counted}, CountedLemmas.{len_taken}, PartsLaws.{parts_sound}}
+use Rattle.picky_ppk_parts.proofs.ReadBackLaws.{parts_read_back}
 use Rattle.picky_ppk_file.specs.declared.file.PpkFile.{PpkFile}
 use Rattle.picky_ppk.specs.declared.layout.PpkLayout.{PpkLayout}
 use Rattle.picky_ppk.specs.declared.layout.PpkLayout.TheVariants as layouts
@@ -52,9 +53,11 @@ ed_counted secret len =
     let short : length secret < 2 ^ 32 = omega (arith, len) in
     let piece : (strings 1).piece (secret ∷ []) bytes =
     (secret, bytes, [], string_spells secret short, ([], [], [], (refl, refl), (refl, refl), refl), sym (append-nil bytes)) in
-    let read = ap (strings 1).read (sym (append-nil bytes)) ∙ (strings 1).complete (secret ∷ []) bytes [] piece in
+    let layout = strings 1 in
+    let read : layout.read bytes ≡ Ok (secret ∷ [], []) =
+    ap (λ b. layout.read b) (sym (append-nil bytes)) ∙ layout.complete (secret ∷ []) bytes [] piece in
     let left : length bytes - 0 ≡ length bytes = omega arith in
-    ap (λ r. and_then (map_err parts_flaw_error r) (λ found. Ok (length bytes - length found.1))) read ∙ ap Ok left
+    ap (λ r. and_then (map_err parts_flaw_error r) (len_taken (length bytes))) read ∙ ap Ok left
 
 -- ---- the parts
 

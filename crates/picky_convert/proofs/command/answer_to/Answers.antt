@@ -8,7 +8,7 @@ use Rattle.picky_conversion.specs.Convert.{IsFaultOf, conversion}
 use Rattle.picky_conversion.specs.Issue.{IsIssuingFault, issued_bytes}
 use Rattle.picky_conversion.specs.Made.{Whole}
 use Rattle.picky_conversion.specs.Outside.{outside}
-use Rattle.picky_conversion.proofs.CertifyLemmas.{plain_made, still_leaves, still_signs}
+use Rattle.picky_conversion.proofs.CertifyLemmas.{plain_made, still, still_leaves, still_signs}
 use Rattle.picky_conversion.proofs.IssueLemmas.{ok_leaves}
 use Rattle.picky_convert.specs.Sample.{sample_text}
 use Rattle.picky_convert.proofs.command.answer_to.Goals as goal
@@ -24,6 +24,12 @@ returns-in-Ok-clause-gives g c =
 
 pub returns-in-Ok-clause-suite : goal.returns-in-Ok-clause-suite
 returns-in-Ok-clause-suite g c = rw c.in-Convert.is (ok_leaves _ _ _ c.in-Ok.text _ _ _ c.in-Ok.ensures.suite)
+
+pub returns-in-Ok-clause-signer : goal.returns-in-Ok-clause-signer
+returns-in-Ok-clause-signer g c = still g.G.Signer.signs g.G.Signer.faults _ _ c.args.signer.now
+
+pub returns-in-Err-clause-signer : goal.returns-in-Err-clause-signer
+returns-in-Err-clause-signer g c = still g.G.Signer.signs g.G.Signer.faults _ _ c.args.signer.now
 
 pub returns-in-Err-clause-gives : goal.returns-in-Err-clause-gives
 returns-in-Err-clause-gives g c =
