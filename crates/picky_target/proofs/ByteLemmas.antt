@@ -9,7 +9,7 @@ use Rattle.picky_wire_base.specs.Numbers.{IsBytes}
 use Rattle.picky_wire_base.specs.Mpint.{mpint_of}
 use Rattle.picky_wire_base.specs.Zeros.{without_zeros}
 use Rattle.picky_suite.specs.Meanings.{Meanings}
-use Rattle.picky_keys.proofs.ByteLaws.{bytes_by_test, bytes_first, bytes_joined, mpint_bytes_each, no_bytes, number_bytes}
+use Rattle.picky_keys.proofs.ByteLaws.{bytes_by_test, bytes_first, bytes_joined, mpint_bytes_each, no_bytes, number_bytes, string_bytes_each}
 use Rattle.picky_sshkey_blob.specs.declared.key.SshBasePrivateKey.{SshBasePrivateKey}
 use Rattle.picky_sshkey_blob.specs.declared.key.SshBasePrivateKey.TheVariants as keys
 use Rattle.picky_sshkey_blob.specs.Key.{IsPrivateKey}

@@ -6,23 +6,23 @@ use Rattle.std.specs.{Option.{IfSome}, Str.{IsUtf8}}
 use Rattle.picky_wire_base.specs.{Numbers.{IsBytes}, Outcome.{and_then}}
 use Rattle.picky_kv.specs.{declared.PpkVersionKey.{PpkVersionKey}, declared.PpkVersionKey.TheVariants.{V2, V3}}
 use Rattle.picky_suite.specs.Meanings.{Meanings}
-use Rattle.picky_keys.specs.{Blob.{blob_of}, Key.{IsText}}
+use Rattle.picky_keys.specs.Key.{IsText}
 use Rattle.picky_sshkey_blob.specs.declared.key.SshBasePrivateKey.{SshBasePrivateKey}
-use Rattle.picky_sshkey_blob.specs.Key.{IsPrivateKey, public_part}
+use Rattle.picky_sshkey_blob.specs.Key.{IsPrivateKey}
 use Rattle.picky_ppk_parts.specs.declared.config.PpkEncryptionConfig.{PpkEncryptionConfig}
 use Rattle.picky_ppk_file.specs.{declared.file.PpkFile.{PpkFile}, File.{is_sealed}, FileText.{SaysFile}, Written.{file_text}}
 use Rattle.picky_ppk_file.proofs.FileLaws.{said_is_meant}
 use Rattle.picky_ppk.specs.declared.layout.PpkLayout.TheVariants as layouts
 use Rattle.picky_ppk.specs.{Changed.{file_of_parts}, Checked.{checked, ppk_meaning}, Fresh.{salt_len}, ForPutty.{HasPuttySecret}}
 use Rattle.picky_ppk.specs.{PpkLayout.{HasPuttyLayout, laid_file, laid_parts, laid_secret}, Mac.{CarriesMac}, Opened.{decrypted}}
-use Rattle.picky_ppk.specs.Sealed.{encrypted, file_to_seal, sealing_under}
+use Rattle.picky_ppk.specs.Sealed.{encrypted, sealing_under}
 use Rattle.picky_ppk.proofs.{CheckedLaws.{file_is_taken, made_file_carries}, LayoutLaws.{laid_has_secret, laid_parts_counted}}
 use Rattle.picky_ppk.proofs.{SealLaws.{sealed_opened}, SealedLemmas.{draft_fits}}
 use Rattle.picky_key_text.specs.{declared.meaning.Key.{Key}, declared.meaning.Meaning.{Meaning}, Kept.{IsKeptMeaning}}
 use Rattle.picky_key_text.specs.Key.{private_meaning}
 use Rattle.picky_key_text.specs.declared.meaning.Key.TheVariants as keys
 use Rattle.picky_target.specs.{Carried.{Carries, Derivation, Kind, Length, PrivateKey}, Output.{Output}}
-use Rattle.picky_target.specs.Drafts.{key_padding_len, key_parts_of, plain_file, ppk_file, private_bytes, sealed_file}
+use Rattle.picky_target.specs.Drafts.{key_padding_len, key_parts_of, plain_file, ppk_file}
 use Rattle.picky_target.specs.{ReadBack.{IsConfig}, Texts.{Spells}}
 use Rattle.picky_target.specs.declared.target.KeyTarget.TheVariants as targets
 use Rattle.picky_target.proofs.FileBack.{made_parts, padding_sized, plain_says, salt_sized, sealed_says}
