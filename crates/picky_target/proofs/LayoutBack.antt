@@ -1,5 +1,5 @@
 -- What is written for PuTTY has PuTTY's own layout, and what is sealed so opens to it.
-use Rattle.std.proofs.Common.{◌≡◌, ◌∙◌, ◌++◌, ◌<◌, ◌+◌, ◌^◌, ℕ, List, true, Option, None, Some, Ok, length, take, drop, refl, ap}
+use Rattle.std.proofs.Common.{◌≡◌, ◌∙◌, ◌<◌, ◌+◌, ◌^◌, ℕ, List, true, Option, None, Some, Ok, length, take, drop, refl, ap}
 use Rattle.std.proofs.Common.{sym, subst, arith, inl, inr}
 use Rattle.std.proofs.lemmas.List.{length-append}
 use Rattle.std.specs.{Option.{IfSome}, Str.{IsUtf8}}

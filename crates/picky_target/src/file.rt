@@ -3,6 +3,7 @@
 ghost use Rattle.std.specs.Prelude.{◌≡◌, ◌<◌, ◌^◌, IfOk, length};
 ghost use Rattle.std.specs.Option.{option_copied};
 ghost use Rattle.picky_wire_base.specs.Mpint.{mpint_of};
+ghost use Rattle.picky_wire_base.specs.Wire.{string_of};
 ghost use Rattle.picky_wire_base.specs.Zeros.{without_zeros};
 ghost use Rattle.picky_kv.specs.declared.PpkVersionKey.TheVariants.{V3};
 ghost use Rattle.picky_suite.specs.Asked.{GivesAsked, IsAskedAtMost, LeavesSuite};
@@ -227,17 +228,26 @@ fn laid_len(layout: PpkLayout, key: &SshBasePrivateKey) -> usize
 }
 
 /// How many they are in PuTTY's own.
-#[tactic(auto, unfolding(picky_ppk::specs::PpkLayout::laid_secret), using(crate::proofs::LengthLemmas::string_len))]
+#[tactic(auto, unfolding(picky_ppk::specs::PpkLayout::laid_secret))]
 fn putty_len(key: &SshBasePrivateKey) -> usize
     ensures { result ≡ length (laid_secret Putty key.now) }
 {
     match key {
-        SshBasePrivateKey::Ed { secret, .. } => secret.len() + 4,
+        SshBasePrivateKey::Ed { secret, .. } => string_len(secret),
         SshBasePrivateKey::Rsa { .. }
         | SshBasePrivateKey::Ec { .. }
         | SshBasePrivateKey::SkEcdsaSha2NistP256 { .. }
         | SshBasePrivateKey::SkEd25519 { .. } => secret_len(key),
     }
+}
+
+/// How many bytes the string of the bytes has.
+#[tactic(auto, using(crate::proofs::LengthLemmas::string_len))]
+fn string_len(bytes: &[u8]) -> usize
+    requires { length bytes.now < 2 ^ 32 }
+    ensures { result ≡ length (string_of bytes.now) }
+{
+    bytes.len() + 4
 }
 
 /// How many they are with an Ed25519 secret as a number.
