@@ -20,7 +20,7 @@ returns-in-Ok-clause-gives g c =
     let text = c.into_string.ensures.bytes in
     rw (c.in-Convert.is, text)
     (plain_made (g.G.Signer.signs c.args.signer.now) (λ (text : List ℕ). text) (conversion o c.in-Convert.target c.args.text.now)
-    (λ e. IsFaultOf o c.in-Convert.target c.args.text.now e rose) _ (Ok c.in-Ok.text) c.in-Ok.ensures.gives)
+    (λ e. IsFaultOf o c.in-Convert.target c.args.text.now e rose) rose (Ok c.in-Ok.text) c.in-Ok.ensures.gives)
 
 pub returns-in-Ok-clause-suite : goal.returns-in-Ok-clause-suite
 returns-in-Ok-clause-suite g c = rw c.in-Convert.is (ok_leaves _ _ _ c.in-Ok.text _ _ _ c.in-Ok.ensures.suite)
