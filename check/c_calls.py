@@ -24,9 +24,10 @@ from vectors import ppk_text as ppk_text_of_row, rows_of
 
 header = SourceFileLoader("header", str(Path(__file__).with_name("header"))).load_module()
 
-TARGETS = {"openssh": 1, "ppk2": 2, "ppk3": 3, "ssh-pub": 4, "putty-pub": 5}
+TARGETS = {"openssh": 1, "ppk2": 2, "ppk3": 3, "ssh-pub": 4, "putty-pub": 5, "ppk2-for-putty": 6, "ppk3-for-putty": 7}
 PARTS = {"type": 1, "blob": 2, "comment": 3}
-PRIVATE_TARGETS, PUTTY_TARGETS = ("openssh", "ppk2", "ppk3"), ("ppk2", "ppk3", "putty-pub")
+FILE_TARGETS = ("ppk2", "ppk3", "ppk2-for-putty", "ppk3-for-putty")
+PRIVATE_TARGETS, PUTTY_TARGETS = ("openssh", *FILE_TARGETS), (*FILE_TARGETS, "putty-pub")
 UNTOUCHED = b"\xa5"
 # What a library takes of the C library at most, as picky.h says.
 TAKEN = {"malloc", "realloc", "free", "memmove", "memcpy", "memset", "memcmp"}
@@ -184,8 +185,8 @@ def of_other_programs():
         for which, it in texts.items():
             yield from read_calls(which, it, line)
             yield convert(which, "openssh", it, kept)
-            for version in (2, 3):
-                yield convert(which, f"ppk{version}", it, ppk[version] if name in files else "output.putty.NotSupported")
+            for target in FILE_TARGETS:
+                yield convert(which, target, it, ppk[int(target[3])] if name in files else "output.putty.NotSupported")
     for row in rows_of("picky_cert_rows", "CertRow"):
         line = f"{row['public_key']} {row['comment']}".encode()
         yield from read_calls(f"the certificate of {row['name']}", row["line"].encode(), line)
@@ -194,12 +195,19 @@ def of_other_programs():
 
 # ---- what the formats' standards say
 
+def file_of(target, key, comment):
+    """The file for a target: the octets of an Ed25519 secret are a string in PuTTY's own layout (PuTTY's manual, Appendix C)."""
+    own = target.endswith("-for-putty") and key.name == ED25519
+    return ppk_text(int(target[3]), key, comment, private=[[key.private[2][0]]] if own else None)
+
+
 def of_the_formats():
     """Each form of each kind of key as each target, under comments of no, one and two bytes."""
     for kind, key in KEYS.items():
         for comment in (b"", b"k", "\u00e9".encode()):
             texts = dict(texts_of(key, comment))
-            private = {"openssh": texts["envelope"], "ppk2": texts.get("PPK 2"), "ppk3": texts.get("PPK 3")}
+            private = {"openssh": texts["envelope"]}
+            private.update((target, file_of(target, key, comment) if key.secret else None) for target in FILE_TARGETS)
             for form, text in texts.items():
                 name = f"{kind.decode()}, {form}, comment {comment!r}"
                 yield from read_calls(name, text, line_text(kind, key.public, comment, b""))
@@ -327,11 +335,12 @@ def of_passphrases():
         missing = "input.private.MissingPassphrase" if name == "envelope" else "input.putty.Encrypted"
         yield convert(f"encrypted {name}", "openssh", text, "NoCipher", pass_in=b"p")
         yield convert(f"encrypted {name}, the other passphrase", "openssh", text, missing, pass_out=b"p", fresh=bytes(99))
-    padding = -len(render(KEY.secret)) % 16
-    for target, count in (("openssh", 16), ("ppk2", padding), ("ppk3", 16 + padding)):
+    padding, own = -len(render(KEY.secret)) % 16, -len(string(KEY.private[2][0])) % 16
+    for target, count in (("openssh", 16), ("ppk2", padding), ("ppk3", 16 + padding), ("ppk2-for-putty", own),
+                          ("ppk3-for-putty", 16 + own)):
         yield convert("a key, with fresh bytes", target, ENVELOPE, "NoCipher", pass_out=b"p", fresh=bytes(count))
         yield convert("a key, a fresh byte less", target, ENVELOPE, "FreshTooShort", pass_out=b"p", fresh=bytes(count - 1))
-        wanted = ENVELOPE if target == "openssh" else ppk_text(int(target[3]), KEY, b"k")
+        wanted = ENVELOPE if target == "openssh" else file_of(target, KEY, b"k")
         yield convert("a key that isn't encrypted", target, ENVELOPE, wanted, pass_in=b"p", fresh=b"p")
         yield convert("a file that isn't encrypted", target, ppk, wanted, pass_in=b"p", fresh=b"p")
     for given in ({"pass_in": b"\xff"}, {"pass_out": b"\xff"}):
@@ -341,7 +350,7 @@ def of_passphrases():
 
 def of_the_order():
     """Reasons that stand together: the first in the header's order is answered."""
-    for target in (0, 6, 256, 2**32 - 1):
+    for target in (0, 8, 256, 2**32 - 1):
         yield convert("bytes that aren't UTF-8", target, b"\xff", "NoSuchTarget", b"\xff", b"\xff")
     for number in (0, 4, 256, 2**32 - 1):
         yield part("bytes that aren't UTF-8", b"\xff", number, "NoSuchPart")

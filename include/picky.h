@@ -82,15 +82,20 @@ typedef struct picky_name {
 } picky_name;
 
 /*
- * What a key text is converted to. Ed25519: PuTTY takes about every second file of PICKY_PPK2 and PICKY_PPK3 for another secret;
- * pass it through the program `puttyppk`.
+ * What a key text is converted to. For PuTTY and the programs around it take PICKY_PPK3_FOR_PUTTY, or PICKY_PPK2_FOR_PUTTY where
+ * they are older than PuTTY 0.75; for OpenSSH take PICKY_OPENSSH.
+ *
+ * PICKY_PPK2 and PICKY_PPK3 write an Ed25519 secret as a number, as this library's original does: PuTTY takes about every second
+ * such file for another secret. The two layouts of a file are read here as the same key, and differ for Ed25519 alone.
  */
 enum {
     PICKY_OPENSSH = 1,        /* the private key and the comment as OpenSSH has them; its lines end in LF */
-    PICKY_PPK2 = 2,           /* the same as a PuTTY private key file of version 2; lines end in CR LF */
+    PICKY_PPK2 = 2,           /* the same as a private key file of version 2 that isn't for PuTTY; lines end in CR LF */
     PICKY_PPK3 = 3,           /* the same of version 3; lines end in LF */
     PICKY_OPENSSH_PUBLIC = 4, /* the public key and the comment as one line, which ends in CR LF */
-    PICKY_PUTTY_PUBLIC = 5    /* the same as PuTTYgen saves it; lines end in CR LF */
+    PICKY_PUTTY_PUBLIC = 5,   /* the same as PuTTYgen saves it; lines end in CR LF */
+    PICKY_PPK2_FOR_PUTTY = 6, /* the private key and the comment as PuTTY has them in version 2; lines end in CR LF */
+    PICKY_PPK3_FOR_PUTTY = 7  /* the same of version 3; lines end in LF */
 };
 
 /* The parts of a public key. */

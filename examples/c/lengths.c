@@ -20,14 +20,14 @@ static const picky_bytes none = {"", 0};
 static const picky_bytes pass = {"pass", 4};
 static unsigned long calls, handed;
 
-/* One of 18 calls: targets and parts, two numbers of each that name none, targets under passphrases, and the fingerprint. */
+/* One of 22 calls: targets and parts, two numbers of each that name none, targets under passphrases, and the fingerprint. */
 static picky_answer call(int which, picky_bytes text, void *out, size_t out_len) {
-    if (which < 7)
+    if (which < 9)
         return picky_convert(text, (uint32_t)which, none, none, none, out, out_len);
-    if (which < 12)
-        return picky_read_public(text, (uint32_t)(which - 7), out, out_len);
-    if (which < 17)
-        return picky_convert(text, (uint32_t)(which - 11), pass, pass, text, out, out_len);
+    if (which < 14)
+        return picky_read_public(text, (uint32_t)(which - 9), out, out_len);
+    if (which < 21)
+        return picky_convert(text, (uint32_t)(which - 13), pass, pass, text, out, out_len);
     return picky_fingerprint(text, out, out_len);
 }
 
@@ -71,7 +71,7 @@ static picky_answer attempt(int which, picky_bytes text, size_t out_len, const u
 }
 
 static void try_text(picky_bytes text) {
-    for (int which = 0; which < 18; which++) {
+    for (int which = 0; which < 22; which++) {
         picky_answer first = call(which, text, NULL, 0);
         calls++;
         if (first.error != PICKY_BUFFER_TOO_SMALL) {

@@ -1,13 +1,13 @@
 #!/usr/bin/env python3
 """picky from Python, by ctypes: a module, and a program that converts a key.
 
-    ./picky.py ppk3 < key
+    ./picky.py ppk3-for-putty < key
 
 It takes libpicky.so.0 from its own folder, else from where ./install puts it without a PREFIX, else from where the system has it.
-The program takes one of keyconv's "openssh", "ppk2", "ppk3", "ssh-pub" and "putty-pub", or "fingerprint", which prints the SHA-256
-fingerprint alone. Ed25519: PuTTY takes about every second file of "ppk2" and "ppk3" for another secret; pass it through
-`puttyppk`. It refuses as keyconv does, with status 1 and a line on standard error, and ends with status 4 where standard output
-fails.
+The program takes one of keyconv's "openssh", "ppk2", "ppk3", "ssh-pub" and "putty-pub"; "ppk2-for-putty" or "ppk3-for-putty", a file
+for PuTTY, which takes about every second one of an Ed25519 key that "ppk2" and "ppk3" give for another secret; or "fingerprint",
+which prints the SHA-256 fingerprint alone. It refuses as keyconv does, with status 1 and a line on standard error, and ends with
+status 4 where standard output fails.
 """
 from __future__ import annotations
 
@@ -19,7 +19,7 @@ from typing import Any, Sequence, Union
 # What the library reads: any bytes.
 Data = Union[bytes, bytearray, memoryview]
 
-TARGETS = {"openssh": 1, "ppk2": 2, "ppk3": 3, "ssh-pub": 4, "putty-pub": 5}
+TARGETS = {"openssh": 1, "ppk2": 2, "ppk3": 3, "ssh-pub": 4, "putty-pub": 5, "ppk2-for-putty": 6, "ppk3-for-putty": 7}
 PARTS = {"type": 1, "blob": 2, "comment": 3}
 OK, BUFFER_TOO_SMALL = 0, 1
 
@@ -121,7 +121,7 @@ def read_public(text: Data, part: str) -> bytes:
 
 def main(words: Sequence[str]) -> int:
     if len(words) != 1 or words[0] not in {*TARGETS, "fingerprint"}:
-        print("usage: picky.py openssh|ppk2|ppk3|ssh-pub|putty-pub|fingerprint < KEY", file=sys.stderr)
+        print("usage: picky.py openssh|ppk2|ppk3|ssh-pub|putty-pub|ppk2-for-putty|ppk3-for-putty|fingerprint < KEY", file=sys.stderr)
         return 2
     text = sys.stdin.buffer.read()
     try:

@@ -201,6 +201,7 @@ pub use Rattle.picky_ppk.specs.KeyOf
 pub use Rattle.picky_ppk.specs.Keyed
 pub use Rattle.picky_ppk.specs.Mac as PpkMac
 pub use Rattle.picky_ppk.specs.Opened as PpkOpened
+pub use Rattle.picky_ppk.specs.PpkLayout
 pub use Rattle.picky_ppk.specs.Sealed
 pub use Rattle.picky_ppk.specs.Wrappers
 pub use Rattle.picky_key_text.specs.Form

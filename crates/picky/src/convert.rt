@@ -11,8 +11,8 @@ pub use picky_target::{ConvertError, KeyTarget, carries_comment, write_text};
 
 // The conversion, and certificates.
 pub use picky_conversion::{
-    CertRequest, ConversionGiven, Target, bytes_to_sign, convert, convert_owned, issue,
-    print_signed, write_certificate, write_signed_bytes,
+    CertRequest, ConversionGiven, Target, bytes_to_sign, convert, convert_key_text, convert_owned,
+    issue, print_signed, write_certificate, write_signed_bytes,
 };
 pub use picky_issuing::{CertOptions, Parts, cert_type_of, number_of, options_of, parts_of};
 

@@ -6,8 +6,8 @@ pub mod laws;
 // Files.
 pub use picky_ppk::{
     Argon2Flavour, Argon2Params, KeyMaterialV2, KeyMaterialV3, MAC_SIZE_V3, Ppk,
-    PpkEncryptionConfig, PpkEncryptionConfigBuilder, PpkFile, PpkKeyAlgorithm, PpkSealing,
-    PpkVersion, PuttyBasePrivateKey, PuttyBasePublicKey, PuttyError, PuttyPrivateKey,
+    PpkEncryptionConfig, PpkEncryptionConfigBuilder, PpkFile, PpkKeyAlgorithm, PpkLayout,
+    PpkSealing, PpkVersion, PuttyBasePrivateKey, PuttyBasePublicKey, PuttyError, PuttyPrivateKey,
     PuttyPublicKey, aes, can_derive_by, flavour_of,
 };
 pub use picky_text::LineEnd;

@@ -2,7 +2,7 @@
 use Rattle.std.proofs.Common.{◌≡◌, ◌⊎◌, ◌∙◌, true, ℕ, List, Option, None, Result, Ok, Err, ap, sym, subst, inl}
 use Rattle.std.proofs.Common.{inr, refl}
 use Rattle.std.specs.Str.{is_utf8}
-use Rattle.picky_wire_base.specs.Outcome.{and_then, map_err, map_ok}
+use Rattle.picky_wire_base.specs.Outcome.{and_then, map_err}
 use Rattle.picky_suite.specs.{Failures.{IsAskedFault}, Meanings.{Meanings, plain}}
 use Rattle.picky_keys.specs.declared.key.SshPublicKey.{SshPublicKey}
 use Rattle.picky_key_text.specs.{Key.{public_key as public_key_of}, Form.{form_of}}
@@ -15,9 +15,8 @@ use Rattle.picky_target.specs.{Written.{target_fault}, declared.error.ConvertErr
 use Rattle.picky_target.specs.declared.target.KeyTarget.{KeyTarget}
 use Rattle.picky_target.specs.declared.error.ConvertError.TheVariants as errors
 use Rattle.picky_target.specs.declared.target.KeyTarget.TheVariants as targets
-use Rattle.picky_conversion.specs.{Certified.{SignRelation}, Convert.{IsFaultOf, conversion, converting_asks}}
-use Rattle.picky_conversion.specs.{Made.{AnswersMade, IsUnwritten, Made, ToSign, Whole}, Outside.{Outside}}
-use Rattle.picky_conversion.specs.{To.{IsFaultTo, Way, Written, converted}, Refusal.{input_refusal}}
+use Rattle.picky_conversion.specs.{Convert.{AnswersKeyText, conversion, converting_asks}, Outside.{Outside}}
+use Rattle.picky_conversion.specs.Refusal.{input_refusal}
 use Rattle.picky_conversion.proofs.AnswerLemmas.{opening_asks, sealing_asks}
 use Rattle.picky_c.specs.{Calls.{public_key}, Given.{plain_outside, plain_reader}, Refusal.{refusal_of}}
 use Rattle.picky_c.specs.declared.error.PickyError.{PickyError}
@@ -36,51 +35,33 @@ input_fault_is forms.PublicLine = refl
 
 output_fault_is : (target : KeyTarget) → refusal_of (target_fault target) ≡ calls.NoCipher
 output_fault_is targets.OpenSsh = refl
-output_fault_is (targets.Ppk version config) = refl
+output_fault_is (targets.Ppk version config layout) = refl
 output_fault_is targets.OpenSshPublic = refl
 output_fault_is targets.PuttyPublic = refl
 
--- no device signs a text
-none_left : (signs : SignRelation) (says : Result (List ℕ) ConvertError) (made : Made) (rose : Type 0) (e : ConvertError)
-    → map_ok Whole says ≡ Ok made → IsUnwritten signs made rose e → ⊥
-none_left signs (Ok text) (Whole other) rose e same left = left
-none_left signs (Ok text) (ToSign u) rose e same left = cc same
-none_left signs (Err d) made rose e same left = cc same
-
-whole_err : (says : Result (List ℕ) ConvertError) (e : ConvertError) → map_ok Whole says ≡ Err e → says ≡ Err e
-whole_err (Ok text) e same = cc same
-whole_err (Err d) e same = let one : d ≡ e = cc same in ap Err one
-
-converted_refusal : (signs : SignRelation) (o : Outside) (to : KeyTarget) (from : List ℕ) (e : ConvertError) (rose signer_rose : Type 0)
-    → AnswersMade {X = List ℕ} signs (λ t. t) (map_ok Whole (conversion o to from)) (λ e. IsFaultOf o to from e rose) signer_rose (Err e)
+converted_refusal : (o : Outside) (to : KeyTarget) (from : List ℕ) (e : ConvertError) (rose : Type 0)
+    → AnswersKeyText {X = List ℕ} (λ t. t) o to from rose (Err e)
     → (refusal_of e ≡ calls.NoMemory) ⊎ ((refusal_of e ≡ calls.NoCipher) × IsAskedFault (converting_asks o to from) (Unit {0}))
     ⊎ (map_err refusal_of (conversion o to from) ≡ Err (refusal_of e))
-converted_refusal signs o to from e rose signer_rose (inl want) = inl (ap refusal_of want)
-converted_refusal signs o to from e rose signer_rose (inr (inl (inl fault))) =
+converted_refusal o to from e rose (inl want) = inl (ap refusal_of want)
+converted_refusal o to from e rose (inr (inl (inl fault))) =
     inr (inl (ap refusal_of fault.0 ∙ input_fault_is (form_of from), (opening_asks o to from fault.1.0, tt)))
-converted_refusal signs o to from e rose signer_rose (inr (inl (inr fault))) =
+converted_refusal o to from e rose (inr (inl (inr fault))) =
     inr (inl (ap refusal_of fault.0 ∙ output_fault_is to, (sealing_asks o to from fault.1.0, tt)))
-converted_refusal signs o to from e rose signer_rose (inr (inr (inl left))) =
-    absurd (none_left signs (conversion o to from) left.0 signer_rose e left.1 left.2)
-converted_refusal signs o to from e rose signer_rose (inr (inr (inr refused))) =
-    inr (inr (ap (map_err refusal_of) (whole_err (conversion o to from) e refused)))
+converted_refusal o to from e rose (inr (inr refused)) = inr (inr (ap (map_err refusal_of) refused))
 
--- the same, where the meanings and the target are equal to those
-pub conversion_refusal : (signs : SignRelation) (m : Meanings) (pass_in pass_out : Option (List ℕ)) (fresh : List ℕ) (way : Way) (to : KeyTarget)
-    (from : List ℕ) (e : ConvertError) (g : PickyError) (rose signer_rose : Type 0) → m ≡ plain → way ≡ Written to → g ≡ refusal_of e
-    → AnswersMade {X = List ℕ} signs (λ t. t) (converted (record (plain_outside pass_in pass_out fresh) { meanings = m }) way from)
-    (λ f. IsFaultTo (record (plain_outside pass_in pass_out fresh) { meanings = m }) way from f rose) signer_rose (Err e)
+-- the same, where the meanings are equal to those
+pub conversion_refusal : (m : Meanings) (pass_in pass_out : Option (List ℕ)) (fresh : List ℕ) (to : KeyTarget) (from : List ℕ)
+    (e : ConvertError) (g : PickyError) (rose : Type 0) → m ≡ plain → g ≡ refusal_of e
+    → AnswersKeyText {X = List ℕ} (λ t. t) (record (plain_outside pass_in pass_out fresh) { meanings = m }) to from rose (Err e)
     → (g ≡ calls.NoMemory)
     ⊎ ((g ≡ calls.NoCipher) × IsAskedFault (converting_asks (plain_outside pass_in pass_out fresh) to from) (Unit {0}))
     ⊎ (map_err refusal_of (conversion (plain_outside pass_in pass_out fresh) to from) ≡ Err g)
-conversion_refusal signs m pass_in pass_out fresh way to from e g rose signer_rose means is_way is answers =
+conversion_refusal m pass_in pass_out fresh to from e g rose means is answers =
     let o : Outside = plain_outside pass_in pass_out fresh in
-    let same_way = subst (λ w. AnswersMade {X = List ℕ} signs (λ t. t) (converted (record o { meanings = m }) w from)
-    (λ f. IsFaultTo (record o { meanings = m }) w from f rose) signer_rose (Err e)) is_way answers in
-    let same = subst (λ n. AnswersMade {X = List ℕ} signs (λ t. t) (map_ok Whole (conversion (record o { meanings = n }) to from))
-    (λ f. IsFaultOf (record o { meanings = n }) to from f rose) signer_rose (Err e)) means same_way in
+    let same = subst (λ n. AnswersKeyText {X = List ℕ} (λ t. t) (record o { meanings = n }) to from rose (Err e)) means answers in
     subst (λ d. (d ≡ calls.NoMemory) ⊎ ((d ≡ calls.NoCipher) × IsAskedFault (converting_asks o to from) (Unit {0}))
-    ⊎ (map_err refusal_of (conversion o to from) ≡ Err d)) (sym is) (converted_refusal signs o to from e rose signer_rose same)
+    ⊎ (map_err refusal_of (conversion o to from) ≡ Err d)) (sym is) (converted_refusal o to from e rose same)
 
 -- ---- a public key
 

@@ -2,15 +2,18 @@
 use Rattle.std.specs.Prelude.{◌==◌, ℕ, Option, None, Some, if◌then◌else◌}
 use Rattle.picky_kv.specs.declared.PpkVersionKey.TheVariants.{V2, V3}
 use Rattle.picky_ppk_parts.specs.Config.{default_config}
+use Rattle.picky_ppk.specs.declared.layout.PpkLayout.TheVariants.{Number, Putty}
 use Rattle.picky_target.specs.declared.target.KeyTarget.{KeyTarget}
 use Rattle.picky_target.specs.declared.target.KeyTarget.TheVariants as targets
 
--- PuTTY's files are sealed with the default configuration
+-- PuTTY's files are sealed with the default configuration; those of the last two numbers have PuTTY's own layout
 abbrev pub target_numbered : ℕ → Option KeyTarget
 target_numbered number =
     if number == 1 then Some targets.OpenSsh
-    else if number == 2 then Some (targets.Ppk V2 default_config)
-    else if number == 3 then Some (targets.Ppk V3 default_config)
+    else if number == 2 then Some (targets.Ppk V2 default_config Number)
+    else if number == 3 then Some (targets.Ppk V3 default_config Number)
     else if number == 4 then Some targets.OpenSshPublic
     else if number == 5 then Some targets.PuttyPublic
+    else if number == 6 then Some (targets.Ppk V2 default_config Putty)
+    else if number == 7 then Some (targets.Ppk V3 default_config Putty)
     else None

@@ -12,15 +12,15 @@ ghost use Rattle.picky_c.specs.Calls.{IsConverted, converted as converted_of, co
 use crate::error::{PickyError, refusal};
 use crate::given::{as_pass, as_text};
 use crate::target::target_of;
-use picky_conversion::{Target, convert};
-use picky_suite::{HandedSigner, PlainSuite};
+use picky_conversion::{ConversionGiven, convert_key_text};
+use picky_suite::PlainSuite;
 use picky_target::KeyTarget;
 use std::alloc::Global;
 
 /// The text of the target for what a key text means.
 ///
-/// Refuses, in order: `NoSuchTarget`, `TextNotUtf8`, `PassNotUtf8`, and as `picky_conversion::convert`, with `NoCipher` in place
-/// of the suite's fault.
+/// Refuses, in order: `NoSuchTarget`, `TextNotUtf8`, `PassNotUtf8`, and as `picky_conversion::convert_key_text`, with `NoCipher`
+/// in place of the suite's fault.
 pub fn converted(
     alloc: Global,
     text: &[u8],
@@ -69,21 +69,12 @@ fn converted_text(
         (plain_outside (option_copied pass_in.entry) (option_copied pass_out.entry) fresh.now) target text.now bytes.items) }
 {
     let mut suite = PlainSuite::new();
-    let mut signer = HandedSigner::new(None);
-    let target = Target::from(target);
-    let converted = convert(
-        alloc,
-        &mut suite,
-        &mut signer,
-        text,
+    let given = ConversionGiven {
         pass_in,
-        &target,
         pass_out,
         fresh,
-    );
-    drop(signer);
-    drop(target);
-    match converted {
+    };
+    match convert_key_text(alloc, &mut suite, text, target, given) {
         Ok(text) => Ok(text.into_string().into_bytes()),
         Err(e) => Err(refusal(e)),
     }

@@ -17,7 +17,7 @@ use std::alloc::Global;
 
 /// The text of the target with a number for what a key text means.
 ///
-/// Refuses, in order: `NoSuchTarget`, `TextNotUtf8`, `PassNotUtf8`, as `picky_conversion::convert`, and `BufferTooSmall`;
+/// Refuses, in order: `NoSuchTarget`, `TextNotUtf8`, `PassNotUtf8`, as `picky_conversion::convert_key_text`, and `BufferTooSmall`;
 /// `NoCipher` where something is to be opened or sealed.
 #[unsafe(no_mangle)]
 pub extern "C" fn picky_convert(

@@ -18,6 +18,7 @@ use Rattle.picky.specs.declared.convert.Target.TheVariants as Target
 use Rattle.picky.specs.declared.convert.ReadError.{ReadError}
 use Rattle.picky.specs.declared.convert.KeyTarget.TheVariants.{Ppk}
 use Rattle.picky.specs.declared.putty.PpkEncryptionConfig.{PpkEncryptionConfig}
+use Rattle.picky.specs.declared.putty.PpkLayout.TheVariants.{Number}
 use Rattle.picky.specs.declared.putty.PpkVersionKey.TheVariants.{V3}
 use Rattle.picky_callers.specs.Alone.{alone, to_putty}
 
@@ -66,5 +67,5 @@ why_refused_by m config signs input rose signer_rose result unasked means is_def
     why_refused signs input (conversion alone to_putty input) result rose signer_rose unasked
     (subst (λ n. AnswersMade signs (λ text. text) (map_ok Whole (conversion (record alone { meanings = n }) to_putty input))
     (λ e. IsFaultOf (record alone { meanings = n }) to_putty input e rose) signer_rose result) means
-    (subst (λ d. AnswersMade signs (λ text. text) (map_ok Whole (conversion (record alone { meanings = m }) (Ppk V3 d) input))
-    (λ e. IsFaultOf (record alone { meanings = m }) (Ppk V3 d) input e rose) signer_rose result) is_default answers))
+    (subst (λ d. AnswersMade signs (λ text. text) (map_ok Whole (conversion (record alone { meanings = m }) (Ppk V3 d Number) input))
+    (λ e. IsFaultOf (record alone { meanings = m }) (Ppk V3 d Number) input e rose) signer_rose result) is_default answers))

@@ -5,9 +5,10 @@ use crate::conversion::converted;
 use crate::refusal::{is_fault, is_refused, is_unread};
 use picky_cert::CertPart;
 use picky_cert_rows::CertFault;
+use picky_conversion::Target;
 use picky_key_text::ReadError;
 use picky_keys::SshPublicKeyError;
-use picky_target::{ConvertError, KeyTarget};
+use picky_target::ConvertError;
 use std::alloc::Global;
 use std::test::Fail;
 
@@ -227,7 +228,7 @@ static FIRST_WORDS: [(&str, &str); 4] = [
 /// The conversion refuses the line as a public key's, for its type.
 fn is_of_no_type(alloc: Global, line: &str) -> bool {
     let why = ConvertError::Input(ReadError::Public(SshPublicKeyError::UnknownKeyType));
-    ends_in(Some(why), converted(alloc, line, KeyTarget::OpenSshPublic))
+    ends_in(Some(why), converted(alloc, line, Target::OpenSshPublic))
 }
 
 #[test]

@@ -5,15 +5,14 @@ use picky_cert_rows::{CertRow, ROW_COUNT, ZERO_LINE, cert_row};
 use picky_conversion::{Target, convert};
 use picky_ppk::{PpkEncryptionConfig, PpkVersion};
 use picky_suite::{HandedSigner, PlainSuite};
-use picky_target::{ConvertError, KeyTarget};
+use picky_target::ConvertError;
 use picky_wire::Text;
 use std::alloc::{AllocError, Global};
 use std::mem::ManuallyDrop;
 use std::test::Fail;
 
 /// The conversion without passphrases and fresh bytes.
-pub fn converted(alloc: Global, line: &str, target: KeyTarget) -> Result<Text, ConvertError> {
-    let target = Target::from(target);
+pub fn converted(alloc: Global, line: &str, target: Target) -> Result<Text, ConvertError> {
     convert(
         alloc,
         &mut PlainSuite::new(),
@@ -28,7 +27,7 @@ pub fn converted(alloc: Global, line: &str, target: KeyTarget) -> Result<Text, C
 
 /// The second line is the public key's for the first.
 fn is_public(alloc: Global, line: &str, public: &str) -> bool {
-    let text = ManuallyDrop::new(converted(alloc, line, KeyTarget::OpenSshPublic));
+    let text = ManuallyDrop::new(converted(alloc, line, Target::OpenSshPublic));
     match &*text {
         Ok(text) => text.as_str() == public,
         Err(_) => false,
@@ -57,9 +56,9 @@ fn writes_the_subjects_public_key(rt: HostRuntime) -> Result<(), Fail> {
 
 /// PuTTY's public file for the one line is that for the other.
 fn are_alike(alloc: Global, line: &str, other: &str) -> bool {
-    let text = ManuallyDrop::new(converted(alloc, line, KeyTarget::PuttyPublic));
+    let text = ManuallyDrop::new(converted(alloc, line, Target::PuttyPublic));
     match &*text {
-        Ok(text) => gives(converted(alloc, other, KeyTarget::PuttyPublic), text),
+        Ok(text) => gives(converted(alloc, other, Target::PuttyPublic), text),
         Err(_) => false,
     }
 }
@@ -71,7 +70,7 @@ fn writes_the_same_as_for_the_public_key(rt: HostRuntime) {
 }
 
 /// The target keeps a secret, which the zero certificate has none of.
-fn is_private(alloc: Global, target: KeyTarget) -> bool {
+fn is_private(alloc: Global, target: Target) -> bool {
     ends_in(
         Some(ConvertError::NoPrivateKey),
         converted(alloc, ZERO_LINE, target),
@@ -81,7 +80,7 @@ fn is_private(alloc: Global, target: KeyTarget) -> bool {
 #[test]
 fn makes_no_private_file_of_a_certificate(rt: HostRuntime) {
     let config = PpkEncryptionConfig::default();
-    assert!(rt; is_private(rt.alloc(), KeyTarget::OpenSsh));
-    assert!(rt; is_private(rt.alloc(), KeyTarget::Ppk(PpkVersion::V2, config)));
-    assert!(rt; is_private(rt.alloc(), KeyTarget::Ppk(PpkVersion::V3, config)));
+    assert!(rt; is_private(rt.alloc(), Target::OpenSsh));
+    assert!(rt; is_private(rt.alloc(), Target::Ppk(PpkVersion::V2, config)));
+    assert!(rt; is_private(rt.alloc(), Target::Ppk(PpkVersion::V3, config)));
 }

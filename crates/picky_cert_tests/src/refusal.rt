@@ -4,8 +4,9 @@ use crate::certificate_and_view::blob_of;
 use crate::conversion::converted;
 use picky_cert::{CertPart, CertView, SshCertificate, SshCertificateError};
 use picky_cert_rows::{CertFault, FAULTS, ZERO_LINE};
+use picky_conversion::Target;
 use picky_key_text::ReadError;
-use picky_target::{ConvertError, KeyTarget};
+use picky_target::ConvertError;
 use std::alloc::{AllocError, Global};
 use std::mem::ManuallyDrop;
 use std::test::Fail;
@@ -27,7 +28,7 @@ pub fn is_refused(alloc: Global, line: &str, why: &str) -> Result<bool, AllocErr
 
 /// And so does the conversion.
 pub fn is_unread(alloc: Global, line: &str, why: &str) -> Result<bool, AllocError> {
-    let text = ManuallyDrop::new(converted(alloc, line, KeyTarget::OpenSshPublic));
+    let text = ManuallyDrop::new(converted(alloc, line, Target::OpenSshPublic));
     match &*text {
         Err(ConvertError::Input(ReadError::Certificate(e))) => is_said(alloc, e, why),
         Err(_) | Ok(_) => Ok(false),

@@ -38,6 +38,7 @@ use Rattle.picky_ppk_file.specs.declared.putty_public.PuttyPublicKey.{PuttyPubli
 use Rattle.picky_ppk_file.proofs.MeaningLaws.{putty_meaning_says, putty_public_reads_back}
 use Rattle.picky_ppk_file.proofs.RangeLaws.{fields_in_ranges}
 use Rattle.picky_ppk_file.proofs.ReadBackLaws.{written_is_read_back}
+use Rattle.picky_ppk.specs.declared.layout.PpkLayout.TheVariants.{Number}
 use Rattle.picky_ppk.specs.Changed.{commented}
 use Rattle.picky_ppk.specs.Checked.{ppk_meaning}
 use Rattle.picky_ppk.specs.KeyOf.{base_key_of}
@@ -165,7 +166,7 @@ file_back m comment text out bytes wire form is =
     let taken : ppk_meaning m text ≡ Ok one.0 = map_err_ok of_putty (ppk_meaning m text) one.0 one.1 in
     let two = and_then_ok (map_err of_putty (base_key_of one.0)) (λ key. file_commented m comment one.0) out one.2 in
     let found : base_key_of one.0 ≡ Ok two.0 = map_err_ok of_putty (base_key_of one.0) two.0 two.1 in
-    let target = targets.Ppk (version_of one.0.sealing) default_config in
+    let target = targets.Ppk (version_of one.0.sealing) default_config Number in
     let carried = chosen (carries_comment target comment) _ errors.CommentNotCarried out two.2 in
     let made = and_then_ok (map_err putty_refusal (commented m comment one.0)) (λ g. map_err putty_refusal (file_spelled g)) out carried.1 in
     let changed = commented_is m comment one.0 made.0 (map_err_ok putty_refusal (commented m comment one.0) made.0 made.1) in

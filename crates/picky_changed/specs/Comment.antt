@@ -19,6 +19,7 @@ use Rattle.picky_ppk_file.specs.PuttyRefusal.{putty_commented, putty_meaning, pu
 use Rattle.picky_ppk_file.specs.Written.{file_spelled}
 use Rattle.picky_ppk_file.specs.declared.file.PpkFile.{PpkFile}
 use Rattle.picky_ppk_file.specs.declared.putty_public.PuttyPublicKey.{PuttyPublicKey}
+use Rattle.picky_ppk.specs.declared.layout.PpkLayout.TheVariants.{Number}
 use Rattle.picky_ppk.specs.Changed.{commented}
 use Rattle.picky_ppk.specs.Checked.{ppk_meaning}
 use Rattle.picky_ppk.specs.KeyOf.{base_key_of}
@@ -71,7 +72,7 @@ key_commented m comment key =
 -- PuTTY's private key file, in its version: its private bytes stay as they are spelled
 abbrev pub file_commented : Meanings → List ℕ → PpkFile → Result (List ℕ) ConvertError
 file_commented m comment f =
-    if carries_comment (targets.Ppk (version_of f.sealing) default_config) comment
+    if carries_comment (targets.Ppk (version_of f.sealing) default_config Number) comment
     then and_then (map_err putty_refusal (commented m comment f)) (λ g. map_err putty_refusal (file_spelled g))
     else Err errors.CommentNotCarried
 

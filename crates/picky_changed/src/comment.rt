@@ -21,7 +21,7 @@ ghost use Rattle.picky_changed.specs.inner.Unread.{unread_text as unread_text_of
 
 use picky_key_text::{Form, ReadError, form_of, read_text};
 use picky_keys::{SshPublicKey, SshPublicKeyError};
-use picky_ppk::{Ppk, PpkEncryptionConfig, PuttyError, PuttyPublicKey};
+use picky_ppk::{Ppk, PpkEncryptionConfig, PpkLayout, PuttyError, PuttyPublicKey};
 use picky_sshkey::{SshPrivateKey, SshPrivateKeyError};
 use picky_suite::Suite;
 use picky_target::{ConvertError, KeyTarget, carries_comment};
@@ -175,7 +175,11 @@ fn commented_file<S: Suite>(
     ensures { Gives ConvertError.NoMemory (λ text. text) result (file_commented (S.meanings suite.now) comment.now ppk) }
 {
     if !carries_comment(
-        KeyTarget::Ppk(ppk.version(), PpkEncryptionConfig::default()),
+        KeyTarget::Ppk(
+            ppk.version(),
+            PpkEncryptionConfig::default(),
+            PpkLayout::Number,
+        ),
         comment,
     ) {
         drop(ppk);

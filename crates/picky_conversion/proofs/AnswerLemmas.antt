@@ -47,7 +47,7 @@ input_fault_is input = form_fault (form_of input)
 
 pub output_fault_is : (target : KeyTarget) → IsFault (target_fault target)
 output_fault_is targets.OpenSsh = refl
-output_fault_is (targets.Ppk version config) = refl
+output_fault_is (targets.Ppk version config layout) = refl
 output_fault_is targets.OpenSshPublic = refl
 output_fault_is targets.PuttyPublic = refl
 

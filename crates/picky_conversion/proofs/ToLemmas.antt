@@ -8,11 +8,12 @@ use Rattle.picky_target.specs.declared.error.ConvertError.{ConvertError}
 use Rattle.picky_target.specs.declared.error.ConvertError.TheVariants as errors
 use Rattle.picky_conversion.specs.Certified.{SignRelation}
 use Rattle.picky_conversion.specs.Certify.{certification}
-use Rattle.picky_conversion.specs.Binds.{BindsTo}
+use Rattle.picky_conversion.specs.Binds.{Binds, BindsTo}
 use Rattle.picky_conversion.specs.Chain.{IsGiven}
-use Rattle.picky_conversion.specs.Convert.{AnswersKeyText, IsFaultOf, conversion}
+use Rattle.picky_conversion.specs.Convert.{AnswersKeyText, IsConversion, IsFaultOf, conversion}
 use Rattle.picky_conversion.specs.declared.target.Target.{Target}
 use Rattle.picky_target.specs.declared.target.KeyTarget.{KeyTarget}
+use Rattle.picky_target.specs.ReadBack.{IsTarget}
 use Rattle.picky_conversion.proofs.CertifyLemmas.{plain_made}
 use Rattle.picky_conversion.specs.Made.{AnswersMade, IsLeft, Made, ToSign, Whole, WritesMade}
 use Rattle.picky_conversion.specs.Outside.{Outside, reader}
@@ -74,3 +75,10 @@ pub key_converted : (signs : SignRelation) (o : Outside) (to : Target) (target :
 key_converted signs o to target input suite_rose signer_rose r is answers =
     subst (λ way. AnswersMade signs (λ text. text) (converted o way input) (λ e. IsFaultTo o way input e suite_rose) signer_rose r) (sym is)
     (plain_made signs (λ text. text) (conversion o target input) (λ e. IsFaultOf o target input e suite_rose) signer_rose r answers)
+
+pub key_answered : (o : Outside) (target : KeyTarget) (input : List ℕ) (rose : Type 0) (r : Result (List ℕ) ConvertError)
+    → IsGiven o → IsTarget target → IsUtf8 input → AnswersKeyText (λ text. text) o target input rose r
+    → IfOk r (λ text. IsConversion o target input text × Binds o target input text)
+key_answered o target input rose (Ok text) given fits utf8 answers =
+    (conversion_is o target input text given fits utf8 answers, text_binds o target input text given fits utf8 answers)
+key_answered o target input rose (Err e) given fits utf8 answers = tt

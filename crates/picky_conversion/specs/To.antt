@@ -2,6 +2,7 @@
 use Rattle.std.specs.Prelude.{List, ℕ, Bool, Result}
 use Rattle.picky_wire_base.specs.Outcome.{map_ok}
 use Rattle.picky_cert_builder.specs.Draft.{Unsigned}
+use Rattle.picky_ppk.specs.declared.layout.PpkLayout.TheVariants as layouts
 use Rattle.picky_key_text.specs.declared.meaning.Meaning.{Meaning}
 use Rattle.picky_key_text.specs.Order.{asks}
 use Rattle.picky_target.specs.declared.error.ConvertError.{ConvertError}
@@ -24,9 +25,10 @@ pub data Way : Type 0 where
   Written : KeyTarget → Way
   Certified : CertRequest → Way
 
+-- a file for PuTTY has an Ed25519 secret as a number
 abbrev pub way_to : Target → Way
 way_to targets.OpenSsh = Written keys.OpenSsh
-way_to (targets.Ppk version config) = Written (keys.Ppk version config)
+way_to (targets.Ppk version config) = Written (keys.Ppk version config layouts.Number)
 way_to targets.OpenSshPublic = Written keys.OpenSshPublic
 way_to targets.PuttyPublic = Written keys.PuttyPublic
 way_to (targets.Certificate request) = Certified request

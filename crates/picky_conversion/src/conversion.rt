@@ -11,12 +11,12 @@ ghost use Rattle.picky_wire.specs.Count.{Rose};
 ghost use Rattle.picky_key_text.specs.declared.meaning.Meaning.{Meaning as Meant};
 ghost use Rattle.picky_key_text.specs.Order.{asks};
 ghost use Rattle.picky_key_text.specs.Reads.{Reads};
-ghost use Rattle.picky_target.specs.ReadBack.{IsConfig};
+ghost use Rattle.picky_target.specs.ReadBack.{IsConfig, IsTarget};
 ghost use Rattle.picky_conversion.specs.Certify.{IsInputFault, certification, drafting};
-ghost use Rattle.picky_conversion.specs.Binds.{BindsTo};
+ghost use Rattle.picky_conversion.specs.Binds.{Binds, BindsTo};
 ghost use Rattle.picky_conversion.specs.Chain.{IsGiven};
 ghost use Rattle.picky_conversion.specs.Outside.{outside, outside_of, reader};
-ghost use Rattle.picky_conversion.specs.Convert.{AnswersKeyText, LeavesAskedSuite, converting_asks};
+ghost use Rattle.picky_conversion.specs.Convert.{AnswersKeyText, IsConversion, LeavesAskedSuite, converting_asks};
 ghost use Rattle.picky_conversion.specs.Made.{AnswersMade, AnswersPlain, IsLeft, LeavesAskedSigner, ToSign, is_signed};
 ghost use Rattle.picky_conversion.specs.To.{CanConvert, IsConverted, IsFaultTo, IsWay, asks_to, converted, most_asked, way_to};
 ghost use Rattle.picky_conversion.specs.Refusal.{input_refusal as input_refusal_of, issuer_refusal as issuer_refusal_of};
@@ -27,7 +27,7 @@ use crate::given::ConversionGiven;
 use crate::request::CertRequest;
 use crate::target::Target;
 use picky_key_text::{ReadError, read_text};
-use picky_ppk::PpkEncryptionConfig;
+use picky_ppk::{PpkEncryptionConfig, PpkLayout};
 use picky_suite::{Signer, Suite};
 use picky_target::{ConvertError, KeyTarget, write_text};
 use picky_wire::{Bytes, NoMemory, Text, TryClone};
@@ -114,7 +114,13 @@ pub fn convert_owned<S: Suite, G: Signer>(
     match target {
         Target::OpenSsh => convert_key(alloc, suite, input, KeyTarget::OpenSsh, given),
         Target::Ppk(version, config) => {
-            convert_key(alloc, suite, input, KeyTarget::Ppk(version, config), given)
+            convert_key(
+                alloc,
+                suite,
+                input,
+                KeyTarget::Ppk(version, config, PpkLayout::Number),
+                given,
+            )
         }
         Target::OpenSshPublic => convert_key(alloc, suite, input, KeyTarget::OpenSshPublic, given),
         Target::PuttyPublic => convert_key(alloc, suite, input, KeyTarget::PuttyPublic, given),
@@ -122,7 +128,34 @@ pub fn convert_owned<S: Suite, G: Signer>(
     }
 }
 
-/// The conversion to a target that no device signs.
+/// The text of a target that no device signs for the key and the comment that a text means: a file for PuTTY in either layout.
+///
+/// Refuses, in order: as `convert` for a target without a request.
+pub fn convert_key_text<S: Suite>(
+    alloc: Global,
+    suite: &mut S,
+    input: &str,
+    target: KeyTarget,
+    given: ConversionGiven<'_>,
+) -> Result<Text, ConvertError>
+    ensures gives { AnswersKeyText (λ text. text) (outside (S.meanings suite.old) given.entry) target input.now
+        (Rose (S.faults suite.old) (S.faults suite.new)) result }
+    ensures suite { LeavesAskedSuite S.meanings S.faults
+        (converting_asks (outside (S.meanings suite.old) given.entry) target input.now) result suite.old suite.new }
+    ensures asked { IsAskedAtMost 4 S.calls suite.old suite.new }
+
+    // A text is the one spelling of the one meaning, and is read back.
+    ensures converts { IfOk result (λ text. IsConversion (outside (S.meanings suite.old) given.entry) target input.now text) }
+
+    // It equals another conversion's text exactly where the target keeps the same of both.
+    ensures binds { IfOk result (Binds (outside (S.meanings suite.old) given.entry) target input.now) }
+{
+    is_given(given.pass_in, given.pass_out, given.fresh);
+    is_key_target(target);
+    convert_key(alloc, suite, input, target, given)
+}
+
+/// The same, without what follows from what is given.
 fn convert_key<S: Suite>(
     alloc: Global,
     suite: &mut S,
@@ -243,6 +276,16 @@ fn is_target(target: &Target)
     match target {
         Target::Ppk(_, config) => is_config(*config),
         Target::OpenSsh | Target::OpenSshPublic | Target::PuttyPublic | Target::Certificate(_) => {}
+    }
+}
+
+/// Does nothing: the same of a target that no device signs.
+fn is_key_target(target: KeyTarget)
+    ensures { IsTarget target }
+{
+    match target {
+        KeyTarget::Ppk(_, config, _) => is_config(config),
+        KeyTarget::OpenSsh | KeyTarget::OpenSshPublic | KeyTarget::PuttyPublic => {}
     }
 }
 

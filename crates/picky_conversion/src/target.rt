@@ -2,7 +2,6 @@
 
 use crate::request::CertRequest;
 use picky_ppk::{PpkEncryptionConfig, PpkVersion};
-use picky_target::KeyTarget;
 use picky_wire::{NoMemory, TryClone};
 use std::alloc::Global;
 
@@ -11,7 +10,8 @@ use std::alloc::Global;
 pub enum Target {
     /// OpenSSH's private key.
     OpenSsh,
-    /// PuTTY's private key file, and what Argon2 is run with where one of version 3 is sealed.
+    /// PuTTY's private key file, with an Ed25519 secret as a number (`picky_ppk::PpkLayout`), and what Argon2 is run with
+    /// where one of version 3 is sealed.
     Ppk(PpkVersion, PpkEncryptionConfig),
     /// A public key line.
     OpenSshPublic,
@@ -19,22 +19,6 @@ pub enum Target {
     PuttyPublic,
     /// A certificate's line.
     Certificate(CertRequest),
-}
-
-impl From<KeyTarget> for Target {
-    ghost use Rattle.std.specs.Prelude.{◌≡◌};
-    ghost use Rattle.picky_conversion.specs.To.{Written, way_to};
-
-    ghost from_gives = { λ key target. way_to target ≡ Written key };
-
-    fn from(key: KeyTarget) -> Target {
-        match key {
-            KeyTarget::OpenSsh => Target::OpenSsh,
-            KeyTarget::Ppk(version, config) => Target::Ppk(version, config),
-            KeyTarget::OpenSshPublic => Target::OpenSshPublic,
-            KeyTarget::PuttyPublic => Target::PuttyPublic,
-        }
-    }
 }
 
 impl TryClone for Target {

@@ -1,7 +1,6 @@
 -- A call that is sure of its text refuses for want of memory alone.
 use Rattle.std.proofs.Common.{◌≡◌, ◌∙◌, ◌<◌, ◌^◌, ℕ, List, Result, Ok, Err, inl, inr, ap}
 use Rattle.std.specs.Prelude.{IsOk}
-use Rattle.picky_wire_base.specs.Outcome.{map_ok}
 use Rattle.picky_suite.specs.Asked.{GivesAsked}
 use Rattle.picky_suite.specs.Meanings.{Meanings}
 use Rattle.picky_key_text.specs.declared.meaning.Meaning.{Meaning}
@@ -10,11 +9,7 @@ use Rattle.picky_target.specs.declared.error.ConvertError.TheVariants as errors
 use Rattle.picky_target.specs.declared.target.KeyTarget.{KeyTarget}
 use Rattle.picky_target.specs.declared.target.KeyTarget.TheVariants as targets
 use Rattle.picky_target.specs.Written.{target_fault, writing_asks, written}
-use Rattle.picky_conversion.specs.Certified.{SignRelation}
-use Rattle.picky_conversion.specs.Convert.{conversion}
-use Rattle.picky_conversion.specs.Made.{AnswersMade, Whole}
-use Rattle.picky_conversion.specs.To.{IsFaultTo, Written, converted}
-use Rattle.picky_conversion.proofs.IssuedLemmas.{none_left}
+use Rattle.picky_conversion.specs.Convert.{AnswersKeyText, conversion}
 use Rattle.picky_convert.specs.SampleChain.{without_passphrase}
 use Rattle.picky_convert.specs.SampleKeys.{meaning_at}
 use Rattle.picky_convert.specs.SampleTexts.{text_at, unsealed_output}
@@ -41,19 +36,15 @@ first_wants m i meaning e rose small same (inr (inr refused)) = cc (refused, wri
 
 -- ---- what is converted
 
-no_refusal : (r : Result (List ℕ) ConvertError) (e : ConvertError) → IsOk r → map_ok Whole r ≡ Err e → ⊥
+no_refusal : (r : Result (List ℕ) ConvertError) (e : ConvertError) → IsOk r → r ≡ Err e → ⊥
 no_refusal (Ok text) e ok is = cc is
 no_refusal (Err f) e ok is = cc ok
 
-pub converted_wants : (signs : SignRelation) (m : Meanings) (target : KeyTarget) (input : List ℕ) (e : ConvertError)
-    (rose signer_rose : Type 0) → IsOk (conversion (without_passphrase m) target input)
-    → AnswersMade signs (λ (text : List ℕ). text) (converted (without_passphrase m) (Written target) input)
-    (λ f. IsFaultTo (without_passphrase m) (Written target) input f rose) signer_rose (Err e) → e ≡ errors.NoMemory
-converted_wants signs m target input e rose signer_rose ok (inl want) = want
-converted_wants signs m target input e rose signer_rose ok (inr (inl (inl read))) = cc (read.1.0, unasked input)
-converted_wants signs m target input e rose signer_rose ok (inr (inl (inr write))) =
-    cc (write.1.0, write_asks_none m target input)
-converted_wants signs m target input e rose signer_rose ok (inr (inr (inl left))) =
-    absurd (none_left signs (conversion (without_passphrase m) target input) signer_rose e left)
-converted_wants signs m target input e rose signer_rose ok (inr (inr (inr refused))) =
+pub converted_wants : (m : Meanings) (target : KeyTarget) (input : List ℕ) (e : ConvertError) (rose : Type 0)
+    → IsOk (conversion (without_passphrase m) target input)
+    → AnswersKeyText (λ (text : List ℕ). text) (without_passphrase m) target input rose (Err e) → e ≡ errors.NoMemory
+converted_wants m target input e rose ok (inl want) = want
+converted_wants m target input e rose ok (inr (inl (inl read))) = cc (read.1.0, unasked input)
+converted_wants m target input e rose ok (inr (inl (inr write))) = cc (write.1.0, write_asks_none m target input)
+converted_wants m target input e rose ok (inr (inr refused)) =
     absurd (no_refusal (conversion (without_passphrase m) target input) e ok refused)

@@ -7,9 +7,10 @@ use Rattle.picky_text.proofs.LineLaws.{one_line}
 use Rattle.picky_keys.specs.Blob.{blob_of}
 use Rattle.picky_sshkey_blob.specs.Key.{public_part}
 use Rattle.picky_ppk_parts.specs.Config.{default_config}
-use Rattle.picky_ppk_parts.specs.Secret.{secret_bytes}
 use Rattle.picky_ppk_parts.specs.declared.config.PpkEncryptionConfig.{PpkEncryptionConfig}
 use Rattle.picky_ppk_file.specs.Written.{line_end_of}
+use Rattle.picky_ppk.specs.PpkLayout.{laid_secret}
+use Rattle.picky_ppk.specs.declared.layout.PpkLayout.TheVariants as layouts
 use Rattle.picky_key_text.specs.Key.{public_key}
 use Rattle.picky_target.specs.declared.target.KeyTarget.TheVariants as targets
 use Rattle.picky_target.specs.Carried.{Carries, HasFileRoom, Holds, Place}
@@ -31,7 +32,8 @@ use Rattle.picky_convert.proofs.SecretSizes.{envelope_size, private_size, public
 blob_is_short : (i : ℕ) → length (blob_of (public_part (key_at i))) ≤ 800
 blob_is_short i = public_size (key_at i) (key_is_small (kind_at i) (i + 1))
 
-secret_is_short : (i : ℕ) → length (secret_bytes (key_at i)) ≤ 1100
+secret_is_short : (i : ℕ) → length (laid_secret layouts.Number (key_at i)) ≤ 1100
+unfolding laid_secret
 secret_is_short i = private_size (key_at i) (key_is_small (kind_at i) (i + 1))
 
 mac_is_short : (version : PpkVersionKey) → length {A = ℕ} (replicate (mac_len version) 0) ≤ 64
@@ -39,7 +41,7 @@ mac_is_short V2 = omega arith
 mac_is_short V3 = omega arith
 
 file_room : (version : PpkVersionKey) (config : PpkEncryptionConfig) (i : ℕ) → i < 2 ^ 16
-    → HasFileRoom unsealed_output version config (key_at i) (comment_at i)
+    → HasFileRoom unsealed_output version config layouts.Number (key_at i) (comment_at i)
 file_room version config i small =
     let key = key_at i in
     let blob = blob_of (public_part key) in
@@ -49,8 +51,8 @@ file_room version config i small =
       text = λ m.
           omega (
             arith,
-            plain_len m [] version config key (comment_at i),
-            file_size version (key_parts_of key).algorithm (comment_at i) blob (secret_bytes key) (replicate (mac_len version) 0)
+            plain_len m [] version config layouts.Number key (comment_at i),
+            file_size version (key_parts_of layouts.Number key).algorithm (comment_at i) blob (laid_secret layouts.Number key) (replicate (mac_len version) 0)
                 (comment_size i small) (omega (arith, blob_is_short i)) (secret_is_short i) (mac_is_short version),
           );
     }
@@ -68,7 +70,7 @@ envelope_holds i small Length =
 envelope_holds i small Lines = tt
 
 file_holds : (version : PpkVersionKey) (config : PpkEncryptionConfig) (i : ℕ) → i < 2 ^ 16 → is_security_key_kind (kind_at i) ≡ false
-    → (place : Place) → Holds unsealed_output (targets.Ppk version config) (meaning_at i) place
+    → (place : Place) → Holds unsealed_output (targets.Ppk version config layouts.Number) (meaning_at i) place
 file_holds version config i small plain PrivateKey = tt
 file_holds version config i small plain Kind = key_is_of_kind (kind_at i) (i + 1) ∙ plain
 file_holds version config i small plain Comment =
@@ -114,7 +116,7 @@ pub envelope_carries : (i : ℕ) → i < 2 ^ 16 → Carries unsealed_output targ
 envelope_carries i small = record { holds = envelope_holds i small }
 
 pub file_carries : (version : PpkVersionKey) (config : PpkEncryptionConfig) (i : ℕ) → i < 2 ^ 16 → is_security_key_kind (kind_at i) ≡ false
-    → Carries unsealed_output (targets.Ppk version config) (meaning_at i)
+    → Carries unsealed_output (targets.Ppk version config layouts.Number) (meaning_at i)
 file_carries version config i small plain = record { holds = file_holds version config i small plain }
 
 pub line_carries : (i : ℕ) → i < 2 ^ 16 → Carries unsealed_output targets.OpenSshPublic (meaning_at i)

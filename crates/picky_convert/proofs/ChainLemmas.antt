@@ -7,6 +7,7 @@ use Rattle.picky_ppk_parts.specs.Config.{default_config}
 use Rattle.picky_suite.specs.Meanings.{Meanings}
 use Rattle.picky_keys.proofs.ByteLaws.{no_bytes}
 use Rattle.picky_key_text.specs.Reads.{Reads}
+use Rattle.picky_ppk.specs.declared.layout.PpkLayout.TheVariants as layouts
 use Rattle.picky_target.specs.declared.target.KeyTarget.{KeyTarget}
 use Rattle.picky_target.specs.declared.target.KeyTarget.TheVariants as targets
 use Rattle.picky_target.specs.Carried.{Carries}
@@ -43,10 +44,10 @@ envelope_reads m i small =
     (meaning_is_kept i small) no_bytes tt (envelope_carries i small) (text_spells m unsealed_output targets.OpenSsh (meaning_at i))
 
 file_reads : (version : PpkVersionKey) (m : Meanings) (i : ℕ) → i < 2 ^ 16 → is_security_key_kind (kind_at i) ≡ false
-    → Reads (reader (without_passphrase m)) (text_at m i (targets.Ppk version default_config)) (meaning_at i)
+    → Reads (reader (without_passphrase m)) (text_at m i (targets.Ppk version default_config layouts.Number)) (meaning_at i)
 unfolding text_at
 file_reads version m i small plain =
-    let target = targets.Ppk version default_config in
+    let target = targets.Ppk version default_config layouts.Number in
     spelled_is_read_back m unsealed_output target (meaning_at i) (text_for m unsealed_output target (meaning_at i)) default_is_config
     (meaning_is_kept i small) no_bytes tt (file_carries version default_config i small plain)
     (text_spells m unsealed_output target (meaning_at i))

@@ -6,6 +6,7 @@ use Rattle.std.specs.Str.{bytes_eq}
 use Rattle.picky_wire_base.specs.Outcome.{and_then, map_err, map_ok}
 use Rattle.picky_kv.specs.declared.PpkVersionKey.TheVariants.{V2, V3}
 use Rattle.picky_ppk_parts.specs.Config.{default_config}
+use Rattle.picky_ppk.specs.declared.layout.PpkLayout.TheVariants as layouts
 use Rattle.picky_issuing.specs.declared.options.CertOptions.{CertOptions}
 use Rattle.picky_issuing.specs.Options.{options_named}
 use Rattle.picky_issuing.specs.Steps.{some_then}
@@ -60,8 +61,8 @@ sample = codes "sample"
 abbrev pub command_of_word : List ℕ → Option Command
 command_of_word word =
     if bytes_eq word openssh then Some (commands.Convert targets.OpenSsh)
-    else if bytes_eq word ppk2 then Some (commands.Convert (targets.Ppk V2 default_config))
-    else if bytes_eq word ppk3 then Some (commands.Convert (targets.Ppk V3 default_config))
+    else if bytes_eq word ppk2 then Some (commands.Convert (targets.Ppk V2 default_config layouts.Number))
+    else if bytes_eq word ppk3 then Some (commands.Convert (targets.Ppk V3 default_config layouts.Number))
     else if bytes_eq word ssh_pub then Some (commands.Convert targets.OpenSshPublic)
     else if bytes_eq word putty_pub then Some (commands.Convert targets.PuttyPublic)
     else if bytes_eq word fingerprint then Some commands.Fingerprint

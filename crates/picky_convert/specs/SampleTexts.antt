@@ -4,6 +4,7 @@ use Rattle.picky_kv.specs.declared.PpkVersionKey.TheVariants.{V2, V3}
 use Rattle.picky_keys.specs.declared.kind.KeyKind.{KeyKind}
 use Rattle.picky_keys.specs.Key.{is_security_key_kind}
 use Rattle.picky_ppk_parts.specs.Config.{default_config}
+use Rattle.picky_ppk.specs.declared.layout.PpkLayout.TheVariants as layouts
 use Rattle.picky_suite.specs.Meanings.{Meanings}
 use Rattle.picky_target.specs.declared.target.KeyTarget.{KeyTarget}
 use Rattle.picky_target.specs.declared.target.KeyTarget.TheVariants as targets
@@ -17,10 +18,10 @@ unsealed_output = record { pass = None; fresh = [] }
 
 -- PuTTY's file in version 3 and in version 2
 abbrev pub ppk3 : KeyTarget
-ppk3 = targets.Ppk V3 default_config
+ppk3 = targets.Ppk V3 default_config layouts.Number
 
 abbrev pub ppk2 : KeyTarget
-ppk2 = targets.Ppk V2 default_config
+ppk2 = targets.Ppk V2 default_config layouts.Number
 
 -- the targets of a key, in their order; PuTTY has no key whose secret a device keeps
 abbrev pub five_targets : List KeyTarget

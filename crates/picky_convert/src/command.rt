@@ -20,13 +20,11 @@ use crate::error::Status;
 use crate::fingerprint::fingerprint_text;
 use crate::summary::sample;
 use picky_cert_builder::SshCertificateGenerationError;
-use picky_conversion::{
-    ConversionGiven, Target, convert_owned, input_refusal, issue, print_signed,
-};
+use picky_conversion::{ConversionGiven, convert_key_text, input_refusal, issue, print_signed};
 use picky_input::as_text;
 use picky_issuing::{CertOptions, number_of, options_of};
 use picky_key_text::{ReadError, public_key, read_text};
-use picky_ppk::{PpkEncryptionConfig, PpkVersion, PuttyError};
+use picky_ppk::{PpkEncryptionConfig, PpkLayout, PpkVersion, PuttyError};
 use picky_sshkey::SshPrivateKeyError;
 use picky_suite::{Signer, Suite};
 use picky_target::{ConvertError, KeyTarget};
@@ -172,9 +170,9 @@ pub fn reads_source(command: &Command) -> bool
 
 /// PuTTY's file in a version, sealed with the default configuration.
 pub(crate) fn file_of(version: PpkVersion) -> KeyTarget
-    ensures { result ≡ KeyTarget.Ppk version default_config }
+    ensures { result ≡ KeyTarget.Ppk version default_config PpkLayout.Number }
 {
-    KeyTarget::Ppk(version, PpkEncryptionConfig::default())
+    KeyTarget::Ppk(version, PpkEncryptionConfig::default(), PpkLayout::Number)
 }
 
 /// The text that the command writes for these bytes, or the status that says why it writes none.
@@ -253,13 +251,10 @@ fn answer_to<S: Suite, G: Signer>(
     ensures signer_asked { IsAskedAtMost 1 G.calls signer.old signer.new }
 {
     match command {
-        Command::Convert(target) => {
-            let target = Target::from(target);
-            match convert_owned(alloc, suite, signer, text, target, given) {
-                Ok(text) => Ok(text.into_string()),
-                Err(e) => Err(e),
-            }
-        }
+        Command::Convert(target) => match convert_key_text(alloc, suite, text, target, given) {
+            Ok(text) => Ok(text.into_string()),
+            Err(e) => Err(e),
+        },
         Command::Certify(options) => match issue(alloc, suite, signer, options, text, given) {
             Ok(text) => Ok(text.into_string()),
             Err(e) => Err(e),

@@ -12,9 +12,9 @@ ghost use Rattle.picky_convert.specs.inner.Fed.{Feeds};
 
 use crate::command::file_of;
 use crate::keys::{kind_of, meaning_of};
-use picky_conversion::{ConversionGiven, Target, convert_owned};
+use picky_conversion::{ConversionGiven, convert_key_text};
 use picky_ppk::PpkVersion;
-use picky_suite::{HandedSigner, Signer, Suite};
+use picky_suite::Suite;
 use picky_target::{ConvertError, KeyTarget, write_text};
 use picky_wire::{NoMemory, Text};
 use sha2::{Digest, Sha256};
@@ -158,27 +158,12 @@ fn converted<S: Suite>(
     ensures text { IfOk result (λ text. conversion (without_passphrase (S.meanings suite.old)) target from.now ≡ Ok text) }
     ensures suite { suite.new ≡ suite.old }
 {
-    converted_by(alloc, suite, &mut HandedSigner::new(None), target, from)
-}
-
-/// The same, with a signer that isn't asked.
-fn converted_by<S: Suite, G: Signer>(
-    alloc: Global,
-    suite: &mut S,
-    signer: &mut G,
-    target: KeyTarget,
-    from: &str,
-) -> Result<Text, NoMemory>
-    requires { IsOk (conversion (without_passphrase (S.meanings suite.old)) target from.now) }
-    ensures text { IfOk result (λ text. conversion (without_passphrase (S.meanings suite.old)) target from.now ≡ Ok text) }
-    ensures suite { suite.new ≡ suite.old }
-{
     let given = ConversionGiven {
         pass_in: None,
         pass_out: None,
         fresh: &[],
     };
-    match convert_owned(alloc, suite, signer, from, Target::from(target), given) {
+    match convert_key_text(alloc, suite, from, target, given) {
         Ok(text) => Ok(text),
         Err(e) => Err(want_of(e)),
     }

@@ -1,9 +1,9 @@
 //! Why a public key line is refused.
 
-use picky_conversion::{Target, convert};
+use picky_conversion::{ConversionGiven, convert_key_text};
 use picky_key_text::{ReadError, read_text};
 use picky_keys::{SshPublicKey, SshPublicKeyError};
-use picky_suite::{HandedSigner, PlainSuite};
+use picky_suite::PlainSuite;
 use picky_target::{ConvertError, KeyTarget};
 use picky_wire::{IoKind, MemorySource, SshComplexTypeDecode};
 use std::alloc::Global;
@@ -152,16 +152,17 @@ fn is_of_input(why: &ConvertError, wanted: &SshPublicKeyError) -> bool {
 }
 
 fn is_unwritten(alloc: Global, line: &str, target: KeyTarget, wanted: &SshPublicKeyError) -> bool {
-    let target = Target::from(target);
-    let written = ManuallyDrop::new(convert(
+    let given = ConversionGiven {
+        pass_in: None,
+        pass_out: None,
+        fresh: &[],
+    };
+    let written = ManuallyDrop::new(convert_key_text(
         alloc,
         &mut PlainSuite::new(),
-        &mut HandedSigner::new(None),
         line,
-        None,
-        &target,
-        None,
-        &[],
+        target,
+        given,
     ));
     match &*written {
         Err(why) => is_of_input(why, wanted),

@@ -2,11 +2,11 @@
 
 use crate::form_and_reading::{ed_meaning, meaning_of, means, opened};
 use picky_key_rows::{
-    CONFIG, PASS, PPK_ROWS, PRIVATE_ROWS, PUBLIC, PpkRow, PrivateRow, SECRET_ROWS, TOY_V2, TOY_V3,
-    VERSIONS, ZERO_KEY, ZERO_TEXT, secret_text_of as zero_text_of, text_of,
+    CONFIG, PASS, PPK_ROWS, PRIVATE_ROWS, PUBLIC, PpkRow, PrivateRow, SECRET_ROWS, SecretRow,
+    TOY_V2, TOY_V3, VERSIONS, ZERO_KEY, ZERO_TEXT, ZEROS, secret_text_of as zero_text_of, text_of,
 };
 use picky_key_text::Meaning;
-use picky_ppk::PpkVersion;
+use picky_ppk::{PpkLayout, PpkVersion};
 use picky_suite::{MemorySuite, PlainSuite};
 use picky_target::{ConvertError, KeyTarget, write_text};
 use picky_wire::Text;
@@ -14,9 +14,31 @@ use std::alloc::Global;
 use std::mem::ManuallyDrop;
 use std::test::Fail;
 
-const PPK2: KeyTarget = KeyTarget::Ppk(PpkVersion::V2, CONFIG);
+const PPK2: KeyTarget = KeyTarget::Ppk(PpkVersion::V2, CONFIG, PpkLayout::Number);
 
-const PPK3: KeyTarget = KeyTarget::Ppk(PpkVersion::V3, CONFIG);
+const PPK3: KeyTarget = KeyTarget::Ppk(PpkVersion::V3, CONFIG, PpkLayout::Number);
+
+const PPK2_FOR_PUTTY: KeyTarget = KeyTarget::Ppk(PpkVersion::V2, CONFIG, PpkLayout::Putty);
+
+const PPK3_FOR_PUTTY: KeyTarget = KeyTarget::Ppk(PpkVersion::V3, CONFIG, PpkLayout::Putty);
+
+/// The targets that keep the secret.
+const PRIVATE_TARGETS: [KeyTarget; 5] = [
+    KeyTarget::OpenSsh,
+    PPK2,
+    PPK3,
+    PPK2_FOR_PUTTY,
+    PPK3_FOR_PUTTY,
+];
+
+// `string` of 32 zeros in base64, and HMAC-SHA-1 and HMAC-SHA-256 of the file's fields with it, by Python's hmac
+static ZEROS_FOR_PUTTY: SecretRow = SecretRow {
+    name: "zeros as 32 bytes",
+    secret: ZEROS,
+    private: "AAAAIAAAAAAAAAAAAAAAAAAAAAAAAAAAAAAAAAAAAAAAAAAA",
+    mac_v2: "3a746de6a508016f8c6288c87fe8cbf95bb834df",
+    mac_v3: "fb9a6403353929a728b6905960b39cdae6b0a79450ba4dd2a8e42acee160bdd8",
+};
 
 /// The key of zeros with a comment.
 fn zeros(alloc: Global, comment: &str) -> Result<Meaning, Fail> {
@@ -40,9 +62,19 @@ fn is_written_for_zeros(alloc: Global, target: KeyTarget, text: &str) -> Result<
     writes(alloc, target, zeros(alloc, "hello")?, text)
 }
 
-fn is_zero_text_in_version_2(alloc: Global) -> Result<bool, Fail> {
-    let text = ManuallyDrop::new(zero_text_of(alloc, &SECRET_ROWS[0], PpkVersion::V2)?);
-    is_written_for_zeros(alloc, PPK2, text.as_str())
+/// The row's file is written for the key of zeros.
+fn is_zero_text(
+    alloc: Global,
+    row: &SecretRow,
+    version: PpkVersion,
+    layout: PpkLayout,
+) -> Result<bool, Fail> {
+    let text = ManuallyDrop::new(zero_text_of(alloc, row, version)?);
+    is_written_for_zeros(
+        alloc,
+        KeyTarget::Ppk(version, CONFIG, layout),
+        text.as_str(),
+    )
 }
 
 // puttygen zero.ppk -L and puttygen zero.ppk -O public, of the text ZERO_TEXT, with CR LF for LF
@@ -59,8 +91,11 @@ const ZERO_PUBLIC: &str = "---- BEGIN SSH2 PUBLIC KEY ----\r\n\
 fn writes_one_key_for_each_target(rt: HostRuntime) -> Result<(), Fail> {
     let alloc = rt.alloc();
     assert!(rt; is_written_for_zeros(alloc, KeyTarget::OpenSsh, ZERO_KEY)?);
-    assert!(rt; is_zero_text_in_version_2(alloc)?);
+    assert!(rt; is_zero_text(alloc, &SECRET_ROWS[0], PpkVersion::V2, PpkLayout::Number)?);
     assert!(rt; is_written_for_zeros(alloc, PPK3, ZERO_TEXT)?);
+    for version in VERSIONS {
+        assert!(rt; is_zero_text(alloc, &ZEROS_FOR_PUTTY, version, PpkLayout::Putty)?);
+    }
     assert!(rt; is_written_for_zeros(alloc, KeyTarget::OpenSshPublic, ZERO_LINE)?);
     assert!(rt; is_written_for_zeros(alloc, KeyTarget::PuttyPublic, ZERO_PUBLIC)?);
     Ok(())
@@ -72,11 +107,12 @@ fn is_file(
     row: &PpkRow,
     key: &PrivateRow,
     version: PpkVersion,
+    layout: PpkLayout,
 ) -> Result<bool, Fail> {
     let text = ManuallyDrop::new(text_of(alloc, row, version)?);
     is_written(
         alloc,
-        KeyTarget::Ppk(version, CONFIG),
+        KeyTarget::Ppk(version, CONFIG, layout),
         key.text,
         text.as_str(),
     )
@@ -92,7 +128,13 @@ fn is_line(alloc: Global, key: &PrivateRow) -> Result<bool, Fail> {
 fn writes_the_texts_of_other_programs(rt: HostRuntime) -> Result<(), Fail> {
     for (row, key) in PPK_ROWS.iter().zip(&PRIVATE_ROWS) {
         for version in VERSIONS {
-            assert!(rt; is_file(rt.alloc(), row, key, version)?, "{}", row.name);
+            for layout in [PpkLayout::Number, PpkLayout::Putty] {
+                assert!(rt;
+                    is_file(rt.alloc(), row, key, version, layout)?,
+                    "{}",
+                    row.name
+                );
+            }
         }
     }
     for key in &PRIVATE_ROWS {
@@ -137,7 +179,7 @@ fn seals_for_each_target_with_a_secret(rt: HostRuntime) -> Result<(), Fail> {
     let fresh = b"saltsaltsaltsalttwelve bytes";
     assert!(rt; is_sealed_as(rt.alloc(), PPK3, fresh, TOY_V3)?);
     assert!(rt; is_sealed_in_version_2(rt.alloc())?);
-    for target in [KeyTarget::OpenSsh, PPK2, PPK3] {
+    for target in PRIVATE_TARGETS {
         for key in &PRIVATE_ROWS[..5] {
             assert!(rt;
                 comes_back(rt.alloc(), target, key.text)?,
@@ -161,8 +203,14 @@ static UNCARRIED: [(KeyTarget, &str); 8] = [
     (KeyTarget::PuttyPublic, "x\ny"),
 ];
 
-// Targets, and a fresh byte less than each takes: the private bytes of the key of zeros are 4, so 12 are padding.
-static SHORT: [(KeyTarget, usize); 3] = [(KeyTarget::OpenSsh, 15), (PPK2, 11), (PPK3, 27)];
+// Targets, and a fresh byte less than each takes: the private bytes of the key of zeros are 4, or 36 for PuTTY, so 12 are padding.
+static SHORT: [(KeyTarget, usize); 5] = [
+    (KeyTarget::OpenSsh, 15),
+    (PPK2, 11),
+    (PPK3, 27),
+    (PPK2_FOR_PUTTY, 11),
+    (PPK3_FOR_PUTTY, 27),
+];
 
 /// Nothing is written, for this reason.
 fn is_why(written: Result<Text, ConvertError>, wanted: &ConvertError) -> bool {
@@ -222,7 +270,7 @@ fn needs_a_secret(alloc: Global, target: KeyTarget, line: &str) -> Result<bool, 
 
 #[test]
 fn makes_no_secret_of_a_public_key(rt: HostRuntime) -> Result<(), Fail> {
-    for target in [KeyTarget::OpenSsh, PPK2, PPK3] {
+    for target in PRIVATE_TARGETS {
         for text in [ZERO_LINE, PUBLIC] {
             assert!(rt;
                 needs_a_secret(rt.alloc(), target, text)?,

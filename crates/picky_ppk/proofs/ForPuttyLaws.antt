@@ -51,7 +51,7 @@ unfolding ppk_ed_fields ppk_ed_secret
 ed_key_spelled public bytes key (secret, x, y, (number, spells, (len, same)), (is, none), joined) =
     record { point = public; secret = secret; len = len; is_public = refl; is_key = is }
 
-curve_is_none : (curve : EcCurve) → is_ed25519 (curve_algorithm curve) ≡ false
+pub curve_is_none : (curve : EcCurve) → is_ed25519 (curve_algorithm curve) ≡ false
 curve_is_none NistP256 = refl
 curve_is_none NistP384 = refl
 curve_is_none NistP521 = refl

@@ -8,3 +8,4 @@ pub mod SealLaws
 pub mod BindLaws
 pub mod AcceptedLaws
 pub mod ForPuttyLaws
+pub mod LayoutLaws

@@ -86,7 +86,7 @@ unsealed_again m keys config salt padding f carries =
     ap (resealed m f) sealing ∙ ap (λ mac. record f { mac = mac }) (sym carries.1)
 
 -- The draft sealed is opened.
-draft_opened : (m : Meanings) (pass : List ℕ) (config : PpkEncryptionConfig) (salt padding : List ℕ) (f : PpkFile)
+pub draft_opened : (m : Meanings) (pass : List ℕ) (config : PpkEncryptionConfig) (salt padding : List ℕ) (f : PpkFile)
     → CarriesMac m f → counted f.algorithm f.private_bytes ≡ Ok (length f.private_bytes)
     → length padding ≡ padding_len f → can_derive (sealing_under (version_of f.sealing) config salt) pass ≡ true
     → let draft = file_to_seal config salt padding f in

@@ -8,5 +8,6 @@ pub mod Fresh
 pub mod Changed
 pub mod KeyOf
 pub mod ForPutty
+pub mod PpkLayout
 pub mod Wrappers
 pub mod inner

@@ -114,7 +114,7 @@ fn with_secret_string(alloc: Global, file: &PpkFile, secret: &[u8; 32]) -> Resul
 
 /// The string of a secret. Refuses: `NoMemory`.
 #[tactic(auto, unfolding(picky_wire_base::specs::Wire::string_of))]
-fn secret_string(alloc: Global, secret: &[u8; 32]) -> Result<Bytes, NoMemory>
+pub fn secret_string(alloc: Global, secret: &[u8; 32]) -> Result<Bytes, NoMemory>
     ensures { IfOk result (λ bytes. bytes ≡ string_of secret.now) }
 {
     joined(alloc, &32u32.to_be_bytes(), secret)

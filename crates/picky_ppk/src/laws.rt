@@ -20,7 +20,11 @@ ghost use Rattle.picky_ppk.specs.Checked.{ppk_meaning};
 ghost use Rattle.picky_ppk.specs.Opened.{decrypted};
 ghost use Rattle.picky_ppk.specs.Sealed.{padding_len, encrypted};
 ghost use Rattle.picky_ppk.specs.Changed.{of_base_key, of_openssh};
+ghost use Rattle.picky_ppk.specs.ForPutty.{HasPuttySecret, for_putty};
 ghost use Rattle.picky_ppk.specs.KeyOf.{base_key_of};
+ghost use Rattle.picky_ppk.specs.PpkLayout.{laid_file};
+ghost use Rattle.picky_ppk.specs.declared.layout.PpkLayout.{PpkLayout as Layout};
+ghost use Rattle.picky_ppk.specs.declared.layout.PpkLayout.TheVariants.{Number, Putty};
 ghost use Rattle.picky_ppk.specs.Wrappers.{base_of_openssh, base_to_openssh};
 ghost use Rattle.picky_ppk.specs.declared.wrappers.PuttyBasePrivateKey.{PuttyBasePrivateKey as Base};
 
@@ -63,6 +67,19 @@ pub fn openssh_key_comes_back()
         → of_base_key m version key comment ≡ Ok f → (base_key_of f ≡ Ok key) × (f.comment ≡ comment) }
     ensures base { (key : Key) (base : Base) → IsPrivateKey key → base_of_openssh key ≡ Ok base
         → base_to_openssh base ≡ Ok key }
+{}
+
+/// A key's file has the key in each layout. With the number it is that of `Ppk::from_base_key`; in PuTTY's own it is what
+/// `Ppk::for_putty` makes of that, and has PuTTY's secret.
+pub fn layouts_have_the_same_key()
+    ensures key { (m : Meanings) (version : Version) (layout : Layout) (key : Key) (comment : List ℕ) (f : File) → IsPrivateKey key
+        → laid_file m version layout key comment ≡ Ok f → (base_key_of f ≡ Ok key) × (f.comment ≡ comment) }
+    ensures number { (m : Meanings) (version : Version) (key : Key) (comment : List ℕ)
+        → laid_file m version Number key comment ≡ of_base_key m version key comment }
+    ensures putty { (m : Meanings) (version : Version) (key : Key) (comment : List ℕ) (f g : File) → IsPrivateKey key
+        → of_base_key m version key comment ≡ Ok f → laid_file m version Putty key comment ≡ Ok g → for_putty m f ≡ Ok g }
+    ensures secret { (m : Meanings) (version : Version) (key : Key) (comment : List ℕ) (f : File) → IsPrivateKey key
+        → laid_file m version Putty key comment ≡ Ok f → HasPuttySecret f }
 {}
 
 /// A file that isn't sealed has a key exactly where its parts stand for it.

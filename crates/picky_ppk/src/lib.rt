@@ -11,6 +11,7 @@ mod drawing;
 mod for_putty;
 mod keys;
 pub mod laws;
+mod layout;
 mod opening;
 mod openssh;
 mod ppk;
@@ -18,6 +19,7 @@ mod sealing;
 mod wrappers;
 
 pub use drawing::salt_len;
+pub use layout::PpkLayout;
 pub use picky_ppk_file::{PpkFile, PpkSealing, PuttyPublicKey};
 pub use picky_ppk_parts::{
     Argon2Flavour, Argon2Params, KeyMaterialV2, KeyMaterialV3, MAC_SIZE_V3, PpkEncryptionConfig,

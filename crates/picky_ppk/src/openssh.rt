@@ -143,7 +143,7 @@ impl Ppk {
 }
 
 /// A file of this version that isn't sealed, of a key's parts and a comment.
-fn file_of_parts<S: Suite>(
+pub fn file_of_parts<S: Suite>(
     alloc: Global,
     suite: &S,
     version: PpkVersion,

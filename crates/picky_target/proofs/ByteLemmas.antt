@@ -9,7 +9,7 @@ use Rattle.picky_wire_base.specs.Numbers.{IsBytes}
 use Rattle.picky_wire_base.specs.Mpint.{mpint_of}
 use Rattle.picky_wire_base.specs.Zeros.{without_zeros}
 use Rattle.picky_suite.specs.Meanings.{Meanings}
-use Rattle.picky_keys.proofs.ByteLaws.{bytes_by_test, bytes_first, bytes_joined, mpint_bytes_each, no_bytes, number_bytes}
+use Rattle.picky_keys.proofs.ByteLaws.{bytes_by_test, bytes_first, bytes_joined, mpint_bytes_each, no_bytes, number_bytes, string_bytes_each}
 use Rattle.picky_sshkey_blob.specs.declared.key.SshBasePrivateKey.{SshBasePrivateKey}
 use Rattle.picky_sshkey_blob.specs.declared.key.SshBasePrivateKey.TheVariants as keys
 use Rattle.picky_sshkey_blob.specs.Key.{IsPrivateKey}
@@ -20,6 +20,9 @@ use Rattle.picky_ppk_file.specs.declared.file.PpkSealing.{PpkSealing}
 use Rattle.picky_ppk_file.specs.declared.file.PpkSealing.TheVariants.{Unsealed, SealedV2, SealedV3}
 use Rattle.picky_ppk_file.specs.File.{IsSealing}
 use Rattle.picky_ppk.specs.Keyed.{keys_under}
+use Rattle.picky_ppk.specs.PpkLayout.{laid_secret}
+use Rattle.picky_ppk.specs.declared.layout.PpkLayout.{PpkLayout}
+use Rattle.picky_ppk.specs.declared.layout.PpkLayout.TheVariants as layouts
 use Rattle.picky_keys.proofs.ByteLaws.{utf8_is_bytes}
 
 -- ---- lists
@@ -50,15 +53,26 @@ zeros_bytes [] each = no_bytes
 zeros_bytes (zero ∷ bytes) each = zeros_bytes bytes (λ i. each (suc i))
 zeros_bytes (suc b ∷ bytes) each = each
 
-pub secret_is_bytes : (key : SshBasePrivateKey) → IsPrivateKey key → IsBytes (secret_bytes key)
+number_is_bytes : (key : SshBasePrivateKey) → IsPrivateKey key → IsBytes (secret_bytes key)
 unfolding secret_bytes
-secret_is_bytes (keys.Rsa n e d iqmp p q) is =
+number_is_bytes (keys.Rsa n e d iqmp p q) is =
     bytes_joined (mpint_of d) _ (mpint_bytes_each d is.2.bytes) (bytes_joined (mpint_of p) _ (mpint_bytes_each p is.4.bytes)
     (bytes_joined (mpint_of q) _ (mpint_bytes_each q is.5.bytes) (bytes_joined (mpint_of iqmp) [] (mpint_bytes_each iqmp is.3.bytes) no_bytes)))
-secret_is_bytes (keys.Ec curve point secret) is = mpint_bytes_each secret is.1.bytes
-secret_is_bytes (keys.Ed secret public) is = mpint_bytes_each (without_zeros secret) (zeros_bytes secret is.0.bytes)
-secret_is_bytes (keys.SkEcdsaSha2NistP256 point application flags handle) is = no_bytes
-secret_is_bytes (keys.SkEd25519 key application flags handle) is = no_bytes
+number_is_bytes (keys.Ec curve point secret) is = mpint_bytes_each secret is.1.bytes
+number_is_bytes (keys.Ed secret public) is = mpint_bytes_each (without_zeros secret) (zeros_bytes secret is.0.bytes)
+number_is_bytes (keys.SkEcdsaSha2NistP256 point application flags handle) is = no_bytes
+number_is_bytes (keys.SkEd25519 key application flags handle) is = no_bytes
+
+pub secret_is_bytes : (layout : PpkLayout) (key : SshBasePrivateKey) → IsPrivateKey key → IsBytes (laid_secret layout key)
+unfolding laid_secret
+secret_is_bytes layouts.Number key is = number_is_bytes key is
+secret_is_bytes layouts.Putty (keys.Rsa n e d iqmp p q) is = number_is_bytes (keys.Rsa n e d iqmp p q) is
+secret_is_bytes layouts.Putty (keys.Ec curve point secret) is = number_is_bytes (keys.Ec curve point secret) is
+secret_is_bytes layouts.Putty (keys.Ed secret public) is = string_bytes_each secret is.0.bytes
+secret_is_bytes layouts.Putty (keys.SkEcdsaSha2NistP256 point application flags handle) is =
+    number_is_bytes (keys.SkEcdsaSha2NistP256 point application flags handle) is
+secret_is_bytes layouts.Putty (keys.SkEd25519 key application flags handle) is =
+    number_is_bytes (keys.SkEd25519 key application flags handle) is
 
 -- ---- keys that a passphrase makes
 

@@ -8,11 +8,12 @@ use Rattle.picky_suite.specs.{Asked.{LeavesSuite}, Meanings.{Meanings}}
 use Rattle.picky_keys.specs.{Blob.{blob_of}, LineRefusal.{is_short}}
 use Rattle.picky_sshkey_blob.specs.{declared.key.SshBasePrivateKey.{SshBasePrivateKey}, Key.{public_part}}
 use Rattle.picky_ppk_parts.specs.declared.config.PpkEncryptionConfig.{PpkEncryptionConfig}
-use Rattle.picky_ppk_parts.specs.{declared.error.PuttyError.{PuttyError}, KeyParts.{key_parts}, Secret.{secret_bytes}}
+use Rattle.picky_ppk_parts.specs.declared.error.PuttyError.{PuttyError}
 use Rattle.picky_ppk_parts.specs.declared.error.PuttyError.TheVariants as putty
 use Rattle.picky_ppk_file.specs.{PuttyRefusal.{is_security_key}, declared.file.PpkFile.{PpkFile}}
 use Rattle.picky_ppk_file.specs.Written.{file_text, fits_block, file_spelled}
-use Rattle.picky_ppk.specs.{Changed.{file_of_parts, of_base_key}, Fresh.{salt_len}}
+use Rattle.picky_ppk.specs.{Changed.{file_of_parts}, Fresh.{salt_len}, PpkLayout.{laid_file, laid_parts, laid_secret}}
+use Rattle.picky_ppk.specs.declared.layout.PpkLayout.{PpkLayout}
 use Rattle.picky_target.specs.{declared.error.ConvertError.{ConvertError}, Drafts.{key_padding_len, key_parts_of}}
 use Rattle.picky_target.specs.Judged.{derives_under}
 use Rattle.picky_target.specs.inner.File.{text_of_file, salt_and_padding, measured, plain_ppk, plain_drafted, plain_written}
@@ -20,7 +21,7 @@ use Rattle.picky_target.specs.inner.Public.{putty_output_refusal}
 use Rattle.picky_target.specs.declared.error.ConvertError.TheVariants as errors
 use Rattle.picky_target.specs.declared.target.KeyTarget.TheVariants as targets
 use Rattle.picky_target.proofs.TestLemmas.{refuses, step_refuses}
-use Rattle.picky_target.proofs.FileLemmas.{key_parts_is, security_key_is_refused, tested}
+use Rattle.picky_target.proofs.FileLemmas.{laid_parts_are, security_key_is_refused, tested}
 
 abbrev pub IsNoFault : ConvertError → Type 0
 IsNoFault e = e ≢ errors.Putty putty.SuiteFault
@@ -62,41 +63,43 @@ tested_no_fault true true x e is = cc is
 tested_no_fault true false x e is = λ fault. cc (is, fault)
 tested_no_fault false secret x e is = λ fault. cc (is, fault)
 
-parts_no_fault : (key : SshBasePrivateKey) (e : PuttyError) → key_parts key ≡ Err e → IsNoPuttyFault e
-parts_no_fault key e is = go (is_security_key (public_part key)) refl
+parts_no_fault : (layout : PpkLayout) (key : SshBasePrivateKey) (e : PuttyError) → laid_parts layout key ≡ Err e
+    → IsNoPuttyFault e
+parts_no_fault layout key e is = go (is_security_key (public_part key)) refl
   where
     go : (is_sk : Bool) → is_security_key (public_part key) ≡ is_sk → IsNoPuttyFault e
     go true is_sk =
-        let same : putty.NotSupported (codes "SK keys") ≡ e = cc (sym (security_key_is_refused key is_sk) ∙ is) in
+        let same : putty.NotSupported (codes "SK keys") ≡ e = cc (sym (security_key_is_refused layout key is_sk) ∙ is) in
         λ fault. cc (same, fault)
-    go false plain = tested_no_fault (is_short (blob_of (public_part key))) (is_short (secret_bytes key)) (key_parts_of key) e
-        (sym (key_parts_is key plain) ∙ is)
+    go false plain = tested_no_fault (is_short (blob_of (public_part key))) (is_short (laid_secret layout key)) (key_parts_of layout key) e
+        (sym (laid_parts_are layout key plain) ∙ is)
 
-made_no_fault : (m : Meanings) (version : PpkVersionKey) (key : SshBasePrivateKey) (comment : List ℕ) (e : PuttyError)
-    → of_base_key m version key comment ≡ Err e → IsNoPuttyFault e
-unfolding of_base_key
-made_no_fault m version key comment e is =
-    step_refuses IsNoPuttyFault (key_parts key) (λ parts. Ok (file_of_parts m version comment parts)) e (parts_no_fault key)
+made_no_fault : (m : Meanings) (version : PpkVersionKey) (layout : PpkLayout) (key : SshBasePrivateKey) (comment : List ℕ)
+    (e : PuttyError)
+    → laid_file m version layout key comment ≡ Err e → IsNoPuttyFault e
+unfolding laid_file
+made_no_fault m version layout key comment e is =
+    step_refuses IsNoPuttyFault (laid_parts layout key) (λ parts. Ok (file_of_parts m version comment parts)) e (parts_no_fault layout key)
     (λ parts g none. cc none) is
 
 measured_no_fault : (config : PpkEncryptionConfig) (salt padding : List ℕ) (f : PpkFile) (e : ConvertError)
     → measured config salt padding f ≡ Err e → IsNoFault e
 measured_no_fault config salt padding f e is = grind arith
 
-pub plain_no_fault : (m : Meanings) (version : PpkVersionKey) (config : PpkEncryptionConfig) (key : SshBasePrivateKey)
+pub plain_no_fault : (m : Meanings) (version : PpkVersionKey) (config : PpkEncryptionConfig) (layout : PpkLayout) (key : SshBasePrivateKey)
     (comment salt padding : List ℕ) (e : ConvertError)
-    → plain_drafted m version config key comment salt padding ≡ Err e → IsNoFault e
-plain_no_fault m version config key comment salt padding e is =
-    step_refuses {B = PpkFile} IsNoFault (plain_ppk m version key comment) _ e
-    (λ g made. mapped_no_fault (of_base_key m version key comment) g (made_no_fault m version key comment) made)
+    → plain_drafted m version config layout key comment salt padding ≡ Err e → IsNoFault e
+plain_no_fault m version config layout key comment salt padding e is =
+    step_refuses {B = PpkFile} IsNoFault (plain_ppk m version layout key comment) _ e
+    (λ g made. mapped_no_fault (laid_file m version layout key comment) g (made_no_fault m version layout key comment) made)
     (λ f g rest. step_refuses {A = Unit {0}} {B = PpkFile} IsNoFault (measured config salt padding f) _ g
     (measured_no_fault config salt padding f) (λ _ h none. cc none) rest) is
 
-pub drawn_no_fault : (pass fresh : List ℕ) (version : PpkVersionKey) (config : PpkEncryptionConfig) (key : SshBasePrivateKey)
-    (e : ConvertError) → salt_and_padding pass fresh version config key ≡ Err e → IsNoFault e
-drawn_no_fault pass fresh version config key e is =
-    refuses {A = List ℕ × List ℕ} IsNoFault (derives_under (targets.Ppk version config) pass) _ (errors.Putty putty.Argon2) e
-    (λ g more. refuses {A = List ℕ × List ℕ} IsNoFault (nat_le (salt_len version config + key_padding_len key) (length fresh)) _
+pub drawn_no_fault : (pass fresh : List ℕ) (version : PpkVersionKey) (config : PpkEncryptionConfig) (layout : PpkLayout) (key : SshBasePrivateKey)
+    (e : ConvertError) → salt_and_padding pass fresh version config layout key ≡ Err e → IsNoFault e
+drawn_no_fault pass fresh version config layout key e is =
+    refuses {A = List ℕ × List ℕ} IsNoFault (derives_under (targets.Ppk version config layout) pass) _ (errors.Putty putty.Argon2) e
+    (λ g more. refuses {A = List ℕ × List ℕ} IsNoFault (nat_le (salt_len version config + key_padding_len layout key) (length fresh)) _
     errors.FreshTooShort g (λ h none. cc none) (λ same. cc same) more)
     (λ same. cc same) is
 
@@ -125,10 +128,10 @@ unasked_leaves meanings faults asked view (Ok x) says suite each gives =
 unasked_leaves meanings faults asked view (Err e) says suite each gives =
     refusal_leaves meanings faults asked e says suite each gives
 
-pub plain_written_no_fault : (m : Meanings) (version : PpkVersionKey) (key : SshBasePrivateKey) (comment : List ℕ)
-    (e : ConvertError) → plain_written m version key comment ≡ Err e → IsNoFault e
-plain_written_no_fault m version key comment e is =
-    step_refuses IsNoFault (plain_ppk m version key comment) text_of_file e
-    (λ g made. mapped_no_fault (of_base_key m version key comment) g (made_no_fault m version key comment) made) text_no_fault is
+pub plain_written_no_fault : (m : Meanings) (version : PpkVersionKey) (layout : PpkLayout) (key : SshBasePrivateKey) (comment : List ℕ)
+    (e : ConvertError) → plain_written m version layout key comment ≡ Err e → IsNoFault e
+plain_written_no_fault m version layout key comment e is =
+    step_refuses IsNoFault (plain_ppk m version layout key comment) text_of_file e
+    (λ g made. mapped_no_fault (laid_file m version layout key comment) g (made_no_fault m version layout key comment) made) text_no_fault is
 
 pub ruleset sealing_faults = (plain_no_fault, drawn_no_fault)

@@ -13,16 +13,15 @@ use Rattle.picky_keys.proofs.{ByteLaws.{bytes_joined, utf8_is_bytes}, LineLaws.{
 use Rattle.picky_sshkey_blob.specs.declared.key.SshBasePrivateKey.{SshBasePrivateKey}
 use Rattle.picky_sshkey_blob.specs.Key.{IsPrivateKey, public_part}
 use Rattle.picky_sshkey_blob.proofs.KeyLaws.{public_part_is_key}
-use Rattle.picky_ppk_parts.specs.{declared.config.PpkEncryptionConfig.{PpkEncryptionConfig}, KeyParts.{key_parts}}
-use Rattle.picky_ppk_parts.specs.{Mac.{mac_of}, Parts.{StandsForKey}, Secret.{secret_bytes}}
-use Rattle.picky_ppk_parts.proofs.{CountedLaws.{cut_stands, made_is_counted}, PartsLaws.{parts_sound}}
-use Rattle.picky_ppk_parts.proofs.ReadBackLaws.{parts_read_back}
+use Rattle.picky_ppk_parts.specs.{declared.config.PpkEncryptionConfig.{PpkEncryptionConfig}, Mac.{mac_of}, Parts.{StandsForKey}}
+use Rattle.picky_ppk_parts.proofs.CountedLaws.{cut_stands}
 use Rattle.picky_ppk_file.specs.{declared.file.PpkFile.{PpkFile}, File.{IsFile, IsSealing, version_of}}
 use Rattle.picky_ppk_file.specs.{FileText.{SaysFile}, FileRefusal.{file_meaning}}
 use Rattle.picky_ppk_file.specs.{Written.{line_end_of, file_text, fits_block}, PuttyRefusal.{is_security_key}}
 use Rattle.picky_ppk_file.proofs.{FileLaws.{meaning_is_said}, ReadBackLaws.{text_is_read_back}}
 use Rattle.picky_ppk.specs.{Keyed.{keys_under}, Mac.{own_mac}, Sealed.{sealing_under}, Fresh.{salt_len}}
-use Rattle.picky_ppk.proofs.CheckedLaws.{made_file_carries}
+use Rattle.picky_ppk.specs.{declared.layout.PpkLayout.{PpkLayout}, PpkLayout.{laid_parts, laid_secret}}
+use Rattle.picky_ppk.proofs.{CheckedLaws.{made_file_carries}, LayoutLaws.{laid_parts_counted, laid_parts_stand}}
 use Rattle.picky_key_text.specs.{Key.{private_meaning}, PpkText.{CanOpen, IsPpkText}, Reads.{Means, Reads}}
 use Rattle.picky_target.specs.declared.target.KeyTarget.TheVariants as targets
 use Rattle.picky_target.specs.Output.{Output}
@@ -30,28 +29,30 @@ use Rattle.picky_target.specs.Carried.{Carries, Comment, Derivation, DerivesUnde
 use Rattle.picky_target.specs.Drafts.{key_parts_of, plain_file, ppk_file, sealed_file, key_padding_len}
 use Rattle.picky_target.specs.ReadBack.{IsConfig, under}
 use Rattle.picky_target.proofs.ByteLemmas.{drop_bytes, each_is_byte, keys_are_bytes, secret_is_bytes, take_bytes}
-use Rattle.picky_target.proofs.{FileLemmas.{key_parts_is}, FormLaws.{file_form}}
+use Rattle.picky_target.proofs.{FileLemmas.{laid_parts_are}, FormLaws.{file_form}}
 
 -- ---- the parts
 
 -- the parts of a key that fits a file
-made_parts : (key : SshBasePrivateKey) → is_security_key (public_part key) ≡ false → length (blob_of (public_part key)) < 2 ^ 32
-    → length (secret_bytes key) < 2 ^ 32 → key_parts key ≡ Ok (key_parts_of key)
-made_parts key plain blob secret =
+pub made_parts : (layout : PpkLayout) (key : SshBasePrivateKey) → is_security_key (public_part key) ≡ false
+    → length (blob_of (public_part key)) < 2 ^ 32
+    → length (laid_secret layout key) < 2 ^ 32 → laid_parts layout key ≡ Ok (key_parts_of layout key)
+made_parts layout key plain blob secret =
     let blob_fits = lt-ltb (length (blob_of (public_part key))) (2 ^ 32) blob in
-    let secret_fits = lt-ltb (length (secret_bytes key)) (2 ^ 32) secret in
-    key_parts_is key plain ∙ rw (blob_fits, secret_fits) refl
+    let secret_fits = lt-ltb (length (laid_secret layout key)) (2 ^ 32) secret in
+    laid_parts_are layout key plain ∙ rw (blob_fits, secret_fits) refl
 
 -- stand for it, with any padding too
-stands_padded : (key : SshBasePrivateKey) (padding : List ℕ) → IsPrivateKey key → key_parts key ≡ Ok (key_parts_of key)
-    → StandsForKey (key_parts_of key).algorithm (blob_of (public_part key)) (secret_bytes key ++ padding) key
-stands_padded key padding is made =
-    let algorithm = (key_parts_of key).algorithm in
+stands_padded : (layout : PpkLayout) (key : SshBasePrivateKey) (padding : List ℕ) → IsPrivateKey key
+    → laid_parts layout key ≡ Ok (key_parts_of layout key)
+    → StandsForKey (key_parts_of layout key).algorithm (blob_of (public_part key)) (laid_secret layout key ++ padding) key
+stands_padded layout key padding is made =
+    let algorithm = (key_parts_of layout key).algorithm in
     let blob = blob_of (public_part key) in
-    let secret = secret_bytes key in
-    let stands = parts_sound algorithm blob secret key (parts_read_back key (key_parts_of key) is made) in
+    let secret = laid_secret layout key in
+    let stands = laid_parts_stand layout key (key_parts_of layout key) is made in
     subst (λ s. StandsForKey algorithm blob (s ++ padding) key) (take-length secret)
-    (cut_stands algorithm blob secret padding key (length secret) stands (made_is_counted key (key_parts_of key) is made))
+    (cut_stands algorithm blob secret padding key (length secret) stands (laid_parts_counted layout key (key_parts_of layout key) is made))
 
 mac_bytes : (m : Meanings) (version : PpkVersionKey) (key input : List ℕ)
     → (length (mac_of m version key input) < 2 ^ 32) × IsBytes (mac_of m version key input)
@@ -79,31 +80,41 @@ text_says_file f is short public private line =
 
 -- ---- the file that isn't sealed
 
-plain_is_read_back : (m : Meanings) (fresh : List ℕ) (version : PpkVersionKey) (config : PpkEncryptionConfig)
-    (key : SshBasePrivateKey) (comment : List ℕ) → IsPrivateKey key → IsText comment
-    → Carries (record { pass = None; fresh = fresh }) (targets.Ppk version config) (private_meaning key comment)
-    → IsPpkText (under m None) (file_text (plain_file m version key comment)) (private_meaning key comment)
-plain_is_read_back m fresh version config key comment is text carries =
-    let f = plain_file m version key comment in
+pub plain_says : (m : Meanings) (fresh : List ℕ) (version : PpkVersionKey) (config : PpkEncryptionConfig)
+    (layout : PpkLayout) (key : SshBasePrivateKey) (comment : List ℕ) → IsPrivateKey key → IsText comment
+    → Carries (record { pass = None; fresh = fresh }) (targets.Ppk version config layout) (private_meaning key comment)
+    → SaysFile (file_text (plain_file m version layout key comment)) (plain_file m version layout key comment)
+plain_says m fresh version config layout key comment is text carries =
+    let f = plain_file m version layout key comment in
     let room = carries.holds Length in
     let lines = carries.holds Lines in
-    let blob = blob_of (public_part key) in
-    let secret = secret_bytes key in
     let file : IsFile f = record {
       sealing = tt;
       comment = text.string.short;
       public_key = (room.blob, blob_is_bytes (public_part key) (public_part_is_key key is));
-      private_bytes = (room.private, secret_is_bytes key is);
+      private_bytes = (room.private, secret_is_bytes layout key is);
       mac = own_mac_bytes m _;
     } in
-    let made = made_parts key (carries.holds Kind) room.blob room.private in
+    text_says_file f file (room.text m) lines.0 lines.1 (carries.holds Comment)
+
+plain_is_read_back : (m : Meanings) (fresh : List ℕ) (version : PpkVersionKey) (config : PpkEncryptionConfig)
+    (layout : PpkLayout) (key : SshBasePrivateKey) (comment : List ℕ) → IsPrivateKey key → IsText comment
+    → Carries (record { pass = None; fresh = fresh }) (targets.Ppk version config layout) (private_meaning key comment)
+    → IsPpkText (under m None) (file_text (plain_file m version layout key comment)) (private_meaning key comment)
+plain_is_read_back m fresh version config layout key comment is text carries =
+    let f = plain_file m version layout key comment in
+    let room = carries.holds Length in
+    let blob = blob_of (public_part key) in
+    let secret = laid_secret layout key in
+    let made = made_parts layout key (carries.holds Kind) room.blob room.private in
     record {
       file = f;
-      says = text_says_file f file (room.text m) lines.0 lines.1 (carries.holds Comment);
+      says = plain_says m fresh version config layout key comment is text carries;
       private = secret;
       opened = inl (made_file_carries m _ f refl refl, refl);
       key = key;
-      stands = subst (λ s. StandsForKey (key_parts_of key).algorithm blob s key) (append-nil secret) (stands_padded key [] is made);
+      stands = subst (λ s. StandsForKey (key_parts_of layout key).algorithm blob s key) (append-nil secret)
+          (stands_padded layout key [] is made);
       is = refl;
     }
 
@@ -119,46 +130,63 @@ sealing_ranges V3 config salt is each len = record {
   salt = (omega (arith, len, is.salt_size), each);
 }
 
-sealing_opens : (version : PpkVersionKey) (config : PpkEncryptionConfig) (salt pass : List ℕ)
-    → length salt ≡ salt_len version config → DerivesUnder (targets.Ppk version config) pass
+sealing_opens : (version : PpkVersionKey) (config : PpkEncryptionConfig) (layout : PpkLayout) (salt pass : List ℕ)
+    → length salt ≡ salt_len version config → DerivesUnder (targets.Ppk version config layout) pass
     → CanOpen (sealing_under version config salt) pass
-sealing_opens V2 config salt pass len derives = tt
-sealing_opens V3 config salt pass len derives = rw len derives
+sealing_opens V2 config layout salt pass len derives = tt
+sealing_opens V3 config layout salt pass len derives = rw len derives
 
 sealing_version : (version : PpkVersionKey) (config : PpkEncryptionConfig) (salt : List ℕ)
     → version_of (sealing_under version config salt) ≡ version
 sealing_version V2 config salt = refl
 sealing_version V3 config salt = refl
 
-sealed_is_read_back : (m : Meanings) (pass fresh : List ℕ) (version : PpkVersionKey) (config : PpkEncryptionConfig)
-    (key : SshBasePrivateKey) (comment : List ℕ) → IsConfig config → IsPrivateKey key → IsText comment → IsBytes fresh
-    → IsUtf8 pass
-    → Carries (record { pass = Some pass; fresh = fresh }) (targets.Ppk version config) (private_meaning key comment)
-    → IsPpkText (under m (Some pass))
-    (file_text (sealed_file m (record { pass = Some pass; fresh = fresh }) version config pass (plain_file m version key comment) key))
-    (private_meaning key comment)
-sealed_is_read_back m pass fresh version config key comment ranges is text fresh_bytes pass_text carries =
+abbrev sealed_of : Meanings → (pass fresh : List ℕ) → PpkVersionKey → PpkEncryptionConfig → PpkLayout → SshBasePrivateKey
+    → (comment : List ℕ) → PpkFile
+sealed_of m pass fresh version config layout key comment =
+    sealed_file m (record { pass = Some pass; fresh = fresh }) version config layout pass (plain_file m version layout key comment) key
+
+-- the salt and the padding are as long as they should be
+pub salt_sized : (pass fresh : List ℕ) (version : PpkVersionKey) (config : PpkEncryptionConfig) (layout : PpkLayout)
+    (key : SshBasePrivateKey) (comment : List ℕ)
+    → Carries (record { pass = Some pass; fresh = fresh }) (targets.Ppk version config layout) (private_meaning key comment)
+    → length (take (salt_len version config) fresh) ≡ salt_len version config
+salt_sized pass fresh version config layout key comment carries =
+    let n = salt_len version config in
+    let enough : n + key_padding_len layout key ≤ length fresh = carries.holds Fresh in
+    omega (arith, enough, length-take n fresh)
+
+pub padding_sized : (pass fresh : List ℕ) (version : PpkVersionKey) (config : PpkEncryptionConfig) (layout : PpkLayout)
+    (key : SshBasePrivateKey) (comment : List ℕ)
+    → Carries (record { pass = Some pass; fresh = fresh }) (targets.Ppk version config layout) (private_meaning key comment)
+    → length (take (key_padding_len layout key) (drop (salt_len version config) fresh)) ≡ key_padding_len layout key
+padding_sized pass fresh version config layout key comment carries =
+    let n = salt_len version config in
+    let enough : n + key_padding_len layout key ≤ length fresh = carries.holds Fresh in
+    omega (arith, enough, length-take (key_padding_len layout key) (drop n fresh), length-drop n fresh)
+
+pub sealed_says : (m : Meanings) (pass fresh : List ℕ) (version : PpkVersionKey) (config : PpkEncryptionConfig)
+    (layout : PpkLayout) (key : SshBasePrivateKey) (comment : List ℕ) → IsConfig config → IsPrivateKey key → IsText comment
+    → IsBytes fresh → IsUtf8 pass
+    → Carries (record { pass = Some pass; fresh = fresh }) (targets.Ppk version config layout) (private_meaning key comment)
+    → SaysFile (file_text (sealed_of m pass fresh version config layout key comment)) (sealed_of m pass fresh version config layout key comment)
+sealed_says m pass fresh version config layout key comment ranges is text fresh_bytes pass_text carries =
     let n = salt_len version config in
     let salt = take n fresh in
-    let padding = take (key_padding_len key) (drop n fresh) in
+    let padding = take (key_padding_len layout key) (drop n fresh) in
     let sealing = sealing_under version config salt in
     let keys = keys_under m sealing pass in
-    let f = sealed_file m (record { pass = Some pass; fresh = fresh }) version config pass (plain_file m version key comment) key in
-    let blob = blob_of (public_part key) in
-    let secret = secret_bytes key in
+    let f = sealed_of m pass fresh version config layout key comment in
+    let secret = laid_secret layout key in
     let private = secret ++ padding in
-    let enough : n + key_padding_len key ≤ length fresh = carries.holds Fresh in
-    let salt_sized : length salt ≡ n = omega (arith, enough, length-take n fresh) in
-    let padding_sized : length padding ≡ key_padding_len key =
-    omega (arith, enough, length-take (key_padding_len key) (drop n fresh), length-drop n fresh) in
     let room = carries.holds Length in
     let lines = carries.holds Lines in
     let salt_bytes = take_bytes n fresh fresh_bytes in
-    let ranged = sealing_ranges version config salt ranges salt_bytes salt_sized in
+    let ranged = sealing_ranges version config salt ranges salt_bytes (salt_sized pass fresh version config layout key comment carries) in
     let byte_keys = keys_are_bytes m sealing pass ranged (utf8_is_bytes pass pass_text) in
-    let open_bytes = bytes_joined secret padding (secret_is_bytes key is) (take_bytes (key_padding_len key) (drop n fresh) (drop_bytes n fresh fresh_bytes)) in
+    let open_bytes = bytes_joined secret padding (secret_is_bytes layout key is)
+    (take_bytes (key_padding_len layout key) (drop n fresh) (drop_bytes n fresh fresh_bytes)) in
     let sealed_len = m.seal_len keys.key keys.iv private in
-    let whole : IsWhole private = omega (arith, length-append secret padding, padding_sized) in
     let file : IsFile f = record {
       sealing = ranged;
       comment = text.string.short;
@@ -166,46 +194,66 @@ sealed_is_read_back m pass fresh version config key comment ranges is text fresh
       private_bytes = (omega (arith, sealed_len, room.private), m.seal_bytes keys.key keys.iv private byte_keys.key byte_keys.iv open_bytes);
       mac = mac_bytes m (version_of sealing) keys.mac_key _;
     } in
-    let made = made_parts key (carries.holds Kind) room.blob (omega (arith, length-append secret padding, room.private)) in
     let line : IsLine (line_end_of (version_of sealing)) comment =
     subst (λ v. IsLine (line_end_of v) comment) (sym (sealing_version version config salt)) (carries.holds Comment) in
+    text_says_file f file (room.text m) lines.0 (omega (arith, sealed_len, lines.1)) line
+
+sealed_is_read_back : (m : Meanings) (pass fresh : List ℕ) (version : PpkVersionKey) (config : PpkEncryptionConfig)
+    (layout : PpkLayout) (key : SshBasePrivateKey) (comment : List ℕ) → IsConfig config → IsPrivateKey key → IsText comment
+    → IsBytes fresh → IsUtf8 pass
+    → Carries (record { pass = Some pass; fresh = fresh }) (targets.Ppk version config layout) (private_meaning key comment)
+    → IsPpkText (under m (Some pass)) (file_text (sealed_of m pass fresh version config layout key comment)) (private_meaning key comment)
+sealed_is_read_back m pass fresh version config layout key comment ranges is text fresh_bytes pass_text carries =
+    let n = salt_len version config in
+    let salt = take n fresh in
+    let padding = take (key_padding_len layout key) (drop n fresh) in
+    let sealing = sealing_under version config salt in
+    let keys = keys_under m sealing pass in
+    let secret = laid_secret layout key in
+    let private = secret ++ padding in
+    let room = carries.holds Length in
+    let sized = padding_sized pass fresh version config layout key comment carries in
+    let whole : IsWhole private = omega (arith, length-append secret padding, sized) in
+    let sealed_len = m.seal_len keys.key keys.iv private in
+    let made = made_parts layout key (carries.holds Kind) room.blob (omega (arith, length-append secret padding, room.private)) in
     record {
-      file = f;
-      says = text_says_file f file (room.text m) lines.0 (omega (arith, sealed_len, lines.1)) line;
+      file = sealed_of m pass fresh version config layout key comment;
+      says = sealed_says m pass fresh version config layout key comment ranges is text fresh_bytes pass_text carries;
       private = private;
       opened = inr (
         pass,
         refl,
         record {
-          can_open = sealing_opens version config salt pass salt_sized (carries.holds Derivation);
+          can_open = sealing_opens version config layout salt pass (salt_sized pass fresh version config layout key comment carries)
+              (carries.holds Derivation);
           whole = omega (arith, whole, sealed_len);
           opened = sym (m.opens keys.key keys.iv private whole);
           mac = refl;
         },
       );
       key = key;
-      stands = stands_padded key padding is made;
+      stands = stands_padded layout key padding is made;
       is = refl;
     }
 
 -- ---- each way
 
 file_says_key : (m : Meanings) (pass : Option (List ℕ)) (fresh : List ℕ) (version : PpkVersionKey) (config : PpkEncryptionConfig)
-    (key : SshBasePrivateKey) (comment : List ℕ) → IsConfig config → IsPrivateKey key → IsText comment → IsBytes fresh
+    (layout : PpkLayout) (key : SshBasePrivateKey) (comment : List ℕ) → IsConfig config → IsPrivateKey key → IsText comment → IsBytes fresh
     → IfSome pass IsUtf8
-    → Carries (record { pass = pass; fresh = fresh }) (targets.Ppk version config) (private_meaning key comment)
-    → IsPpkText (under m pass) (file_text (ppk_file m (record { pass = pass; fresh = fresh }) version config key comment))
+    → Carries (record { pass = pass; fresh = fresh }) (targets.Ppk version config layout) (private_meaning key comment)
+    → IsPpkText (under m pass) (file_text (ppk_file m (record { pass = pass; fresh = fresh }) version config layout key comment))
     (private_meaning key comment)
-file_says_key m None fresh version config key comment ranges is text fresh_bytes pass_text carries =
-    plain_is_read_back m fresh version config key comment is text carries
-file_says_key m (Some pass) fresh version config key comment ranges is text fresh_bytes pass_text carries =
-    sealed_is_read_back m pass fresh version config key comment ranges is text fresh_bytes pass_text carries
+file_says_key m None fresh version config layout key comment ranges is text fresh_bytes pass_text carries =
+    plain_is_read_back m fresh version config layout key comment is text carries
+file_says_key m (Some pass) fresh version config layout key comment ranges is text fresh_bytes pass_text carries =
+    sealed_is_read_back m pass fresh version config layout key comment ranges is text fresh_bytes pass_text carries
 
 pub file_is_read_back : (m : Meanings) (out : Output) (version : PpkVersionKey) (config : PpkEncryptionConfig)
-    (key : SshBasePrivateKey) (comment : List ℕ) → IsConfig config → IsPrivateKey key → IsText comment → IsBytes out.fresh
-    → IfSome out.pass IsUtf8 → Carries out (targets.Ppk version config) (private_meaning key comment)
-    → Reads (under m out.pass) (file_text (ppk_file m out version config key comment)) (private_meaning key comment)
-file_is_read_back m out version config key comment ranges is text fresh pass carries =
-    let f = ppk_file m out version config key comment in
+    (layout : PpkLayout) (key : SshBasePrivateKey) (comment : List ℕ) → IsConfig config → IsPrivateKey key → IsText comment → IsBytes out.fresh
+    → IfSome out.pass IsUtf8 → Carries out (targets.Ppk version config layout) (private_meaning key comment)
+    → Reads (under m out.pass) (file_text (ppk_file m out version config layout key comment)) (private_meaning key comment)
+file_is_read_back m out version config layout key comment ranges is text fresh pass carries =
+    let f = ppk_file m out version config layout key comment in
     subst (λ form. Means form (under m out.pass) (file_text f) (private_meaning key comment)) (sym (file_form f))
-    (file_says_key m out.pass out.fresh version config key comment ranges is text fresh pass carries)
+    (file_says_key m out.pass out.fresh version config layout key comment ranges is text fresh pass carries)

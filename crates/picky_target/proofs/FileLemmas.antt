@@ -18,13 +18,13 @@ use Rattle.picky_ppk_parts.specs.declared.error.PuttyError.TheVariants as putty
 use Rattle.picky_ppk_parts.specs.declared.config.PpkEncryptionConfig.{PpkEncryptionConfig}
 use Rattle.picky_ppk_parts.specs.declared.key_parts.KeyParts.{KeyParts}
 use Rattle.picky_ppk_parts.specs.Algorithm.{curve_algorithm}
-use Rattle.picky_ppk_parts.specs.KeyParts.{key_parts, parts_under}
-use Rattle.picky_ppk_parts.specs.Secret.{secret_bytes}
 use Rattle.picky_ppk_parts.specs.Unsupported.{no_security_keys}
 use Rattle.picky_ppk_file.specs.declared.file.PpkFile.{PpkFile}
 use Rattle.picky_ppk_file.specs.PuttyRefusal.{is_security_key}
-use Rattle.picky_ppk.specs.Changed.{file_of_parts, of_base_key}
+use Rattle.picky_ppk.specs.declared.layout.PpkLayout.{PpkLayout}
+use Rattle.picky_ppk.specs.Changed.{file_of_parts}
 use Rattle.picky_ppk.specs.Fresh.{salt_len}
+use Rattle.picky_ppk.specs.PpkLayout.{laid_file, laid_parts, laid_secret, laid_under}
 use Rattle.picky_target.specs.Drafts.{key_parts_of, plain_file}
 
 -- ---- the parts of a key
@@ -40,23 +40,24 @@ steps : (short_blob short_secret : Bool) (algorithm : PpkKeyAlgorithmValue) (blo
 steps true short_secret algorithm blob secret = refl
 steps false short_secret algorithm blob secret = refl
 
-abbrev parts_tested : SshBasePrivateKey → Result KeyParts PuttyError
-parts_tested key = tested (is_short (blob_of (public_part key))) (is_short (secret_bytes key)) (key_parts_of key)
+abbrev parts_tested : PpkLayout → SshBasePrivateKey → Result KeyParts PuttyError
+parts_tested layout key = tested (is_short (blob_of (public_part key))) (is_short (laid_secret layout key)) (key_parts_of layout key)
 
-under_is : (key : SshBasePrivateKey) (algorithm : PpkKeyAlgorithmValue) → (key_parts_of key).algorithm ≡ algorithm
-    → parts_under key algorithm ≡ parts_tested key
-under_is key algorithm is =
-    steps (is_short (blob_of (public_part key))) (is_short (secret_bytes key)) algorithm (blob_of (public_part key)) (secret_bytes key)
-    ∙ ap (λ a. tested (is_short (blob_of (public_part key))) (is_short (secret_bytes key)) (record (key_parts_of key) { algorithm = a })) (sym is)
+under_is : (layout : PpkLayout) (key : SshBasePrivateKey) (algorithm : PpkKeyAlgorithmValue)
+    → (key_parts_of layout key).algorithm ≡ algorithm → laid_under layout key algorithm ≡ parts_tested layout key
+under_is layout key algorithm is =
+    steps (is_short (blob_of (public_part key))) (is_short (laid_secret layout key)) algorithm (blob_of (public_part key)) (laid_secret layout key)
+    ∙ ap (λ a. tested (is_short (blob_of (public_part key))) (is_short (laid_secret layout key)) (record (key_parts_of layout key) { algorithm = a })) (sym is)
 
 -- Which parts a key has, and which refusals.
-pub key_parts_is : (key : SshBasePrivateKey) → is_security_key (public_part key) ≡ false → key_parts key ≡ parts_tested key
-unfolding key_parts
-key_parts_is (keys.Rsa n e d iqmp p q) plain = under_is (keys.Rsa n e d iqmp p q) algorithms.Rsa refl
-key_parts_is (keys.Ec curve point secret) plain = under_is (keys.Ec curve point secret) (curve_algorithm curve) refl
-key_parts_is (keys.Ed secret public) plain = under_is (keys.Ed secret public) algorithms.Ed25519 refl
-key_parts_is (keys.SkEcdsaSha2NistP256 point application flags handle) plain = cc plain
-key_parts_is (keys.SkEd25519 key application flags handle) plain = cc plain
+pub laid_parts_are : (layout : PpkLayout) (key : SshBasePrivateKey) → is_security_key (public_part key) ≡ false
+    → laid_parts layout key ≡ parts_tested layout key
+unfolding laid_parts
+laid_parts_are layout (keys.Rsa n e d iqmp p q) plain = under_is layout (keys.Rsa n e d iqmp p q) algorithms.Rsa refl
+laid_parts_are layout (keys.Ec curve point secret) plain = under_is layout (keys.Ec curve point secret) (curve_algorithm curve) refl
+laid_parts_are layout (keys.Ed secret public) plain = under_is layout (keys.Ed secret public) algorithms.Ed25519 refl
+laid_parts_are layout (keys.SkEcdsaSha2NistP256 point application flags handle) plain = cc plain
+laid_parts_are layout (keys.SkEd25519 key application flags handle) plain = cc plain
 
 tested_ok : {A : Type 0} (blob secret : Bool) (x y : A) → tested blob secret x ≡ Ok y → x ≡ y
 tested_ok true true x y is = cc is
@@ -64,29 +65,31 @@ tested_ok true false x y is = cc is
 tested_ok false secret x y is = cc is
 
 -- A key whose secret a device keeps has none.
-pub security_key_is_refused : (key : SshBasePrivateKey) → is_security_key (public_part key) ≡ true → key_parts key ≡ Err no_security_keys
-unfolding key_parts
-security_key_is_refused (keys.Rsa n e d iqmp p q) is_sk = cc is_sk
-security_key_is_refused (keys.Ec curve point secret) is_sk = cc is_sk
-security_key_is_refused (keys.Ed secret public) is_sk = cc is_sk
-security_key_is_refused (keys.SkEcdsaSha2NistP256 point application flags handle) is_sk = refl
-security_key_is_refused (keys.SkEd25519 key application flags handle) is_sk = refl
+pub security_key_is_refused : (layout : PpkLayout) (key : SshBasePrivateKey) → is_security_key (public_part key) ≡ true
+    → laid_parts layout key ≡ Err no_security_keys
+unfolding laid_parts
+security_key_is_refused layout (keys.Rsa n e d iqmp p q) is_sk = cc is_sk
+security_key_is_refused layout (keys.Ec curve point secret) is_sk = cc is_sk
+security_key_is_refused layout (keys.Ed secret public) is_sk = cc is_sk
+security_key_is_refused layout (keys.SkEcdsaSha2NistP256 point application flags handle) is_sk = refl
+security_key_is_refused layout (keys.SkEd25519 key application flags handle) is_sk = refl
 
-parts_are : (key : SshBasePrivateKey) (parts : KeyParts) → key_parts key ≡ Ok parts → key_parts_of key ≡ parts
-parts_are key parts is = go (is_security_key (public_part key)) refl
+parts_are : (layout : PpkLayout) (key : SshBasePrivateKey) (parts : KeyParts) → laid_parts layout key ≡ Ok parts
+    → key_parts_of layout key ≡ parts
+parts_are layout key parts is = go (is_security_key (public_part key)) refl
   where
-    go : (is_sk : Bool) → is_security_key (public_part key) ≡ is_sk → key_parts_of key ≡ parts
-    go true is_sk = cc (sym (security_key_is_refused key is_sk) ∙ is)
-    go false plain = tested_ok _ _ (key_parts_of key) parts (sym (key_parts_is key plain) ∙ is)
+    go : (is_sk : Bool) → is_security_key (public_part key) ≡ is_sk → key_parts_of layout key ≡ parts
+    go true is_sk = cc (sym (security_key_is_refused layout key is_sk) ∙ is)
+    go false plain = tested_ok _ _ (key_parts_of layout key) parts (sym (laid_parts_are layout key plain) ∙ is)
 
 -- The file that is made of a key.
-pub made_is_plain : (m : Meanings) (version : PpkVersionKey) (key : SshBasePrivateKey) (comment : List ℕ) (f : PpkFile)
-    → of_base_key m version key comment ≡ Ok f → plain_file m version key comment ≡ f
-unfolding of_base_key
-made_is_plain m version key comment f is =
-    let both = and_then_ok (key_parts key) (λ parts. Ok (file_of_parts m version comment parts)) f is in
+pub made_is_plain : (m : Meanings) (version : PpkVersionKey) (layout : PpkLayout) (key : SshBasePrivateKey) (comment : List ℕ)
+    (f : PpkFile) → laid_file m version layout key comment ≡ Ok f → plain_file m version layout key comment ≡ f
+unfolding laid_file
+made_is_plain m version layout key comment f is =
+    let both = and_then_ok (laid_parts layout key) (λ parts. Ok (file_of_parts m version comment parts)) f is in
     let same : file_of_parts m version comment both.0 ≡ f = cc (both.2) in
-    ap (file_of_parts m version comment) (parts_are key both.0 both.1) ∙ same
+    ap (file_of_parts m version comment) (parts_are layout key both.0 both.1) ∙ same
 
 -- ---- the salt
 

@@ -10,11 +10,11 @@ use Rattle.picky_suite.specs.Meanings.{Meanings}
 use Rattle.picky_keys.specs.{Blob.{blob_of}, LineRefusal.{is_short}}
 use Rattle.picky_sshkey_blob.specs.{declared.key.SshBasePrivateKey.{SshBasePrivateKey}, Key.{public_part}}
 use Rattle.picky_ppk_parts.specs.{declared.config.PpkEncryptionConfig.{PpkEncryptionConfig}, Mac.{mac_of}}
-use Rattle.picky_ppk_parts.specs.Secret.{secret_bytes}
+use Rattle.picky_ppk.specs.{declared.layout.PpkLayout.{PpkLayout}, PpkLayout.{laid_file, laid_secret}}
 use Rattle.picky_ppk_parts.specs.declared.error.PuttyError.TheVariants as putty
 use Rattle.picky_ppk_file.specs.{declared.file.PpkFile.{PpkFile}, File.{version_of}}
 use Rattle.picky_ppk_file.specs.{Written.{file_text, fits_block, file_spelled as file_written}, PuttyRefusal.{is_security_key}}
-use Rattle.picky_ppk.specs.{Changed.{of_base_key}, Keyed.{keys_under}, Mac.{own_mac}}
+use Rattle.picky_ppk.specs.{Keyed.{keys_under}, Mac.{own_mac}}
 use Rattle.picky_ppk.specs.{Sealed.{encrypted, file_to_seal, sealing_under}, Fresh.{salt_len}}
 use Rattle.picky_ppk.proofs.SealedLemmas.{draft_fits}
 use Rattle.picky_key_text.specs.Key.{private_meaning}
@@ -25,7 +25,7 @@ use Rattle.picky_target.specs.Written.{written, writing_asks}
 use Rattle.picky_target.specs.inner.File.{plain_written, Sealable, sealable_file, sealed_text, ppk_written, ppk_writing_asks}
 use Rattle.picky_target.specs.declared.error.ConvertError.TheVariants as errors
 use Rattle.picky_target.specs.declared.target.KeyTarget.TheVariants as targets
-use Rattle.picky_target.proofs.{FileLemmas.{key_parts_is, salt_size}, LengthLemmas.{same_length, sealing_version}}
+use Rattle.picky_target.proofs.{FileLemmas.{laid_parts_are, salt_size}, LengthLemmas.{same_length, sealing_version}}
 
 -- ---- lengths
 
@@ -41,30 +41,30 @@ zeros_len : (version : PpkVersionKey) → length {A = ℕ} (replicate (mac_len v
 zeros_len version = length-replicate (mac_len version) 0
 
 -- The file that isn't sealed is as long as what is measured.
-pub plain_len : (m : Meanings) (fresh : List ℕ) (version : PpkVersionKey) (config : PpkEncryptionConfig) (key : SshBasePrivateKey)
+pub plain_len : (m : Meanings) (fresh : List ℕ) (version : PpkVersionKey) (config : PpkEncryptionConfig) (layout : PpkLayout) (key : SshBasePrivateKey)
     (comment : List ℕ)
-    → length (file_text (measured_file (record { pass = None; fresh = fresh }) version config key comment))
-    ≡ length (file_text (plain_file m version key comment))
-plain_len m fresh version config key comment =
-    same_length (plain_file m version key comment) (secret_bytes key) (replicate (mac_len version) 0) refl
+    → length (file_text (measured_file (record { pass = None; fresh = fresh }) version config layout key comment))
+    ≡ length (file_text (plain_file m version layout key comment))
+plain_len m fresh version config layout key comment =
+    same_length (plain_file m version layout key comment) (laid_secret layout key) (replicate (mac_len version) 0) refl
     (zeros_len version ∙ sym (own_mac_len m _))
 
 -- So is the sealed one.
-pub sealed_len : (m : Meanings) (pass fresh : List ℕ) (version : PpkVersionKey) (config : PpkEncryptionConfig)
+pub sealed_len : (m : Meanings) (pass fresh : List ℕ) (version : PpkVersionKey) (config : PpkEncryptionConfig) (layout : PpkLayout)
     (key : SshBasePrivateKey) (comment : List ℕ)
-    → length (file_text (measured_file (record { pass = Some pass; fresh = fresh }) version config key comment))
-    ≡ length (file_text (sealed_file m (record { pass = Some pass; fresh = fresh }) version config pass (plain_file m version key comment) key))
-sealed_len m pass fresh version config key comment =
+    → length (file_text (measured_file (record { pass = Some pass; fresh = fresh }) version config layout key comment))
+    ≡ length (file_text (sealed_file m (record { pass = Some pass; fresh = fresh }) version config layout pass (plain_file m version layout key comment) key))
+sealed_len m pass fresh version config layout key comment =
     let salt = take (salt_len version config) fresh in
-    let padding = take (key_padding_len key) (drop (salt_len version config) fresh) in
+    let padding = take (key_padding_len layout key) (drop (salt_len version config) fresh) in
     let sealing = sealing_under version config salt in
     let keys = keys_under m sealing pass in
-    let plain = plain_file m version key comment in
+    let plain = plain_file m version layout key comment in
     let draft = file_to_seal config salt padding plain in
     let covered = mac_of_len m (version_of sealing) keys.mac_key _ ∙ ap mac_len (sealing_version version config salt) in
-    same_length (sealed_file m (record { pass = Some pass; fresh = fresh }) version config pass plain key)
-    (secret_bytes key ++ padding) (replicate (mac_len version) 0)
-    (sym (m.seal_len keys.key keys.iv (secret_bytes key ++ padding))) (zeros_len version ∙ sym covered)
+    same_length (sealed_file m (record { pass = Some pass; fresh = fresh }) version config layout pass plain key)
+    (laid_secret layout key ++ padding) (replicate (mac_len version) 0)
+    (sym (m.seal_len keys.key keys.iv (laid_secret layout key ++ padding))) (zeros_len version ∙ sym covered)
 
 -- ---- what is judged after the kind and the comment
 
@@ -75,23 +75,23 @@ rest derives enough blob private text lines =
 
 -- ---- the file that isn't sealed
 
-plain_is : (m : Meanings) (fresh : List ℕ) (version : PpkVersionKey) (config : PpkEncryptionConfig) (key : SshBasePrivateKey)
+plain_is : (m : Meanings) (fresh : List ℕ) (version : PpkVersionKey) (config : PpkEncryptionConfig) (layout : PpkLayout) (key : SshBasePrivateKey)
     (comment : List ℕ) → is_security_key (public_part key) ≡ false
-    → plain_written m version key comment
-    ≡ and_then (rest true true (is_short (blob_of (public_part key))) (is_short (secret_bytes key))
-    (is_short (file_text (measured_file (record { pass = None; fresh = fresh }) version config key comment)))
-    (fits_block (blob_of (public_part key)) && fits_block (secret_bytes key)))
-    (λ _. Ok (file_text (plain_file m version key comment)))
-unfolding of_base_key file_written
-plain_is m fresh version config key comment plain =
+    → plain_written m version layout key comment
+    ≡ and_then (rest true true (is_short (blob_of (public_part key))) (is_short (laid_secret layout key))
+    (is_short (file_text (measured_file (record { pass = None; fresh = fresh }) version config layout key comment)))
+    (fits_block (blob_of (public_part key)) && fits_block (laid_secret layout key)))
+    (λ _. Ok (file_text (plain_file m version layout key comment)))
+unfolding laid_file file_written
+plain_is m fresh version config layout key comment plain =
     let blob = blob_of (public_part key) in
-    let secret = secret_bytes key in
-    let same = ap (λ n. nat_lt n (2 ^ 32)) (plain_len m fresh version config key comment) in
-    rw (key_parts_is key plain, same) (elim (cases_Bool (is_short blob)) [
+    let secret = laid_secret layout key in
+    let same = ap (λ n. nat_lt n (2 ^ 32)) (plain_len m fresh version config layout key comment) in
+    rw (laid_parts_are layout key plain, same) (elim (cases_Bool (is_short blob)) [
       | inr long ↦ rw long refl
       | inl short ↦ rw short (elim (cases_Bool (is_short secret)) [
         | inr long ↦ rw long refl
-        | inl short ↦ rw short (elim (cases_Bool (is_short (file_text (plain_file m version key comment)))) [
+        | inl short ↦ rw short (elim (cases_Bool (is_short (file_text (plain_file m version layout key comment)))) [
           | inr long ↦ rw long refl
           | inl short ↦ rw short (elim (cases_Bool (fits_block blob && fits_block secret)) [
             | inr many ↦ rw many refl
@@ -106,19 +106,19 @@ plain_is m fresh version config key comment plain =
 abbrev under : (pass fresh : List ℕ) → Output
 under pass fresh = record { pass = Some pass; fresh = fresh }
 
-abbrev sealed_rest : (pass fresh : List ℕ) → PpkVersionKey → PpkEncryptionConfig → SshBasePrivateKey → (comment : List ℕ)
+abbrev sealed_rest : (pass fresh : List ℕ) → PpkVersionKey → PpkEncryptionConfig → PpkLayout → SshBasePrivateKey → (comment : List ℕ)
     → Result (Unit {0}) ConvertError
-sealed_rest pass fresh version config key comment =
-    rest (derives_under (targets.Ppk version config) pass) (nat_le (salt_len version config + key_padding_len key) (length fresh))
-    (is_short (blob_of (public_part key))) (is_short (private_bytes (under pass fresh) version config key))
-    (is_short (file_text (measured_file (under pass fresh) version config key comment)))
-    (fits_block (blob_of (public_part key)) && fits_block (private_bytes (under pass fresh) version config key))
+sealed_rest pass fresh version config layout key comment =
+    rest (derives_under (targets.Ppk version config layout) pass) (nat_le (salt_len version config + key_padding_len layout key) (length fresh))
+    (is_short (blob_of (public_part key))) (is_short (private_bytes (under pass fresh) version config layout key))
+    (is_short (file_text (measured_file (under pass fresh) version config layout key comment)))
+    (fits_block (blob_of (public_part key)) && fits_block (private_bytes (under pass fresh) version config layout key))
 
-abbrev to_seal : Meanings → (fresh : List ℕ) → PpkVersionKey → PpkEncryptionConfig → SshBasePrivateKey → (comment : List ℕ) → Sealable
-to_seal m fresh version config key comment = record {
+abbrev to_seal : Meanings → (fresh : List ℕ) → PpkVersionKey → PpkEncryptionConfig → PpkLayout → SshBasePrivateKey → (comment : List ℕ) → Sealable
+to_seal m fresh version config layout key comment = record {
   salt = take (salt_len version config) fresh;
-  padding = take (key_padding_len key) (drop (salt_len version config) fresh);
-  plain = plain_file m version key comment;
+  padding = take (key_padding_len layout key) (drop (salt_len version config) fresh);
+  plain = plain_file m version layout key comment;
 }
 
 -- a secret is no longer than with its padding
@@ -127,22 +127,22 @@ secret_short secret padding long =
     let most = ltb-false (length secret) (2 ^ 32) long in
     le-ltb (length (secret ++ padding)) (2 ^ 32) (omega (arith, most, length-append secret padding))
 
-sealable_is : (m : Meanings) (pass fresh : List ℕ) (version : PpkVersionKey) (config : PpkEncryptionConfig)
+sealable_is : (m : Meanings) (pass fresh : List ℕ) (version : PpkVersionKey) (config : PpkEncryptionConfig) (layout : PpkLayout)
     (key : SshBasePrivateKey) (comment : List ℕ) → is_security_key (public_part key) ≡ false
-    → sealable_file m pass fresh version config key comment
-    ≡ and_then (sealed_rest pass fresh version config key comment) (λ _. Ok (to_seal m fresh version config key comment))
-unfolding of_base_key
-sealable_is m pass fresh version config key comment plain =
+    → sealable_file m pass fresh version config layout key comment
+    ≡ and_then (sealed_rest pass fresh version config layout key comment) (λ _. Ok (to_seal m fresh version config layout key comment))
+unfolding laid_file
+sealable_is m pass fresh version config layout key comment plain =
     let blob = blob_of (public_part key) in
-    let secret = secret_bytes key in
+    let secret = laid_secret layout key in
     let salt = take (salt_len version config) fresh in
-    let padding = take (key_padding_len key) (drop (salt_len version config) fresh) in
-    let file = measured_file (record { pass = Some pass; fresh = fresh }) version config key comment in
-    elim (cases_Bool (derives_under (targets.Ppk version config) pass)) [
+    let padding = take (key_padding_len layout key) (drop (salt_len version config) fresh) in
+    let file = measured_file (record { pass = Some pass; fresh = fresh }) version config layout key comment in
+    elim (cases_Bool (derives_under (targets.Ppk version config layout) pass)) [
       | inr bad ↦ rw bad refl
-      | inl derives ↦ rw derives (elim (cases_Bool (nat_le (salt_len version config + key_padding_len key) (length fresh))) [
+      | inl derives ↦ rw derives (elim (cases_Bool (nat_le (salt_len version config + key_padding_len layout key) (length fresh))) [
         | inr few ↦ rw few refl
-        | inl enough ↦ rw (enough, key_parts_is key plain) (elim (cases_Bool (is_short blob)) [
+        | inl enough ↦ rw (enough, laid_parts_are layout key plain) (elim (cases_Bool (is_short blob)) [
           | inr long ↦ rw long refl
           | inl short ↦ rw short (elim (cases_Bool (is_short secret)) [
             | inr long ↦ rw (long, secret_short secret padding long) refl
@@ -172,30 +172,30 @@ rest_says true false blob private text lines is = cc is
 rest_says false enough blob private text lines is = cc is
 
 -- what was judged is sealed
-sealing_done : (m : Meanings) (pass fresh : List ℕ) (version : PpkVersionKey) (config : PpkEncryptionConfig)
+sealing_done : (m : Meanings) (pass fresh : List ℕ) (version : PpkVersionKey) (config : PpkEncryptionConfig) (layout : PpkLayout)
     (key : SshBasePrivateKey) (comment : List ℕ)
-    → sealed_rest pass fresh version config key comment ≡ Ok tt
-    → sealed_text m pass config (to_seal m fresh version config key comment)
-    ≡ Ok (file_text (sealed_file m (under pass fresh) version config pass (plain_file m version key comment) key))
+    → sealed_rest pass fresh version config layout key comment ≡ Ok tt
+    → sealed_text m pass config (to_seal m fresh version config layout key comment)
+    ≡ Ok (file_text (sealed_file m (under pass fresh) version config layout pass (plain_file m version layout key comment) key))
 unfolding encrypted file_written
-sealing_done m pass fresh version config key comment judged =
+sealing_done m pass fresh version config layout key comment judged =
     let blob = blob_of (public_part key) in
-    let says = rest_says (derives_under (targets.Ppk version config) pass) (nat_le (salt_len version config + key_padding_len key) (length fresh))
-    (is_short blob) (is_short (private_bytes (under pass fresh) version config key))
-    (is_short (file_text (measured_file (under pass fresh) version config key comment)))
-    (fits_block blob && fits_block (private_bytes (under pass fresh) version config key)) judged in
-    let secret = secret_bytes key in
+    let says = rest_says (derives_under (targets.Ppk version config layout) pass) (nat_le (salt_len version config + key_padding_len layout key) (length fresh))
+    (is_short blob) (is_short (private_bytes (under pass fresh) version config layout key))
+    (is_short (file_text (measured_file (under pass fresh) version config layout key comment)))
+    (fits_block blob && fits_block (private_bytes (under pass fresh) version config layout key)) judged in
+    let secret = laid_secret layout key in
     let n = salt_len version config in
     let salt = take n fresh in
-    let padding = take (key_padding_len key) (drop n fresh) in
-    let plain = plain_file m version key comment in
+    let padding = take (key_padding_len layout key) (drop n fresh) in
+    let plain = plain_file m version layout key comment in
     let keys = keys_under m (sealing_under version config salt) pass in
-    let long = leb-true (n + key_padding_len key) (length fresh) says.1 in
+    let long = leb-true (n + key_padding_len layout key) (length fresh) says.1 in
     let salt_len_is : length salt ≡ n = omega (arith, long, length-take n fresh) in
     let bytes = ltb-true (length (secret ++ padding)) (2 ^ 32) says.2 in
     let fits = draft_fits pass config salt padding plain (salt_size version config (length salt) salt_len_is)
     says.0 (omega (arith, bytes, length-append secret padding)) in
-    let text_fits = sym (ap (λ n. nat_lt n (2 ^ 32)) (sealed_len m pass fresh version config key comment)) ∙ says.3 in
+    let text_fits = sym (ap (λ n. nat_lt n (2 ^ 32)) (sealed_len m pass fresh version config layout key comment)) ∙ says.3 in
     let lines_fit = ap (λ n. fits_block blob && nat_le n 3145680) (m.seal_len keys.key keys.iv (secret ++ padding)) ∙ says.4 in
     rw (fits, text_fits, lines_fit) refl
 
@@ -212,22 +212,22 @@ passed_alike (Err e) s = refl
 
 -- ---- each way
 
-abbrev pub AreWritten : Meanings → Output → PpkVersionKey → PpkEncryptionConfig → SshBasePrivateKey → List ℕ → Type 0
-AreWritten m out version config key comment =
-    (ppk_written m out version config key comment ≡ written m out (targets.Ppk version config) (private_meaning key comment))
-    × (ppk_writing_asks m out version config key comment ≡ writing_asks out (targets.Ppk version config) (private_meaning key comment))
+abbrev pub AreWritten : Meanings → Output → PpkVersionKey → PpkEncryptionConfig → PpkLayout → SshBasePrivateKey → List ℕ → Type 0
+AreWritten m out version config layout key comment =
+    (ppk_written m out version config layout key comment ≡ written m out (targets.Ppk version config layout) (private_meaning key comment))
+    × (ppk_writing_asks m out version config layout key comment ≡ writing_asks out (targets.Ppk version config layout) (private_meaning key comment))
 
 -- what comes first is judged alike
-first : (m : Meanings) (out : Output) (version : PpkVersionKey) (config : PpkEncryptionConfig) (key : SshBasePrivateKey)
+first : (m : Meanings) (out : Output) (version : PpkVersionKey) (config : PpkEncryptionConfig) (layout : PpkLayout) (key : SshBasePrivateKey)
     (comment : List ℕ)
-    → (is_security_key (public_part key) ≡ false → carries_comment (targets.Ppk version config) comment ≡ true
-    → AreWritten m out version config key comment)
-    → AreWritten m out version config key comment
+    → (is_security_key (public_part key) ≡ false → carries_comment (targets.Ppk version config layout) comment ≡ true
+    → AreWritten m out version config layout key comment)
+    → AreWritten m out version config layout key comment
 unfolding written writing_asks judged_meaning
-first m out version config key comment rest =
+first m out version config layout key comment rest =
     elim (cases_Bool (is_security_key (public_part key))) [
       | inl is_sk ↦ rw is_sk (refl, sym (and_false (is_some out.pass)))
-      | inr plain ↦ elim (cases_Bool (carries_comment (targets.Ppk version config) comment)) [
+      | inr plain ↦ elim (cases_Bool (carries_comment (targets.Ppk version config layout) comment)) [
         | inl carries ↦ rest plain carries
         | inr bad ↦ rw (plain, bad) (refl, sym (and_false (is_some out.pass)))
       ]
@@ -237,35 +237,35 @@ first m out version config key comment rest =
     and_false true = refl
     and_false false = refl
 
-plain_is_written : (m : Meanings) (fresh : List ℕ) (version : PpkVersionKey) (config : PpkEncryptionConfig)
+plain_is_written : (m : Meanings) (fresh : List ℕ) (version : PpkVersionKey) (config : PpkEncryptionConfig) (layout : PpkLayout)
     (key : SshBasePrivateKey) (comment : List ℕ) → is_security_key (public_part key) ≡ false
-    → carries_comment (targets.Ppk version config) comment ≡ true
-    → AreWritten m (record { pass = None; fresh = fresh }) version config key comment
+    → carries_comment (targets.Ppk version config layout) comment ≡ true
+    → AreWritten m (record { pass = None; fresh = fresh }) version config layout key comment
 unfolding written writing_asks judged_meaning
-plain_is_written m fresh version config key comment plain carries =
+plain_is_written m fresh version config layout key comment plain carries =
     let enough : nat_le 0 (length fresh) ≡ true = le-leb 0 (length fresh) (omega arith) in
-    rw (plain, carries, enough) (plain_is m fresh version config key comment plain, refl)
+    rw (plain, carries, enough) (plain_is m fresh version config layout key comment plain, refl)
 
-sealed_is_written : (m : Meanings) (pass fresh : List ℕ) (version : PpkVersionKey) (config : PpkEncryptionConfig)
+sealed_is_written : (m : Meanings) (pass fresh : List ℕ) (version : PpkVersionKey) (config : PpkEncryptionConfig) (layout : PpkLayout)
     (key : SshBasePrivateKey) (comment : List ℕ) → is_security_key (public_part key) ≡ false
-    → carries_comment (targets.Ppk version config) comment ≡ true
-    → AreWritten m (record { pass = Some pass; fresh = fresh }) version config key comment
+    → carries_comment (targets.Ppk version config layout) comment ≡ true
+    → AreWritten m (record { pass = Some pass; fresh = fresh }) version config layout key comment
 unfolding written writing_asks judged_meaning
-sealed_is_written m pass fresh version config key comment plain carries =
-    let is = sealable_is m pass fresh version config key comment plain in
-    let judged = sealed_rest pass fresh version config key comment in
-    let seal = to_seal m fresh version config key comment in
-    let text = file_text (sealed_file m (under pass fresh) version config pass (plain_file m version key comment) key) in
+sealed_is_written m pass fresh version config layout key comment plain carries =
+    let is = sealable_is m pass fresh version config layout key comment plain in
+    let judged = sealed_rest pass fresh version config layout key comment in
+    let seal = to_seal m fresh version config layout key comment in
+    let text = file_text (sealed_file m (under pass fresh) version config layout pass (plain_file m version layout key comment) key) in
     rw (plain, carries, is) (
-      after_judging judged seal (sealed_text m pass config) text (sealing_done m pass fresh version config key comment),
+      after_judging judged seal (sealed_text m pass config) text (sealing_done m pass fresh version config layout key comment),
       passed_alike judged seal,
     )
 
 -- PuTTY's private key file is written as its conditions say, and the suite is asked as they say.
 pub file_is_written : (m : Meanings) (pass : Option (List ℕ)) (fresh : List ℕ) (version : PpkVersionKey)
-    (config : PpkEncryptionConfig) (key : SshBasePrivateKey) (comment : List ℕ)
-    → AreWritten m (record { pass = pass; fresh = fresh }) version config key comment
-file_is_written m None fresh version config key comment =
-    first m (record { pass = None; fresh = fresh }) version config key comment (plain_is_written m fresh version config key comment)
-file_is_written m (Some pass) fresh version config key comment =
-    first m (record { pass = Some pass; fresh = fresh }) version config key comment (sealed_is_written m pass fresh version config key comment)
+    (config : PpkEncryptionConfig) (layout : PpkLayout) (key : SshBasePrivateKey) (comment : List ℕ)
+    → AreWritten m (record { pass = pass; fresh = fresh }) version config layout key comment
+file_is_written m None fresh version config layout key comment =
+    first m (record { pass = None; fresh = fresh }) version config layout key comment (plain_is_written m fresh version config layout key comment)
+file_is_written m (Some pass) fresh version config layout key comment =
+    first m (record { pass = Some pass; fresh = fresh }) version config layout key comment (sealed_is_written m pass fresh version config layout key comment)

@@ -6,7 +6,7 @@ use Rattle.std.proofs.lemmas.List.{length-append, length-replicate}
 use Rattle.std.specs.{Fmt.{decimal}, Int.{div_ceil}, List.{concat}}
 use Rattle.hex.specs.Hex.{encode_lower}
 use Rattle.hex.proofs.HexLemmas.{length-encode_with}
-use Rattle.picky_wire_base.specs.{Mpint.{mpint_of}, Zeros.{without_zeros}}
+use Rattle.picky_wire_base.specs.{Mpint.{mpint_of}, Wire.{string_of}, Zeros.{without_zeros}}
 use Rattle.picky_wire_base.proofs.{MpintLaws.{mpint_of_high, mpint_of_low}, PieceLemmas.{length-string_of}}
 use Rattle.picky_text.specs.{Base64.{base64_of}, Lines.{text_of, end_bytes}, Rows.{rows_of}}
 use Rattle.picky_text.specs.{declared.lines.LineEnd.{LineEnd}, declared.lines.LineEnd.TheVariants.{Lf, CrLf}}
@@ -83,6 +83,9 @@ pub without_zeros_within : (v : List ℕ) → length (without_zeros v) ≤ lengt
 without_zeros_within [] = omega arith
 without_zeros_within (zero ∷ v) = omega (arith, without_zeros_within v)
 without_zeros_within (suc b ∷ v) = omega arith
+
+pub string_len : (v : List ℕ) → length (string_of v) ≡ length v + 4
+string_len v = length-string_of v
 
 pub ruleset number_fields = (high_len, low_len, without_zeros_within)
 

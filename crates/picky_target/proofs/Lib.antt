@@ -12,6 +12,7 @@ pub mod FormLaws
 pub mod ByteLemmas
 pub mod EnvelopeBack
 pub mod FileBack
+pub mod LayoutBack
 pub mod ReadBackLaws
 pub mod JudgedLaws
 pub mod TextLaws

@@ -21,6 +21,7 @@ use Rattle.picky_ppk_file.specs.PuttyRefusal.{is_security_key}
 use Rattle.picky_key_text.specs.{declared.meaning.Key.{Key}, declared.meaning.Meaning.{Meaning}}
 use Rattle.picky_key_text.specs.Key.{public_part, public_key}
 use Rattle.picky_key_text.specs.declared.meaning.Key.TheVariants as keys
+use Rattle.picky_ppk.specs.declared.layout.PpkLayout.{PpkLayout}
 use Rattle.picky_target.specs.{declared.target.KeyTarget.{KeyTarget}, Output.{Output}}
 use Rattle.picky_target.specs.{Drafts.{openssh_key, ppk_file, private_bytes}, Texts.{envelope_text}}
 use Rattle.picky_target.specs.Carried.{CarriesComment, Derives, HasFileLines, HasFileRoom, HasKind, HasLines, HasRoom}
@@ -37,16 +38,16 @@ use Rattle.picky_target.proofs.TestLemmas.{not_true, test_from_has_no, no_end_fr
 secret_holds : (target : KeyTarget) (key : Key) → has_needed_secret target key ≡ true → HasNeededSecret target key
 secret_holds targets.OpenSsh (keys.Private key) test = tt
 secret_holds targets.OpenSsh (keys.Public key) test = cc test
-secret_holds (targets.Ppk version config) (keys.Private key) test = tt
-secret_holds (targets.Ppk version config) (keys.Public key) test = cc test
+secret_holds (targets.Ppk version config layout) (keys.Private key) test = tt
+secret_holds (targets.Ppk version config layout) (keys.Public key) test = cc test
 secret_holds targets.OpenSshPublic key test = tt
 secret_holds targets.PuttyPublic key test = tt
 
 secret_test : (target : KeyTarget) (key : Key) → HasNeededSecret target key → has_needed_secret target key ≡ true
 secret_test targets.OpenSsh (keys.Private key) holds = refl
 secret_test targets.OpenSsh (keys.Public key) holds = absurd holds
-secret_test (targets.Ppk version config) (keys.Private key) holds = refl
-secret_test (targets.Ppk version config) (keys.Public key) holds = absurd holds
+secret_test (targets.Ppk version config layout) (keys.Private key) holds = refl
+secret_test (targets.Ppk version config layout) (keys.Public key) holds = absurd holds
 secret_test targets.OpenSshPublic key holds = refl
 secret_test targets.PuttyPublic key holds = refl
 
@@ -54,13 +55,13 @@ secret_test targets.PuttyPublic key holds = refl
 
 kind_holds : (target : KeyTarget) (key : Key) → has_kind target key ≡ true → HasKind target key
 kind_holds targets.OpenSsh key test = tt
-kind_holds (targets.Ppk version config) key test = not_true (is_security_key (public_part key)) test
+kind_holds (targets.Ppk version config layout) key test = not_true (is_security_key (public_part key)) test
 kind_holds targets.OpenSshPublic key test = tt
 kind_holds targets.PuttyPublic key test = not_true (is_security_key (public_part key)) test
 
 kind_test : (target : KeyTarget) (key : Key) → HasKind target key → has_kind target key ≡ true
 kind_test targets.OpenSsh key holds = refl
-kind_test (targets.Ppk version config) key holds = ap not holds
+kind_test (targets.Ppk version config layout) key holds = ap not holds
 kind_test targets.OpenSshPublic key holds = refl
 kind_test targets.PuttyPublic key holds = ap not holds
 
@@ -74,8 +75,8 @@ no_lf_test comment holds = ap not (test_from_has_no 10 comment holds)
 
 pub comment_holds : (target : KeyTarget) (comment : List ℕ) → carries_comment target comment ≡ true → CarriesComment target comment
 comment_holds targets.OpenSsh comment test = (bytes_eq-Decides (trim_end comment) comment).0 test
-comment_holds (targets.Ppk V2 config) comment test = no_lf_holds comment test
-comment_holds (targets.Ppk V3 config) comment test =
+comment_holds (targets.Ppk V2 config layout) comment test = no_lf_holds comment test
+comment_holds (targets.Ppk V3 config layout) comment test =
     let parts = and_parts (not (has_lf comment)) (not (ends_in_cr comment)) test in
     let last = slice_index comment (length comment - 1) in
     (no_lf_holds comment parts.0, λ is. cc (not_true (ends_in_cr comment) parts.1, eq-eqb last 13 is))
@@ -87,8 +88,8 @@ comment_holds targets.PuttyPublic comment test = no_lf_holds comment test
 
 pub comment_test : (target : KeyTarget) (comment : List ℕ) → CarriesComment target comment → carries_comment target comment ≡ true
 comment_test targets.OpenSsh comment holds = (bytes_eq-Decides (trim_end comment) comment).1 holds
-comment_test (targets.Ppk V2 config) comment holds = no_lf_test comment holds
-comment_test (targets.Ppk V3 config) comment holds =
+comment_test (targets.Ppk V2 config layout) comment holds = no_lf_test comment holds
+comment_test (targets.Ppk V3 config layout) comment holds =
     let last = slice_index comment (length comment - 1) in
     rw (test_from_has_no 10 comment holds.0, ne_eqb last 13 holds.1) refl
 comment_test targets.OpenSshPublic comment holds =
@@ -100,8 +101,8 @@ comment_test targets.PuttyPublic comment holds = no_lf_test comment holds
 derivation_holds : (target : KeyTarget) (pass : Option (List ℕ)) → derives target pass ≡ true → Derives target pass
 derivation_holds target None test = tt
 derivation_holds targets.OpenSsh (Some pass) test = (bcrypt_decides (length pass) 16 16).0 test
-derivation_holds (targets.Ppk V2 config) (Some pass) test = tt
-derivation_holds (targets.Ppk V3 config) (Some pass) test =
+derivation_holds (targets.Ppk V2 config layout) (Some pass) test = tt
+derivation_holds (targets.Ppk V3 config layout) (Some pass) test =
     (argon2_decides config.argon2_memory config.argon2_passes config.argon2_parallelism (length pass) config.argon2_salt_size).0 test
 derivation_holds targets.OpenSshPublic (Some pass) test = tt
 derivation_holds targets.PuttyPublic (Some pass) test = tt
@@ -109,8 +110,8 @@ derivation_holds targets.PuttyPublic (Some pass) test = tt
 derivation_test : (target : KeyTarget) (pass : Option (List ℕ)) → Derives target pass → derives target pass ≡ true
 derivation_test target None holds = refl
 derivation_test targets.OpenSsh (Some pass) holds = (bcrypt_decides (length pass) 16 16).1 holds
-derivation_test (targets.Ppk V2 config) (Some pass) holds = refl
-derivation_test (targets.Ppk V3 config) (Some pass) holds =
+derivation_test (targets.Ppk V2 config layout) (Some pass) holds = refl
+derivation_test (targets.Ppk V3 config layout) (Some pass) holds =
     (argon2_decides config.argon2_memory config.argon2_passes config.argon2_parallelism (length pass) config.argon2_salt_size).1 holds
 derivation_test targets.OpenSshPublic (Some pass) holds = refl
 derivation_test targets.PuttyPublic (Some pass) holds = refl
@@ -136,37 +137,37 @@ envelope_len m key =
     (block_sealed_len m key (lock_kept key.passphrase)))
 
 -- so what is measured of PuTTY's file is as long as the file
-pub ppk_len : (m : Meanings) (pass : Option (List ℕ)) (fresh : List ℕ) (version : PpkVersionKey) (config : PpkEncryptionConfig)
+pub ppk_len : (m : Meanings) (pass : Option (List ℕ)) (fresh : List ℕ) (version : PpkVersionKey) (config : PpkEncryptionConfig) (layout : PpkLayout)
     (key : SshBasePrivateKey) (comment : List ℕ)
-    → length (file_text (measured_file (record { pass = pass; fresh = fresh }) version config key comment))
-    ≡ length (file_text (ppk_file m (record { pass = pass; fresh = fresh }) version config key comment))
-ppk_len m None fresh version config key comment = plain_len m fresh version config key comment
-ppk_len m (Some pass) fresh version config key comment = sealed_len m pass fresh version config key comment
+    → length (file_text (measured_file (record { pass = pass; fresh = fresh }) version config layout key comment))
+    ≡ length (file_text (ppk_file m (record { pass = pass; fresh = fresh }) version config layout key comment))
+ppk_len m None fresh version config layout key comment = plain_len m fresh version config layout key comment
+ppk_len m (Some pass) fresh version config layout key comment = sealed_len m pass fresh version config layout key comment
 
-file_room_holds : (out : Output) (version : PpkVersionKey) (config : PpkEncryptionConfig) (key : SshBasePrivateKey)
-    (comment : List ℕ) → secret_has_room out (targets.Ppk version config) key comment ≡ true
-    → HasFileRoom out version config key comment
-file_room_holds out version config key comment test =
+file_room_holds : (out : Output) (version : PpkVersionKey) (config : PpkEncryptionConfig) (layout : PpkLayout) (key : SshBasePrivateKey)
+    (comment : List ℕ) → secret_has_room out (targets.Ppk version config layout) key comment ≡ true
+    → HasFileRoom out version config layout key comment
+file_room_holds out version config layout key comment test =
     let blob = blob_of (public_part_of key) in
-    let private = private_bytes out version config key in
-    let text = file_text (measured_file out version config key comment) in
+    let private = private_bytes out version config layout key in
+    let text = file_text (measured_file out version config layout key comment) in
     let last = and_parts (is_short blob && is_short private) (is_short text) test in
     let two = and_parts (is_short blob) (is_short private) last.0 in
     record {
       blob = short_holds blob two.0;
       private = short_holds private two.1;
-      text = λ m. omega (arith, short_holds text last.1, ppk_len m out.pass out.fresh version config key comment);
+      text = λ m. omega (arith, short_holds text last.1, ppk_len m out.pass out.fresh version config layout key comment);
     }
 
-file_room_test : (out : Output) (version : PpkVersionKey) (config : PpkEncryptionConfig) (key : SshBasePrivateKey)
-    (comment : List ℕ) → HasFileRoom out version config key comment
-    → secret_has_room out (targets.Ppk version config) key comment ≡ true
-file_room_test out version config key comment holds =
-    let text = file_text (measured_file out version config key comment) in
-    let same = ppk_len plain out.pass out.fresh version config key comment in
+file_room_test : (out : Output) (version : PpkVersionKey) (config : PpkEncryptionConfig) (layout : PpkLayout) (key : SshBasePrivateKey)
+    (comment : List ℕ) → HasFileRoom out version config layout key comment
+    → secret_has_room out (targets.Ppk version config layout) key comment ≡ true
+file_room_test out version config layout key comment holds =
+    let text = file_text (measured_file out version config layout key comment) in
+    let same = ppk_len plain out.pass out.fresh version config layout key comment in
     rw (
       short_test (blob_of (public_part_of key)) holds.blob,
-      short_test (private_bytes out version config key) holds.private,
+      short_test (private_bytes out version config layout key) holds.private,
       short_test text (omega (arith, same, holds.text plain)),
     ) refl
 
@@ -186,21 +187,21 @@ openssh_room_test out (keys.Private key) comment holds =
     lt-ltb (length (pem_text (envelope_of made (plain_block made)))) (2 ^ 32) (omega (arith, envelope_len plain made, holds plain))
 openssh_room_test out (keys.Public key) comment holds = refl
 
-ppk_room_holds : (out : Output) (version : PpkVersionKey) (config : PpkEncryptionConfig) (key : Key) (comment : List ℕ)
-    → has_room out (targets.Ppk version config) (record { key = key; comment = comment }) ≡ true
-    → HasSecretRoom out version config key comment
-ppk_room_holds out version config (keys.Private key) comment test = file_room_holds out version config key comment test
-ppk_room_holds out version config (keys.Public key) comment test = tt
+ppk_room_holds : (out : Output) (version : PpkVersionKey) (config : PpkEncryptionConfig) (layout : PpkLayout) (key : Key) (comment : List ℕ)
+    → has_room out (targets.Ppk version config layout) (record { key = key; comment = comment }) ≡ true
+    → HasSecretRoom out version config layout key comment
+ppk_room_holds out version config layout (keys.Private key) comment test = file_room_holds out version config layout key comment test
+ppk_room_holds out version config layout (keys.Public key) comment test = tt
 
-ppk_room_test : (out : Output) (version : PpkVersionKey) (config : PpkEncryptionConfig) (key : Key) (comment : List ℕ)
-    → HasSecretRoom out version config key comment
-    → has_room out (targets.Ppk version config) (record { key = key; comment = comment }) ≡ true
-ppk_room_test out version config (keys.Private key) comment holds = file_room_test out version config key comment holds
-ppk_room_test out version config (keys.Public key) comment holds = refl
+ppk_room_test : (out : Output) (version : PpkVersionKey) (config : PpkEncryptionConfig) (layout : PpkLayout) (key : Key) (comment : List ℕ)
+    → HasSecretRoom out version config layout key comment
+    → has_room out (targets.Ppk version config layout) (record { key = key; comment = comment }) ≡ true
+ppk_room_test out version config layout (keys.Private key) comment holds = file_room_test out version config layout key comment holds
+ppk_room_test out version config layout (keys.Public key) comment holds = refl
 
 room_holds : (out : Output) (target : KeyTarget) (meaning : Meaning) → has_room out target meaning ≡ true → HasRoom out target meaning
 room_holds out targets.OpenSsh meaning test = openssh_room_holds out meaning.key meaning.comment test
-room_holds out (targets.Ppk version config) meaning test = ppk_room_holds out version config meaning.key meaning.comment test
+room_holds out (targets.Ppk version config layout) meaning test = ppk_room_holds out version config layout meaning.key meaning.comment test
 room_holds out targets.OpenSshPublic meaning test = short_holds (line_of (public_key meaning)) test
 room_holds out targets.PuttyPublic meaning test =
     let blob = blob_of (public_part meaning.key) in
@@ -210,7 +211,7 @@ room_holds out targets.PuttyPublic meaning test =
 
 room_test : (out : Output) (target : KeyTarget) (meaning : Meaning) → HasRoom out target meaning → has_room out target meaning ≡ true
 room_test out targets.OpenSsh meaning holds = openssh_room_test out meaning.key meaning.comment holds
-room_test out (targets.Ppk version config) meaning holds = ppk_room_test out version config meaning.key meaning.comment holds
+room_test out (targets.Ppk version config layout) meaning holds = ppk_room_test out version config layout meaning.key meaning.comment holds
 room_test out targets.OpenSshPublic meaning holds = short_test (line_of (public_key meaning)) holds
 room_test out targets.PuttyPublic meaning holds =
     let blob = blob_of (public_part meaning.key) in
@@ -218,32 +219,32 @@ room_test out targets.PuttyPublic meaning holds =
 
 -- ---- lines
 
-file_lines_hold : (out : Output) (version : PpkVersionKey) (config : PpkEncryptionConfig) (key : Key)
-    → file_has_lines out version config key ≡ true → HasFileLines out version config key
-file_lines_hold out version config (keys.Private key) test =
+file_lines_hold : (out : Output) (version : PpkVersionKey) (config : PpkEncryptionConfig) (layout : PpkLayout) (key : Key)
+    → file_has_lines out version config layout key ≡ true → HasFileLines out version config layout key
+file_lines_hold out version config layout (keys.Private key) test =
     let blob = blob_of (public_part_of key) in
-    let private = private_bytes out version config key in
+    let private = private_bytes out version config layout key in
     let parts = and_parts (fits_block blob) (fits_block private) test in
     (leb-true (length blob) 3145680 parts.0, leb-true (length private) 3145680 parts.1)
-file_lines_hold out version config (keys.Public key) test = tt
+file_lines_hold out version config layout (keys.Public key) test = tt
 
-file_lines_test : (out : Output) (version : PpkVersionKey) (config : PpkEncryptionConfig) (key : Key)
-    → HasFileLines out version config key → file_has_lines out version config key ≡ true
-file_lines_test out version config (keys.Private key) holds =
+file_lines_test : (out : Output) (version : PpkVersionKey) (config : PpkEncryptionConfig) (layout : PpkLayout) (key : Key)
+    → HasFileLines out version config layout key → file_has_lines out version config layout key ≡ true
+file_lines_test out version config layout (keys.Private key) holds =
     let blob = blob_of (public_part_of key) in
-    let private = private_bytes out version config key in
+    let private = private_bytes out version config layout key in
     rw (le-leb (length blob) 3145680 holds.0, le-leb (length private) 3145680 holds.1) refl
-file_lines_test out version config (keys.Public key) holds = refl
+file_lines_test out version config layout (keys.Public key) holds = refl
 
 lines_hold : (out : Output) (target : KeyTarget) (key : Key) → has_lines out target key ≡ true → HasLines out target key
 lines_hold out targets.OpenSsh key test = tt
-lines_hold out (targets.Ppk version config) key test = file_lines_hold out version config key test
+lines_hold out (targets.Ppk version config layout) key test = file_lines_hold out version config layout key test
 lines_hold out targets.OpenSshPublic key test = tt
 lines_hold out targets.PuttyPublic key test = tt
 
 lines_test : (out : Output) (target : KeyTarget) (key : Key) → HasLines out target key → has_lines out target key ≡ true
 lines_test out targets.OpenSsh key holds = refl
-lines_test out (targets.Ppk version config) key holds = file_lines_test out version config key holds
+lines_test out (targets.Ppk version config layout) key holds = file_lines_test out version config layout key holds
 lines_test out targets.OpenSshPublic key holds = refl
 lines_test out targets.PuttyPublic key holds = refl
 

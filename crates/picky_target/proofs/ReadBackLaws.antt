@@ -14,6 +14,7 @@ use Rattle.picky_key_text.specs.{declared.meaning.Key.{Key}, declared.meaning.Me
 use Rattle.picky_key_text.specs.{Kept.{IsKeptMeaning, IsKeptKey}, Key.{public_key, public_meaning, public_part}}
 use Rattle.picky_key_text.specs.Reads.{Means, Reads}
 use Rattle.picky_key_text.specs.declared.meaning.Key.TheVariants as keys
+use Rattle.picky_ppk.specs.declared.layout.PpkLayout.{PpkLayout}
 use Rattle.picky_target.specs.{declared.target.KeyTarget.{KeyTarget}, Output.{Output}}
 use Rattle.picky_target.specs.Carried.{Carries, Comment, Length, PrivateKey}
 use Rattle.picky_target.specs.{ReadBack.{IsConfig, IsTarget, kept, under}, Texts.{Spells, text_for}}
@@ -63,13 +64,13 @@ openssh_is_read_back m out (keys.Private key) comment is fresh pass carries =
     envelope_is_read_back m out key comment is.key is.comment fresh pass carries
 openssh_is_read_back m out (keys.Public key) comment is fresh pass carries = absurd (carries.holds PrivateKey)
 
-ppk_is_read_back : (m : Meanings) (out : Output) (version : PpkVersionKey) (config : PpkEncryptionConfig) (key : Key)
+ppk_is_read_back : (m : Meanings) (out : Output) (version : PpkVersionKey) (config : PpkEncryptionConfig) (layout : PpkLayout) (key : Key)
     (comment : List ℕ) → IsConfig config → IsKeptMeaning (record { key = key; comment = comment }) → IsBytes out.fresh
-    → IfSome out.pass IsUtf8 → Carries out (targets.Ppk version config) (record { key = key; comment = comment })
-    → Reads (under m out.pass) (text_for m out (targets.Ppk version config) (record { key = key; comment = comment })) (record { key = key; comment = comment })
-ppk_is_read_back m out version config (keys.Private key) comment ranges is fresh pass carries =
-    file_is_read_back m out version config key comment ranges is.key is.comment fresh pass carries
-ppk_is_read_back m out version config (keys.Public key) comment ranges is fresh pass carries = absurd (carries.holds PrivateKey)
+    → IfSome out.pass IsUtf8 → Carries out (targets.Ppk version config layout) (record { key = key; comment = comment })
+    → Reads (under m out.pass) (text_for m out (targets.Ppk version config layout) (record { key = key; comment = comment })) (record { key = key; comment = comment })
+ppk_is_read_back m out version config layout (keys.Private key) comment ranges is fresh pass carries =
+    file_is_read_back m out version config layout key comment ranges is.key is.comment fresh pass carries
+ppk_is_read_back m out version config layout (keys.Public key) comment ranges is fresh pass carries = absurd (carries.holds PrivateKey)
 
 -- ---- each target
 
@@ -79,8 +80,8 @@ text_for_is_read_back : (m : Meanings) (out : Output) (target : KeyTarget) (mean
     → Reads (under m out.pass) (text_for m out target meaning) (kept target meaning)
 text_for_is_read_back m out targets.OpenSsh meaning ranges is fresh pass carries =
     openssh_is_read_back m out meaning.key meaning.comment is fresh pass carries
-text_for_is_read_back m out (targets.Ppk version config) meaning ranges is fresh pass carries =
-    ppk_is_read_back m out version config meaning.key meaning.comment ranges is fresh pass carries
+text_for_is_read_back m out (targets.Ppk version config layout) meaning ranges is fresh pass carries =
+    ppk_is_read_back m out version config layout meaning.key meaning.comment ranges is fresh pass carries
 text_for_is_read_back m out targets.OpenSshPublic meaning ranges is fresh pass carries = line_is_read_back m out meaning is carries
 text_for_is_read_back m out targets.PuttyPublic meaning ranges is fresh pass carries = putty_is_read_back m out meaning is carries
 

@@ -17,6 +17,7 @@ use Rattle.picky_ppk_file.specs.{PuttyPublic.{putty_public}, PuttyRefusal.{is_se
 use Rattle.picky_key_text.specs.{declared.meaning.Key.{Key}, declared.meaning.Meaning.{Meaning}}
 use Rattle.picky_key_text.specs.Key.{private_meaning, public_key, public_part}
 use Rattle.picky_key_text.specs.declared.meaning.Key.TheVariants as keys
+use Rattle.picky_ppk.specs.declared.layout.PpkLayout.{PpkLayout}
 use Rattle.picky_target.specs.{declared.error.ConvertError.{ConvertError}, declared.target.KeyTarget.{KeyTarget}}
 use Rattle.picky_target.specs.{Output.{Output}, Carried.{need_under}}
 use Rattle.picky_target.specs.Judged.{carries_comment, derives, judged_meaning}
@@ -90,18 +91,18 @@ written_openssh m pass fresh target meaning key comment target_is key_is comment
     (record { says_is = both.0; asks_is = both.1; fault_is = refl }))
 
 pub written_ppk : (m : Meanings) (pass : Option (List ℕ)) (fresh : List ℕ) (target : KeyTarget) (version : PpkVersionKey)
-    (config : PpkEncryptionConfig) (meaning : Meaning) (key : SshBasePrivateKey) (comment : List ℕ)
-    → target ≡ targets.Ppk version config → meaning.key ≡ keys.Private key → comment ≡ meaning.comment
+    (config : PpkEncryptionConfig) (layout : PpkLayout) (meaning : Meaning) (key : SshBasePrivateKey) (comment : List ℕ)
+    → target ≡ targets.Ppk version config layout → meaning.key ≡ keys.Private key → comment ≡ meaning.comment
     → IsWrittenAs m (record { pass = pass; fresh = fresh }) target meaning
-    (ppk_written m (record { pass = pass; fresh = fresh }) version config key comment)
-    (ppk_writing_asks m (record { pass = pass; fresh = fresh }) version config key comment) (errors.Putty putty.SuiteFault)
-written_ppk m pass fresh target version config meaning key comment target_is key_is comment_is =
+    (ppk_written m (record { pass = pass; fresh = fresh }) version config layout key comment)
+    (ppk_writing_asks m (record { pass = pass; fresh = fresh }) version config layout key comment) (errors.Putty putty.SuiteFault)
+written_ppk m pass fresh target version config layout meaning key comment target_is key_is comment_is =
     let out : Output = record { pass = pass; fresh = fresh } in
-    let says = ppk_written m out version config key comment in
-    let asks = ppk_writing_asks m out version config key comment in
-    let both = file_is_written m pass fresh version config key comment in
+    let says = ppk_written m out version config layout key comment in
+    let asks = ppk_writing_asks m out version config layout key comment in
+    let both = file_is_written m pass fresh version config layout key comment in
     subst (λ t. IsWrittenAs m out t meaning says asks (errors.Putty putty.SuiteFault)) (sym target_is)
-    (subst (λ p. IsWrittenAs m out (targets.Ppk version config) p says asks (errors.Putty putty.SuiteFault))
+    (subst (λ p. IsWrittenAs m out (targets.Ppk version config layout) p says asks (errors.Putty putty.SuiteFault))
     (meaning_is meaning key comment key_is comment_is)
     (record { says_is = both.0; asks_is = both.1; fault_is = refl }))
 
@@ -112,11 +113,11 @@ pub openssh_wants_private : (m : Meanings) (out : Output) (target : KeyTarget) (
 unfolding written judged_meaning
 openssh_wants_private m out target meaning key target_is key_is = rw (target_is, key_is) refl
 
-pub ppk_wants_private : (m : Meanings) (out : Output) (target : KeyTarget) (version : PpkVersionKey) (config : PpkEncryptionConfig)
-    (meaning : Meaning) (key : SshBasePublicKey) → target ≡ targets.Ppk version config → meaning.key ≡ keys.Public key
+pub ppk_wants_private : (m : Meanings) (out : Output) (target : KeyTarget) (version : PpkVersionKey) (config : PpkEncryptionConfig) (layout : PpkLayout)
+    (meaning : Meaning) (key : SshBasePublicKey) → target ≡ targets.Ppk version config layout → meaning.key ≡ keys.Public key
     → written m out target meaning ≡ Err errors.NoPrivateKey
 unfolding written judged_meaning
-ppk_wants_private m out target version config meaning key target_is key_is = rw (target_is, key_is) refl
+ppk_wants_private m out target version config layout meaning key target_is key_is = rw (target_is, key_is) refl
 
 -- ---- public targets
 

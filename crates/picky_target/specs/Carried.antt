@@ -21,6 +21,7 @@ use Rattle.picky_key_text.specs.Key.{public_part, public_key}
 use Rattle.picky_target.specs.declared.target.KeyTarget.{KeyTarget}
 use Rattle.picky_target.specs.declared.target.KeyTarget.TheVariants as targets
 use Rattle.picky_target.specs.Output.{Output}
+use Rattle.picky_ppk.specs.declared.layout.PpkLayout.{PpkLayout}
 use Rattle.picky_ppk.specs.Fresh.{salt_len}
 use Rattle.picky_target.specs.Drafts.{key_padding_len, private_bytes, ppk_file}
 use Rattle.picky_target.specs.Texts.{text_for}
@@ -49,7 +50,7 @@ IsPrivate (keys.Public key) = ⊥
 -- the target keeps the secret
 abbrev pub HasNeededSecret : KeyTarget → Key → Type 0
 HasNeededSecret targets.OpenSsh key = IsPrivate key
-HasNeededSecret (targets.Ppk version config) key = IsPrivate key
+HasNeededSecret (targets.Ppk version config layout) key = IsPrivate key
 HasNeededSecret targets.OpenSshPublic key = Unit {0}
 HasNeededSecret targets.PuttyPublic key = Unit {0}
 
@@ -57,7 +58,7 @@ HasNeededSecret targets.PuttyPublic key = Unit {0}
 
 abbrev pub HasKind : KeyTarget → Key → Type 0
 HasKind targets.OpenSsh key = Unit {0}
-HasKind (targets.Ppk version config) key = is_security_key (public_part key) ≡ false
+HasKind (targets.Ppk version config layout) key = is_security_key (public_part key) ≡ false
 HasKind targets.OpenSshPublic key = Unit {0}
 HasKind targets.PuttyPublic key = is_security_key (public_part key) ≡ false
 
@@ -72,7 +73,7 @@ pub record LineCarries (comment : List ℕ) : Type 0 where
 -- OpenSSH's private key drops white space at the comment's end, and PuTTY's lines end a comment
 abbrev pub CarriesComment : KeyTarget → List ℕ → Type 0
 CarriesComment targets.OpenSsh comment = trim_end comment ≡ comment
-CarriesComment (targets.Ppk version config) comment = IsLine (line_end_of version) comment
+CarriesComment (targets.Ppk version config layout) comment = IsLine (line_end_of version) comment
 CarriesComment targets.OpenSshPublic comment = LineCarries comment
 CarriesComment targets.PuttyPublic comment = HasNo 10 comment
 
@@ -80,8 +81,8 @@ CarriesComment targets.PuttyPublic comment = HasNo 10 comment
 
 abbrev pub DerivesUnder : KeyTarget → List ℕ → Type 0
 DerivesUnder targets.OpenSsh pass = BcryptOk (length pass) 16 16
-DerivesUnder (targets.Ppk V2 config) pass = Unit {0}
-DerivesUnder (targets.Ppk V3 config) pass =
+DerivesUnder (targets.Ppk V2 config layout) pass = Unit {0}
+DerivesUnder (targets.Ppk V3 config layout) pass =
     Argon2Ok config.argon2_memory config.argon2_passes config.argon2_parallelism (length pass) config.argon2_salt_size
 DerivesUnder targets.OpenSshPublic pass = Unit {0}
 DerivesUnder targets.PuttyPublic pass = Unit {0}
@@ -92,10 +93,10 @@ Derives target (Some pass) = DerivesUnder target pass
 
 -- ---- fresh bytes
 
--- how many sealing takes: OpenSSH's salt; PuTTY's salt in version 3, and its padding
+-- how many sealing takes: OpenSSH's salt; PuTTY's salt in version 3, and the padding of its layout
 abbrev pub need_of : KeyTarget → SshBasePrivateKey → ℕ
 need_of targets.OpenSsh key = 16
-need_of (targets.Ppk version config) key = salt_len version config + key_padding_len key
+need_of (targets.Ppk version config layout) key = salt_len version config + key_padding_len layout key
 need_of targets.OpenSshPublic key = 0
 need_of targets.PuttyPublic key = 0
 
@@ -110,20 +111,20 @@ fresh_needed out target key = need_under target out.pass key
 -- ---- lengths that a length of the wire can say
 
 -- PuTTY's file: its blob, its private bytes and its text
-pub record HasFileRoom (out : Output) (version : PpkVersionKey) (config : PpkEncryptionConfig) (key : SshBasePrivateKey)
-    (comment : List ℕ) : Type 0 where
+pub record HasFileRoom (out : Output) (version : PpkVersionKey) (config : PpkEncryptionConfig) (layout : PpkLayout)
+    (key : SshBasePrivateKey) (comment : List ℕ) : Type 0 where
   pub blob : length (blob_of (public_part_of key)) < 2 ^ 32
-  pub private : length (private_bytes out version config key) < 2 ^ 32
-  pub text : (m : Meanings) → length (file_text (ppk_file m out version config key comment)) < 2 ^ 32
+  pub private : length (private_bytes out version config layout key) < 2 ^ 32
+  pub text : (m : Meanings) → length (file_text (ppk_file m out version config layout key comment)) < 2 ^ 32
 
-abbrev pub HasSecretRoom : Output → PpkVersionKey → PpkEncryptionConfig → Key → (comment : List ℕ) → Type 0
-HasSecretRoom out version config (keys.Private key) comment = HasFileRoom out version config key comment
-HasSecretRoom out version config (keys.Public key) comment = Unit {0}
+abbrev pub HasSecretRoom : Output → PpkVersionKey → PpkEncryptionConfig → PpkLayout → Key → (comment : List ℕ) → Type 0
+HasSecretRoom out version config layout (keys.Private key) comment = HasFileRoom out version config layout key comment
+HasSecretRoom out version config layout (keys.Public key) comment = Unit {0}
 
 -- the text, whatever a suite's calls mean, and PuTTY's blob
 abbrev pub HasRoom : Output → KeyTarget → Meaning → Type 0
 HasRoom out targets.OpenSsh meaning = (m : Meanings) → length (text_for m out targets.OpenSsh meaning) < 2 ^ 32
-HasRoom out (targets.Ppk version config) meaning = HasSecretRoom out version config meaning.key meaning.comment
+HasRoom out (targets.Ppk version config layout) meaning = HasSecretRoom out version config layout meaning.key meaning.comment
 HasRoom out targets.OpenSshPublic meaning = length (line_of (public_key meaning)) < 2 ^ 32
 HasRoom out targets.PuttyPublic meaning =
     (length (blob_of (public_part meaning.key)) < 2 ^ 32)
@@ -131,14 +132,14 @@ HasRoom out targets.PuttyPublic meaning =
 
 -- ---- lines: 65,535 of 48 bytes
 
-abbrev pub HasFileLines : Output → PpkVersionKey → PpkEncryptionConfig → Key → Type 0
-HasFileLines out version config (keys.Private key) =
-    (length (blob_of (public_part_of key)) ≤ 3145680) × (length (private_bytes out version config key) ≤ 3145680)
-HasFileLines out version config (keys.Public key) = Unit {0}
+abbrev pub HasFileLines : Output → PpkVersionKey → PpkEncryptionConfig → PpkLayout → Key → Type 0
+HasFileLines out version config layout (keys.Private key) =
+    (length (blob_of (public_part_of key)) ≤ 3145680) × (length (private_bytes out version config layout key) ≤ 3145680)
+HasFileLines out version config layout (keys.Public key) = Unit {0}
 
 abbrev pub HasLines : Output → KeyTarget → Key → Type 0
 HasLines out targets.OpenSsh key = Unit {0}
-HasLines out (targets.Ppk version config) key = HasFileLines out version config key
+HasLines out (targets.Ppk version config layout) key = HasFileLines out version config layout key
 HasLines out targets.OpenSshPublic key = Unit {0}
 HasLines out targets.PuttyPublic key = Unit {0}
 

@@ -11,11 +11,12 @@ use Rattle.picky_sshkey.specs.Made.{made_of}
 use Rattle.picky_ppk_parts.specs.declared.config.PpkEncryptionConfig.{PpkEncryptionConfig}
 use Rattle.picky_ppk_parts.specs.declared.key_parts.KeyParts.{KeyParts}
 use Rattle.picky_ppk_parts.specs.Algorithm.{algorithm_of}
-use Rattle.picky_ppk_parts.specs.Secret.{secret_bytes}
 use Rattle.picky_ppk_file.specs.declared.file.PpkFile.{PpkFile}
+use Rattle.picky_ppk.specs.declared.layout.PpkLayout.{PpkLayout}
 use Rattle.picky_ppk.specs.Changed.{file_of_parts}
 use Rattle.picky_ppk.specs.Fresh.{salt_len}
 use Rattle.picky_ppk.specs.Keyed.{keys_under}
+use Rattle.picky_ppk.specs.PpkLayout.{laid_secret}
 use Rattle.picky_ppk.specs.Sealed.{file_to_seal, lacking, seal_draft}
 use Rattle.picky_target.specs.Output.{Output}
 
@@ -29,45 +30,45 @@ openssh_key out key comment = made_of key out.pass comment (take 16 out.fresh)
 abbrev pub salt_of : Output → PpkVersionKey → PpkEncryptionConfig → List ℕ
 salt_of out version config = take (salt_len version config) out.fresh
 
-abbrev pub key_padding_len : SshBasePrivateKey → ℕ
-key_padding_len key = lacking (secret_bytes key)
+abbrev pub key_padding_len : PpkLayout → SshBasePrivateKey → ℕ
+key_padding_len layout key = lacking (laid_secret layout key)
 
-abbrev pub padding_of : Output → PpkVersionKey → PpkEncryptionConfig → SshBasePrivateKey → List ℕ
-padding_of out version config key = take (key_padding_len key) (drop (salt_len version config) out.fresh)
+abbrev pub padding_of : Output → PpkVersionKey → PpkEncryptionConfig → PpkLayout → SshBasePrivateKey → List ℕ
+padding_of out version config layout key = take (key_padding_len layout key) (drop (salt_len version config) out.fresh)
 
 -- the private bytes, with their padding where they are to be sealed
 abbrev pub padded : Option (List ℕ) → (secret padding : List ℕ) → List ℕ
 padded None secret padding = secret
 padded (Some pass) secret padding = secret ++ padding
 
-abbrev pub private_bytes : Output → PpkVersionKey → PpkEncryptionConfig → SshBasePrivateKey → List ℕ
-private_bytes out version config key = padded out.pass (secret_bytes key) (padding_of out version config key)
+abbrev pub private_bytes : Output → PpkVersionKey → PpkEncryptionConfig → PpkLayout → SshBasePrivateKey → List ℕ
+private_bytes out version config layout key = padded out.pass (laid_secret layout key) (padding_of out version config layout key)
 
--- the parts of a key; a key whose secret a device keeps has no secret bytes, and no place in PuTTY's file
-abbrev pub key_parts_of : SshBasePrivateKey → KeyParts
-key_parts_of key = record {
+-- the parts of a key in a layout; a key whose secret a device keeps has no secret bytes, and no place in PuTTY's file
+abbrev pub key_parts_of : PpkLayout → SshBasePrivateKey → KeyParts
+key_parts_of layout key = record {
   algorithm = algorithm_of (public_key_of (public_part key));
   blob = blob_of (public_part key);
-  private_bytes = secret_bytes key;
+  private_bytes = laid_secret layout key;
 }
 
 -- the file that isn't sealed, with its MAC
-abbrev pub plain_file : Meanings → PpkVersionKey → SshBasePrivateKey → (comment : List ℕ) → PpkFile
-plain_file m version key comment = file_of_parts m version comment (key_parts_of key)
+abbrev pub plain_file : Meanings → PpkVersionKey → PpkLayout → SshBasePrivateKey → (comment : List ℕ) → PpkFile
+plain_file m version layout key comment = file_of_parts m version comment (key_parts_of layout key)
 
 -- the file, sealed where there is a passphrase
-abbrev pub sealed_file : Meanings → Output → PpkVersionKey → PpkEncryptionConfig → (pass : List ℕ) → PpkFile
+abbrev pub sealed_file : Meanings → Output → PpkVersionKey → PpkEncryptionConfig → PpkLayout → (pass : List ℕ) → PpkFile
     → SshBasePrivateKey → PpkFile
-sealed_file m out version config pass plain key =
-    let draft = file_to_seal config (salt_of out version config) (padding_of out version config key) plain in
+sealed_file m out version config layout pass plain key =
+    let draft = file_to_seal config (salt_of out version config) (padding_of out version config layout key) plain in
     seal_draft m (keys_under m draft.sealing pass) draft
 
-abbrev pub file_under : Meanings → Output → PpkVersionKey → PpkEncryptionConfig → Option (List ℕ) → SshBasePrivateKey
-    → (comment : List ℕ) → PpkFile
-file_under m out version config None key comment = plain_file m version key comment
-file_under m out version config (Some pass) key comment =
-    sealed_file m out version config pass (plain_file m version key comment) key
+abbrev pub file_under : Meanings → Output → PpkVersionKey → PpkEncryptionConfig → PpkLayout → Option (List ℕ)
+    → SshBasePrivateKey → (comment : List ℕ) → PpkFile
+file_under m out version config layout None key comment = plain_file m version layout key comment
+file_under m out version config layout (Some pass) key comment =
+    sealed_file m out version config layout pass (plain_file m version layout key comment) key
 
-abbrev pub ppk_file : Meanings → Output → PpkVersionKey → PpkEncryptionConfig → SshBasePrivateKey → (comment : List ℕ)
-    → PpkFile
-ppk_file m out version config key comment = file_under m out version config out.pass key comment
+abbrev pub ppk_file : Meanings → Output → PpkVersionKey → PpkEncryptionConfig → PpkLayout → SshBasePrivateKey
+    → (comment : List ℕ) → PpkFile
+ppk_file m out version config layout key comment = file_under m out version config layout out.pass key comment

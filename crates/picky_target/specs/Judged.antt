@@ -22,6 +22,7 @@ use Rattle.picky_ppk_file.specs.declared.file.PpkFile.{PpkFile}
 use Rattle.picky_ppk_file.specs.declared.file.PpkSealing.{PpkSealing}
 use Rattle.picky_ppk_file.specs.declared.file.PpkSealing.TheVariants.{Unsealed}
 use Rattle.picky_ppk_file.specs.Written.{file_text, fits_block}
+use Rattle.picky_ppk.specs.declared.layout.PpkLayout.{PpkLayout}
 use Rattle.picky_ppk.specs.Fresh.{can_derive_by}
 use Rattle.picky_ppk.specs.Sealed.{sealing_under}
 use Rattle.picky_ppk_file.specs.PuttyPublic.{putty_public}
@@ -47,13 +48,13 @@ is_private (keys.Public key) = false
 
 abbrev pub has_needed_secret : KeyTarget → Key → Bool
 has_needed_secret targets.OpenSsh key = is_private key
-has_needed_secret (targets.Ppk version config) key = is_private key
+has_needed_secret (targets.Ppk version config layout) key = is_private key
 has_needed_secret targets.OpenSshPublic key = true
 has_needed_secret targets.PuttyPublic key = true
 
 abbrev pub has_kind : KeyTarget → Key → Bool
 has_kind targets.OpenSsh key = true
-has_kind (targets.Ppk version config) key = not (is_security_key (public_part key))
+has_kind (targets.Ppk version config layout) key = not (is_security_key (public_part key))
 has_kind targets.OpenSshPublic key = true
 has_kind targets.PuttyPublic key = not (is_security_key (public_part key))
 
@@ -68,14 +69,14 @@ is_trimmed comment = bytes_eq (trim_end comment) comment
 
 abbrev pub carries_comment : KeyTarget → List ℕ → Bool
 carries_comment targets.OpenSsh comment = is_trimmed comment
-carries_comment (targets.Ppk V2 config) comment = not (has_lf comment)
-carries_comment (targets.Ppk V3 config) comment = not (has_lf comment) && not (ends_in_cr comment)
+carries_comment (targets.Ppk V2 config layout) comment = not (has_lf comment)
+carries_comment (targets.Ppk V3 config layout) comment = not (has_lf comment) && not (ends_in_cr comment)
 carries_comment targets.OpenSshPublic comment = not (list_any ends_line comment) && is_trimmed comment
 carries_comment targets.PuttyPublic comment = not (has_lf comment)
 
 abbrev pub derives_under : KeyTarget → List ℕ → Bool
 derives_under targets.OpenSsh pass = bcrypt_fits (length pass) 16 16
-derives_under (targets.Ppk version config) pass = can_derive_by version config pass
+derives_under (targets.Ppk version config layout) pass = can_derive_by version config pass
 derives_under targets.OpenSshPublic pass = true
 derives_under targets.PuttyPublic pass = true
 
@@ -96,21 +97,22 @@ abbrev pub sealing_of : Output → PpkVersionKey → PpkEncryptionConfig → Opt
 sealing_of out version config None = Unsealed version
 sealing_of out version config (Some pass) = sealing_under version config (salt_of out version config)
 
-abbrev pub measured_file : Output → PpkVersionKey → PpkEncryptionConfig → SshBasePrivateKey → (comment : List ℕ) → PpkFile
-measured_file out version config key comment = record {
+abbrev pub measured_file : Output → PpkVersionKey → PpkEncryptionConfig → PpkLayout → SshBasePrivateKey
+    → (comment : List ℕ) → PpkFile
+measured_file out version config layout key comment = record {
   sealing = sealing_of out version config out.pass;
-  algorithm = (key_parts_of key).algorithm;
+  algorithm = (key_parts_of layout key).algorithm;
   comment = comment;
   public_key = blob_of (public_part_of key);
-  private_bytes = private_bytes out version config key;
+  private_bytes = private_bytes out version config layout key;
   mac = replicate (mac_len version) 0;
 }
 
 abbrev pub secret_has_room : Output → KeyTarget → SshBasePrivateKey → (comment : List ℕ) → Bool
 secret_has_room out targets.OpenSsh key comment = is_short_envelope (openssh_key out key comment)
-secret_has_room out (targets.Ppk version config) key comment =
-    is_short (blob_of (public_part_of key)) && is_short (private_bytes out version config key)
-    && is_short (file_text (measured_file out version config key comment))
+secret_has_room out (targets.Ppk version config layout) key comment =
+    is_short (blob_of (public_part_of key)) && is_short (private_bytes out version config layout key)
+    && is_short (file_text (measured_file out version config layout key comment))
 secret_has_room out targets.OpenSshPublic key comment = true
 secret_has_room out targets.PuttyPublic key comment = true
 
@@ -120,20 +122,21 @@ key_has_room out target (keys.Public key) comment = true
 
 abbrev pub has_room : Output → KeyTarget → Meaning → Bool
 has_room out targets.OpenSsh meaning = key_has_room out targets.OpenSsh meaning.key meaning.comment
-has_room out (targets.Ppk version config) meaning = key_has_room out (targets.Ppk version config) meaning.key meaning.comment
+has_room out (targets.Ppk version config layout) meaning =
+    key_has_room out (targets.Ppk version config layout) meaning.key meaning.comment
 has_room out targets.OpenSshPublic meaning = is_short (line_of (public_key meaning))
 has_room out targets.PuttyPublic meaning =
     is_short (blob_of (public_part meaning.key))
     && is_short (putty_public (blob_of (public_part meaning.key)) meaning.comment)
 
-abbrev pub file_has_lines : Output → PpkVersionKey → PpkEncryptionConfig → Key → Bool
-file_has_lines out version config (keys.Private key) =
-    fits_block (blob_of (public_part_of key)) && fits_block (private_bytes out version config key)
-file_has_lines out version config (keys.Public key) = true
+abbrev pub file_has_lines : Output → PpkVersionKey → PpkEncryptionConfig → PpkLayout → Key → Bool
+file_has_lines out version config layout (keys.Private key) =
+    fits_block (blob_of (public_part_of key)) && fits_block (private_bytes out version config layout key)
+file_has_lines out version config layout (keys.Public key) = true
 
 abbrev pub has_lines : Output → KeyTarget → Key → Bool
 has_lines out targets.OpenSsh key = true
-has_lines out (targets.Ppk version config) key = file_has_lines out version config key
+has_lines out (targets.Ppk version config layout) key = file_has_lines out version config layout key
 has_lines out targets.OpenSshPublic key = true
 has_lines out targets.PuttyPublic key = true
 

@@ -20,7 +20,7 @@ written m out target meaning = and_then (judged_meaning out target meaning) (λ 
 -- the target keeps the secret; what it writes is sealed where there is a passphrase
 abbrev pub keeps_secret : KeyTarget → Bool
 keeps_secret targets.OpenSsh = true
-keeps_secret (targets.Ppk version config) = true
+keeps_secret (targets.Ppk version config layout) = true
 keeps_secret targets.OpenSshPublic = false
 keeps_secret targets.PuttyPublic = false
 

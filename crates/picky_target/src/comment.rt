@@ -16,8 +16,8 @@ pub fn carries_comment(target: KeyTarget, comment: &str) -> bool
 {
     match target {
         KeyTarget::OpenSsh => is_trimmed(comment),
-        KeyTarget::Ppk(PpkVersion::V2, _) => !has_lf(comment),
-        KeyTarget::Ppk(PpkVersion::V3, _) => !has_lf(comment) && !ends_in_cr(comment),
+        KeyTarget::Ppk(PpkVersion::V2, _, _) => !has_lf(comment),
+        KeyTarget::Ppk(PpkVersion::V3, _, _) => !has_lf(comment) && !ends_in_cr(comment),
         KeyTarget::OpenSshPublic => !has_line_end(comment) && is_trimmed(comment),
         KeyTarget::PuttyPublic => !has_lf(comment),
     }

@@ -3,6 +3,7 @@
 ghost use Rattle.std.specs.Prelude.{◌≡◌, ◌<◌, ◌^◌, IfOk, length};
 ghost use Rattle.std.specs.Option.{option_copied};
 ghost use Rattle.picky_wire_base.specs.Mpint.{mpint_of};
+ghost use Rattle.picky_wire_base.specs.Wire.{string_of};
 ghost use Rattle.picky_wire_base.specs.Zeros.{without_zeros};
 ghost use Rattle.picky_kv.specs.declared.PpkVersionKey.TheVariants.{V3};
 ghost use Rattle.picky_suite.specs.Asked.{GivesAsked, IsAskedAtMost, LeavesSuite};
@@ -14,6 +15,8 @@ ghost use Rattle.picky_ppk_file.specs.File.{version_of};
 ghost use Rattle.picky_ppk_file.specs.PuttyRefusal.{is_security_key as is_security_key_of};
 ghost use Rattle.picky_ppk.specs.Sealed.{file_to_seal, is_sealable, padding_len as missing_len};
 ghost use Rattle.picky_ppk.specs.Fresh.{salt_len as salt_len_of};
+ghost use Rattle.picky_ppk.specs.PpkLayout.{laid_secret};
+ghost use Rattle.picky_ppk.specs.declared.layout.PpkLayout.TheVariants.{Putty};
 ghost use Rattle.picky_target.specs.Drafts.{key_padding_len, plain_file as plain_file_of};
 ghost use Rattle.picky_target.specs.inner.File.{salt_and_padding, measured, plain_drafted, plain_written};
 ghost use Rattle.picky_target.specs.inner.File.{sealed_text as sealed_text_of};
@@ -26,7 +29,9 @@ use crate::lengths::sealed_text_len;
 use crate::public::{no_such_kind, putty_refusal};
 use crate::target::KeyTarget;
 use picky_ppk::aes::lacking_len;
-use picky_ppk::{Ppk, PpkEncryptionConfig, PpkVersion, PuttyError, can_derive_by, salt_len};
+use picky_ppk::{
+    Ppk, PpkEncryptionConfig, PpkLayout, PpkVersion, PuttyError, can_derive_by, salt_len,
+};
 use picky_ppk_file::MAX_BLOCK_LEN;
 use picky_sshkey::SshBasePrivateKey;
 use picky_suite::Suite;
@@ -40,29 +45,32 @@ pub fn write_file<S: Suite>(
     suite: &mut S,
     version: PpkVersion,
     config: PpkEncryptionConfig,
+    layout: PpkLayout,
     key: &SshBasePrivateKey,
     comment: Text,
     pass: Option<&str>,
     fresh: &[u8],
 ) -> Result<Text, ConvertError>
     ensures gives { GivesAsked ConvertError.NoMemory (ConvertError.Putty PuttyError.SuiteFault) (λ text. text) result
-        (ppk_written (S.meanings suite.old) (record { pass = option_copied pass.entry; fresh = fresh.now }) version config key.now comment)
-        (ppk_writing_asks (S.meanings suite.old) (record { pass = option_copied pass.entry; fresh = fresh.now }) version config key.now comment)
+        (ppk_written (S.meanings suite.old) (record { pass = option_copied pass.entry; fresh = fresh.now }) version config layout key.now comment)
+        (ppk_writing_asks (S.meanings suite.old) (record { pass = option_copied pass.entry; fresh = fresh.now }) version config layout key.now comment)
         (Rose (S.faults suite.old) (S.faults suite.new)) }
     ensures suite { LeavesSuite S.meanings S.faults (ConvertError.Putty PuttyError.SuiteFault)
-        (ppk_writing_asks (S.meanings suite.old) (record { pass = option_copied pass.entry; fresh = fresh.now }) version config key.now comment) result
+        (ppk_writing_asks (S.meanings suite.old) (record { pass = option_copied pass.entry; fresh = fresh.now }) version config layout key.now comment) result
         suite.old suite.new }
     ensures asked { IsAskedAtMost 2 S.calls suite.old suite.new }
 {
     if is_security_key(key) {
         return Err(no_such_kind(alloc));
     }
-    if !carries_comment(KeyTarget::Ppk(version, config), comment.as_str()) {
+    if !carries_comment(KeyTarget::Ppk(version, config, layout), comment.as_str()) {
         return Err(ConvertError::CommentNotCarried);
     }
     match pass {
-        Some(pass) => write_sealed(alloc, suite, version, config, key, comment, pass, fresh),
-        None => write_plain(alloc, suite, version, key, comment),
+        Some(pass) => write_sealed(
+            alloc, suite, version, config, layout, key, comment, pass, fresh,
+        ),
+        None => write_plain(alloc, suite, version, layout, key, comment),
     }
 }
 
@@ -78,12 +86,13 @@ fn write_plain<S: Suite>(
     alloc: Global,
     suite: &S,
     version: PpkVersion,
+    layout: PpkLayout,
     key: &SshBasePrivateKey,
     comment: Text,
 ) -> Result<Text, ConvertError>
-    ensures { Gives ConvertError.NoMemory (λ text. text) result (plain_written (S.meanings suite.now) version key.now comment) }
+    ensures { Gives ConvertError.NoMemory (λ text. text) result (plain_written (S.meanings suite.now) version layout key.now comment) }
 {
-    match Ppk::from_base_key(alloc, suite, version, key, comment) {
+    match Ppk::from_base_key_in(alloc, suite, version, layout, key, comment) {
         Ok(ppk) => {
             let text = text_of_file(alloc, &ppk);
             drop(ppk);
@@ -110,24 +119,25 @@ fn write_sealed<S: Suite>(
     suite: &mut S,
     version: PpkVersion,
     config: PpkEncryptionConfig,
+    layout: PpkLayout,
     key: &SshBasePrivateKey,
     comment: Text,
     pass: &str,
     fresh: &[u8],
 ) -> Result<Text, ConvertError>
     ensures gives { GivesAsked ConvertError.NoMemory (ConvertError.Putty PuttyError.SuiteFault) (λ text. text) result
-        (sealed_written (S.meanings suite.old) pass.now fresh.now version config key.now comment)
-        (sealed_asks (S.meanings suite.old) pass.now fresh.now version config key.now comment)
+        (sealed_written (S.meanings suite.old) pass.now fresh.now version config layout key.now comment)
+        (sealed_asks (S.meanings suite.old) pass.now fresh.now version config layout key.now comment)
         (Rose (S.faults suite.old) (S.faults suite.new)) }
     ensures suite { LeavesSuite S.meanings S.faults (ConvertError.Putty PuttyError.SuiteFault)
-        (sealed_asks (S.meanings suite.old) pass.now fresh.now version config key.now comment) result suite.old suite.new }
+        (sealed_asks (S.meanings suite.old) pass.now fresh.now version config layout key.now comment) result suite.old suite.new }
     ensures asked { IsAskedAtMost 2 S.calls suite.old suite.new }
 {
-    let fresh = match drawn_under(version, config, key, pass, fresh) {
+    let fresh = match drawn_under(version, config, layout, key, pass, fresh) {
         Ok(fresh) => fresh,
         Err(e) => return Err(e),
     };
-    match plain_file(alloc, suite, version, config, key, comment, &fresh) {
+    match plain_file(alloc, suite, version, config, layout, key, comment, &fresh) {
         Ok(ppk) => sealed_text(alloc, suite, ppk, config, pass, &fresh),
         Err(e) => Err(e),
     }
@@ -176,18 +186,19 @@ struct Drawn<'a> {
 fn drawn_under<'a>(
     version: PpkVersion,
     config: PpkEncryptionConfig,
+    layout: PpkLayout,
     key: &SshBasePrivateKey,
     pass: &str,
     fresh: &'a [u8],
 ) -> Result<Drawn<'a>, ConvertError>
-    ensures gives { Gives ConvertError.NoMemory (λ d. (d.salt.now, d.padding.now)) result (salt_and_padding pass.now fresh.now version config key.now) }
+    ensures gives { Gives ConvertError.NoMemory (λ d. (d.salt.now, d.padding.now)) result (salt_and_padding pass.now fresh.now version config layout key.now) }
     ensures salt { IfOk result (λ d. length d.salt.now ≡ salt_len_of version config) }
-    ensures padding { IfOk result (λ d. length d.padding.now ≡ key_padding_len key.now) }
+    ensures padding { IfOk result (λ d. length d.padding.now ≡ key_padding_len layout key.now) }
 {
     if !can_derive_by(version, pass, config) {
         return Err(ConvertError::Putty(PuttyError::Argon2));
     }
-    let padding_len = padding_len(key);
+    let padding_len = padding_len(layout, key);
     let salt_len = salt_len(version, config);
     if fresh.len() < salt_len + padding_len {
         return Err(ConvertError::FreshTooShort);
@@ -198,14 +209,48 @@ fn drawn_under<'a>(
 }
 
 /// How many fresh bytes the padding takes.
-fn padding_len(key: &SshBasePrivateKey) -> usize
-    ensures len { result ≡ key_padding_len key.now }
+fn padding_len(layout: PpkLayout, key: &SshBasePrivateKey) -> usize
+    ensures len { result ≡ key_padding_len layout key.now }
     ensures few { result < 16 }
 {
-    lacking_len(secret_len(key))
+    lacking_len(laid_len(layout, key))
 }
 
-/// How many bytes the private bytes have without padding.
+/// How many bytes the private bytes have in a layout, without padding.
+#[tactic(auto, unfolding(picky_ppk::specs::PpkLayout::laid_secret))]
+fn laid_len(layout: PpkLayout, key: &SshBasePrivateKey) -> usize
+    ensures { result ≡ length (laid_secret layout key.now) }
+{
+    match layout {
+        PpkLayout::Number => secret_len(key),
+        PpkLayout::Putty => putty_len(key),
+    }
+}
+
+/// How many they are in PuTTY's own.
+#[tactic(auto, unfolding(picky_ppk::specs::PpkLayout::laid_secret))]
+fn putty_len(key: &SshBasePrivateKey) -> usize
+    ensures { result ≡ length (laid_secret Putty key.now) }
+{
+    match key {
+        SshBasePrivateKey::Ed { secret, .. } => string_len(secret),
+        SshBasePrivateKey::Rsa { .. }
+        | SshBasePrivateKey::Ec { .. }
+        | SshBasePrivateKey::SkEcdsaSha2NistP256 { .. }
+        | SshBasePrivateKey::SkEd25519 { .. } => secret_len(key),
+    }
+}
+
+/// How many bytes the string of the bytes has.
+#[tactic(auto, using(crate::proofs::LengthLemmas::string_len))]
+fn string_len(bytes: &[u8]) -> usize
+    requires { length bytes.now < 2 ^ 32 }
+    ensures { result ≡ length (string_of bytes.now) }
+{
+    bytes.len() + 4
+}
+
+/// How many they are with an Ed25519 secret as a number.
 #[tactic(auto, unfolding(picky_ppk_parts::specs::Secret::secret_bytes))]
 fn secret_len(key: &SshBasePrivateKey) -> usize
     ensures { result ≡ length (secret_bytes key.now) }
@@ -260,6 +305,7 @@ fn plain_file<S: Suite>(
     suite: &S,
     version: PpkVersion,
     config: PpkEncryptionConfig,
+    layout: PpkLayout,
     key: &SshBasePrivateKey,
     comment: Text,
     fresh: &Drawn<'_>,
@@ -267,10 +313,10 @@ fn plain_file<S: Suite>(
     requires salt { version ≡ V3 → length fresh.now.salt.now ≡ config.argon2_salt_size }
     requires padding { length fresh.now.padding.now < 16 }
     ensures gives { Gives ConvertError.NoMemory (λ ppk. ppk) result
-        (plain_drafted (S.meanings suite.now) version config key.now comment fresh.now.salt.now fresh.now.padding.now) }
-    ensures file { IfOk result (λ ppk. plain_file_of (S.meanings suite.now) version key.now comment ≡ ppk) }
+        (plain_drafted (S.meanings suite.now) version config layout key.now comment fresh.now.salt.now fresh.now.padding.now) }
+    ensures file { IfOk result (λ ppk. plain_file_of (S.meanings suite.now) version layout key.now comment ≡ ppk) }
 {
-    match Ppk::from_base_key(alloc, suite, version, key, comment) {
+    match Ppk::from_base_key_in(alloc, suite, version, layout, key, comment) {
         Ok(ppk) => match measure(&ppk, config, fresh) {
             Ok(()) => Ok(ppk),
             Err(e) => {

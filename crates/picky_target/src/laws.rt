@@ -6,15 +6,22 @@ ghost use Rattle.std.specs.Str.{IsUtf8};
 ghost use Rattle.picky_wire_base.specs.Numbers.{IsBytes};
 ghost use Rattle.picky_suite.specs.Meanings.{Meanings};
 ghost use Rattle.picky_wire_base.specs.Equality.{IsEquality};
+ghost use Rattle.picky_kv.specs.declared.PpkVersionKey.{PpkVersionKey as Version};
+ghost use Rattle.picky_ppk_parts.specs.declared.config.PpkEncryptionConfig.{PpkEncryptionConfig as Config};
+ghost use Rattle.picky_ppk_file.specs.declared.file.PpkFile.{PpkFile as File};
+ghost use Rattle.picky_ppk.specs.declared.layout.PpkLayout.TheVariants.{Putty};
+ghost use Rattle.picky_ppk.specs.Checked.{ppk_meaning};
+ghost use Rattle.picky_ppk.specs.PpkLayout.{HasPuttyLayout};
 ghost use Rattle.picky_key_text.specs.declared.meaning.Meaning.{Meaning as Meant};
 ghost use Rattle.picky_key_text.specs.Kept.{IsKeptMeaning};
 ghost use Rattle.picky_key_text.specs.Reads.{Reads};
 ghost use Rattle.picky_target.specs.declared.error.ConvertError.{ConvertError as Refused};
 ghost use Rattle.picky_target.specs.declared.target.KeyTarget.{KeyTarget as To};
+ghost use Rattle.picky_target.specs.declared.target.KeyTarget.TheVariants.{Ppk};
 ghost use Rattle.picky_target.specs.Carried.{Carries, Holds, Place};
 ghost use Rattle.picky_target.specs.Judged.{judged_meaning, place_refusal};
 ghost use Rattle.picky_target.specs.Output.{Output};
-ghost use Rattle.picky_target.specs.ReadBack.{IsTarget, kept, under};
+ghost use Rattle.picky_target.specs.ReadBack.{IsConfig, IsTarget, kept, under};
 ghost use Rattle.picky_target.specs.Texts.{Spells, text_for};
 
 use crate::error::ConvertError;
@@ -41,6 +48,15 @@ pub fn text_is_read_back()
     ensures { (s : Meanings) (out : Output) (to : To) (m : Meant) (text : List ℕ) → IsTarget to → IsKeptMeaning m
         → IsBytes out.fresh → IfSome out.pass IsUtf8 → Carries out to m → Spells s out to m text
         → Reads (under s out.pass) text (kept to m) }
+{}
+
+/// A text that spells what its target carries in PuTTY's own layout is that of a file of this layout; or, sealed, of one that its
+/// passphrase opens to such a file.
+pub fn files_for_putty_have_puttys_layout()
+    ensures { (s : Meanings) (out : Output) (version : Version) (config : Config) (m : Meant) (text : List ℕ) → IsConfig config
+        → IsKeptMeaning m → IsBytes out.fresh → IfSome out.pass IsUtf8 → Carries out (Ppk version config Putty) m
+        → Spells s out (Ppk version config Putty) m text
+        → (f : File) × (ppk_meaning s text ≡ Ok f) × HasPuttyLayout s out.pass f }
 {}
 
 /// Two targets are equal exactly where their contents are, and so are refusals.

@@ -19,8 +19,8 @@ use std::alloc::Global;
 /// The text of the target for a key and a comment: of a public target for the public part of the key.
 ///
 /// `OpenSsh` and `Ppk` are sealed where there is a passphrase, an empty one too, with the first of the fresh bytes: a salt of
-/// 16 for `OpenSsh`; for `Ppk` in version 3 a salt as long as the configuration says, and then a padding of 0 to 15 in both
-/// versions. Refuses, in order: `NoPrivateKey`; `Putty(NotSupported)`, where PuTTY has no such key; `CommentNotCarried`;
+/// 16 for `OpenSsh`; for `Ppk` in version 3 a salt as long as the configuration says, and then in both versions a padding of
+/// 0 to 15, as what the layout has lacks. Refuses, in order: `NoPrivateKey`; `Putty(NotSupported)`, where PuTTY has no such key; `CommentNotCarried`;
 /// where it is sealed `Private(HashingError)` for a passphrase that bcrypt can't be run with, `Putty(Argon2)` where Argon2
 /// can't, and `FreshTooShort`; `TooLong`; `TooManyLines`, where a block of a `Ppk` has more than 3,145,680 bytes; where it is
 /// sealed `Private(SuiteFault)` or `Putty(SuiteFault)`.
@@ -53,12 +53,12 @@ pub fn write_text<S: Suite>(
                 }
             }
         }
-        KeyTarget::Ppk(version, config) => {
+        KeyTarget::Ppk(version, config, layout) => {
             let Meaning { key, comment } = meaning;
             match key {
                 Key::Private(key) => {
                     let text = write_file(
-                        alloc, suite, version, config, &key, comment, pass, fresh,
+                        alloc, suite, version, config, layout, &key, comment, pass, fresh,
                     );
                     drop(key);
                     text

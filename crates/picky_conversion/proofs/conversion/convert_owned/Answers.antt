@@ -1,6 +1,7 @@
 -- By the target.
 use Rattle.std.proofs.Common.{ap}
 use Rattle.picky_wire.specs.Count.{Rose}
+use Rattle.picky_ppk.specs.declared.layout.PpkLayout.TheVariants as layouts
 use Rattle.picky_target.specs.declared.target.KeyTarget.TheVariants as keys
 use Rattle.picky_conversion.specs.To.{way_to}
 use Rattle.picky_conversion.specs.Outside.{outside}
@@ -17,7 +18,7 @@ returns-in-OpenSsh-clause-gives g c =
 pub returns-in-Ppk-clause-gives : goal.returns-in-Ppk-clause-gives
 returns-in-Ppk-clause-gives g c =
     let o = outside (g.S.Suite.meanings c.args.suite.now) c.args.given in
-    key_converted (g.G.Signer.signs c.args.signer.now) o c.args.target (keys.Ppk c.in-Ppk.version c.in-Ppk.config) c.args.input.now
+    key_converted (g.G.Signer.signs c.args.signer.now) o c.args.target (keys.Ppk c.in-Ppk.version c.in-Ppk.config layouts.Number) c.args.input.now
     (Rose (g.S.Suite.faults c.args.suite.now) (g.S.Suite.faults c.convert_key-in-Ppk.new.suite)) _ c.convert_key-in-Ppk.result (ap way_to c.in-Ppk.is)
     c.convert_key-in-Ppk.ensures.gives
 

@@ -8,6 +8,6 @@ returns-in-Err-plain_file-clause-suite g c =
     let salt = c.in-Ok.fresh.salt.now in
     let padding = c.in-Ok.fresh.padding.now in
     refusal_leaves g.S.Suite.meanings g.S.Suite.faults _ c.in-Err-plain_file.e
-    (plain_drafted m c.args.version c.args.config c.args.key.now c.args.comment salt padding) c.args.suite.now
-    (plain_no_fault m c.args.version c.args.config c.args.key.now c.args.comment salt padding)
+    (plain_drafted m c.args.version c.args.config c.args.layout c.args.key.now c.args.comment salt padding) c.args.suite.now
+    (plain_no_fault m c.args.version c.args.config c.args.layout c.args.key.now c.args.comment salt padding)
     c.in-Err-plain_file.ensures.gives

@@ -24,18 +24,18 @@ returns-in-OpenSsh-clause-gives g c = inr (inr (openssh_wants_private _ _ _ _ c.
 pub returns-in-Private-key-clause-gives : goal.returns-in-Private-key-clause-gives
 returns-in-Private-key-clause-gives g c =
     let is = written_ppk (g.S.Suite.meanings c.args.suite.now) (option_copied c.args.pass) c.args.fresh.now c.args.target c.in-Ppk.version
-    c.in-Ppk.config c.args.meaning c.in-Private-key.key c.args.meaning.comment c.in-Ppk.is c.in-Private-key.is refl in
+    c.in-Ppk.config c.in-Ppk.layout c.args.meaning c.in-Private-key.key c.args.meaning.comment c.in-Ppk.is c.in-Private-key.is refl in
     gives_as _ _ _ _ _ _ _ errors.NoMemory (λ text. text) c.write_file-text.result _ is c.write_file-text.ensures.gives
 
 pub returns-in-Private-key-clause-suite : goal.returns-in-Private-key-clause-suite
 returns-in-Private-key-clause-suite g c =
     let is = written_ppk (g.S.Suite.meanings c.args.suite.now) (option_copied c.args.pass) c.args.fresh.now c.args.target c.in-Ppk.version
-    c.in-Ppk.config c.args.meaning c.in-Private-key.key c.args.meaning.comment c.in-Ppk.is c.in-Private-key.is refl in
+    c.in-Ppk.config c.in-Ppk.layout c.args.meaning c.in-Private-key.key c.args.meaning.comment c.in-Ppk.is c.in-Private-key.is refl in
     leaves_as _ _ _ _ _ _ _ _ _ c.write_file-text.result _ _ is c.write_file-text.ensures.suite
 
 pub returns-in-Ppk-clause-gives : goal.returns-in-Ppk-clause-gives
 returns-in-Ppk-clause-gives g c =
-    inr (inr (ppk_wants_private _ _ _ c.in-Ppk.version c.in-Ppk.config _ c.in-Public-key.key c.in-Ppk.is c.in-Public-key.is))
+    inr (inr (ppk_wants_private _ _ _ c.in-Ppk.version c.in-Ppk.config c.in-Ppk.layout _ c.in-Public-key.key c.in-Ppk.is c.in-Public-key.is))
 
 pub returns-in-OpenSshPublic-clause-gives : goal.returns-in-OpenSshPublic-clause-gives
 returns-in-OpenSshPublic-clause-gives g c =
