@@ -18,13 +18,16 @@
  *
  *   PICKY_OK                 `len` bytes are handed out: they stand at the front of `out`, with a zero byte behind them. What
  *                            follows is as it was.
- *   PICKY_BUFFER_TOO_SMALL   there are `len` bytes to hand out, and `out_len` is `len` or less: `out` is as it was. Ask again
- *                            with a buffer of `len` + 1 bytes; the answer is the same then, but for want of memory.
+ *   PICKY_ASKED              the same, and the bytes are a question ("Questions and answers", below); of picky_convert_by and
+ *                            picky_seal_by alone.
+ *   PICKY_BUFFER_TOO_SMALL   there are `len` bytes to hand out, which may be a question, and `out_len` is `len` or less: `out` is
+ *                            as it was. Ask again with a buffer of `len` + 1 bytes; the answer is the same then, but for want of
+ *                            memory.
  *   any other error          there are no bytes, for the first reason in the order that the call states: `len` is 0, and `out`
  *                            is as it was.
  *
- * What is given determines the answer, but that PICKY_NO_MEMORY may come in its place, and PICKY_NO_CIPHER where something is
- * to be encrypted or decrypted.
+ * What is given determines the answer, but that PICKY_NO_MEMORY may come in its place, and PICKY_NO_CIPHER or PICKY_ASKED where
+ * something is to be encrypted or decrypted.
  *
  * The calls keep nothing, have no state and take no callback. They may run in any number of threads at once.
  *
@@ -112,9 +115,9 @@ enum {
  *
  * The text is read under `pass_in` and written under `pass_out`, with the fresh bytes as salt and padding; a passphrase of no
  * bytes is none. What isn't encrypted is read whatever the passphrase. An encrypted text without a passphrase is refused
- * (PICKY_PRIVATE_MISSING_PASSPHRASE, PICKY_PUTTY_ENCRYPTED). With one, and where `pass_out` asks for encryption, this library,
- * which has no cipher, answers PICKY_NO_CIPHER, if nothing is refused before: check/c tries that; the contract says that it may
- * come.
+ * (PICKY_PRIVATE_MISSING_PASSPHRASE, PICKY_PUTTY_ENCRYPTED). With one, and where `pass_out` asks for encryption, this call, which
+ * has no cipher, answers PICKY_NO_CIPHER, if nothing is refused before: take picky_convert_by. check/c tries that; the contract
+ * says that it may come.
  *
  * Reasons, in order: PICKY_NO_SUCH_TARGET; PICKY_TEXT_NOT_UTF8; PICKY_PASS_NOT_UTF8; PICKY_INPUT_..; PICKY_NO_PRIVATE_KEY;
  * PICKY_OUTPUT_PUTTY + PICKY_PUTTY_NOT_SUPPORTED; PICKY_COMMENT_NOT_CARRIED; PICKY_OUTPUT_..; PICKY_FRESH_TOO_SHORT;
@@ -122,6 +125,83 @@ enum {
  */
 picky_answer picky_convert(picky_bytes text, uint32_t target, picky_bytes pass_in, picky_bytes pass_out, picky_bytes fresh,
                            void *out, size_t out_len);
+
+/*
+ * ---- Questions and answers
+ *
+ * The library has no cipher and derives no key. picky_convert_by and picky_seal_by run over the answers that their caller gives,
+ * a table of entries one after another, at first of no bytes. Where an answer is missing, the call hands out the question, with
+ * PICKY_ASKED. Answer it with a library that you trust, put the question, and behind it the answer as a string, at the table's
+ * end, and call again with all else as it was. There are four questions at most: to derive a key and to decrypt, to derive one
+ * and to encrypt. So the fifth call asks nothing, and an entry has its place by its turn.
+ *
+ * Fields are RFC 4251's, section 5: a string is a uint32, its most significant byte first, and as many bytes. A question is a
+ * string `head` and a string `text`; the first byte of the head says what is asked of the text:
+ *
+ *   1  bcrypt-pbkdf of OpenSSH   uint32 length, uint32 rounds, string salt; the text is the passphrase, the answer has that length
+ *   2  Argon2, version 0x13      byte kind (0 Argon2d, 1 Argon2i, 2 Argon2id), uint32 memory in KiB, uint32 passes, uint32 lanes,
+ *                                string salt; the text is the passphrase, the answer has 80 bytes
+ *   3  AES in CBC, encrypted     string key, string iv; the answer is as long as the text, and nothing is padded
+ *   4  the same, decrypted       the same
+ *   5  AES in CTR                string key, string iv, the first counter; the answer is as long as the text
+ *
+ * Secret are the passphrase in 1 and 2, and what is derived from it; the key in 3 to 5; the private key itself in the text of 3,
+ * in the answer of 4, and in either of 5. So wipe `out`, the answers and all copies of them. The library doesn't wipe the memory
+ * that it frees. A caller may refuse a question, as one for too much memory: the call keeps nothing.
+ *
+ * Where each answer is the one of some ciphers and derivations, the text is what these give for the key text, and means the same
+ * key and comment when it is read by them: so trust your cryptography for what AES is, and this library for the rest. A false
+ * answer is refused by the MAC in PuTTY's files; in OpenSSH's, which have none, two check numbers and the public key have to
+ * agree, and a false answer that gives these passes.
+ *
+ * Refused is a table that is none (PICKY_ANSWERS + PICKY_ANSWERS_ENDS_IN_ENTRY, .._LENGTH_PAST_END or .._NO_QUESTION), and one of
+ * which an answer has another length than is asked (.._WRONG_LENGTH), or another partner under the same key and iv in a further
+ * entry (.._CONTRADICTION), or of which the next entry has another question (.._MISPLACED).
+ */
+
+/*
+ * picky_convert by answers, which are a cipher and a derivation: it hands out the text, or the question that the answers lack.
+ * With no answers it is picky_convert, but for what is asked there, which is PICKY_NO_CIPHER.
+ *
+ * Reasons, in order: PICKY_NO_SUCH_TARGET; PICKY_ANSWERS_.. of a table that is none; as picky_convert; PICKY_ANSWERS_.. of an
+ * answer; PICKY_BUFFER_TOO_SMALL.
+ */
+picky_answer picky_convert_by(picky_bytes text, uint32_t target, picky_bytes pass_in, picky_bytes pass_out, picky_bytes fresh,
+                              picky_bytes answers, void *out, size_t out_len);
+
+/*
+ * A private key's text, and what it is encrypted under where there is a passphrase: bcrypt-pbkdf's rounds of PICKY_OPENSSH, 1 or
+ * more; what Argon2 is run with of PICKY_PPK3 and PICKY_PPK3_FOR_PUTTY (RFC 9106, section 3.1).
+ */
+typedef struct picky_sealing {
+    uint32_t target;   /* PICKY_OPENSSH, or one of the PICKY_PPK.. */
+    uint32_t rounds;
+    uint32_t flavour;  /* PICKY_ARGON2D, PICKY_ARGON2I or PICKY_ARGON2ID */
+    uint32_t memory;   /* in KiB */
+    uint32_t passes;
+    uint32_t lanes;
+    uint32_t salt_len; /* bytes of `fresh` that are the salt, of Argon2 alone; bcrypt-pbkdf has 16 */
+} picky_sealing;
+
+enum {
+    PICKY_ARGON2D = 0,
+    PICKY_ARGON2I = 1,
+    PICKY_ARGON2ID = 2
+};
+
+/* What picky_convert takes: `picky_sealing sealing = PICKY_SEALING(PICKY_PPK3_FOR_PUTTY);` */
+#define PICKY_SEALING(target) {(target), 16, PICKY_ARGON2ID, 8192, 34, 1, 16}
+
+/*
+ * The same to a private key's text, encrypted as the caller chooses where `pass_out` is one: a key file gets another passphrase,
+ * other rounds or another form, or none.
+ *
+ * Reasons, in order: PICKY_NO_SUCH_SEALING, where `target` is no private key's or `flavour` no kind of Argon2; as
+ * picky_convert_by. Numbers out of range are refused where there is a passphrase: rounds of 0 by PICKY_OUTPUT_PRIVATE +
+ * PICKY_PRIVATE_HASHING_ERROR, Argon2's by PICKY_OUTPUT_PUTTY + PICKY_PUTTY_ARGON2.
+ */
+picky_answer picky_seal_by(picky_bytes text, const picky_sealing *sealing, picky_bytes pass_in, picky_bytes pass_out,
+                           picky_bytes fresh, picky_bytes answers, void *out, size_t out_len);
 
 /*
  * The SHA-256 fingerprint of the key that a text means, as `ssh-keygen -l` prints it: "SHA256:" and 43 characters, of PICKY_BLOB.
@@ -173,6 +253,9 @@ enum {
     PICKY_FRESH_TOO_SHORT = 10,    /* to encrypt takes more fresh bytes */
     PICKY_TOO_LONG = 11,           /* what is to be written has 2^32 bytes or more */
     PICKY_TOO_MANY_LINES = 12,     /* a block of PuTTY's file has 65,536 lines or more */
+    PICKY_ASKED = 13,              /* `out` has a question, which the answers lack */
+    PICKY_COMMENT_NOT_UTF8 = 14,   /* the comment isn't UTF-8 */
+    PICKY_NO_SUCH_SEALING = 15,    /* the numbers name no private key's text, or no kind of Argon2 */
 
     /* The hundreds of errors. A number in one of them is the sum of the hundred and of an error of its kind, below. */
     PICKY_INPUT_PRIVATE = 100,  /* read as an OpenSSH private key, the text means no key; plus PICKY_PRIVATE_.. */
@@ -181,6 +264,7 @@ enum {
     PICKY_INPUT_PUTTY = 400,    /* read as PuTTY's private or public key, the text means no key; plus PICKY_PUTTY_.. */
     PICKY_OUTPUT_PRIVATE = 500, /* the key can't be encrypted as an OpenSSH private key; plus PICKY_PRIVATE_.. */
     PICKY_OUTPUT_PUTTY = 600,   /* PuTTY has no such key, or it can't be encrypted as its file; plus PICKY_PUTTY_.. */
+    PICKY_ANSWERS = 700,        /* the answers are none; plus PICKY_ANSWERS_.. */
 
     /* Of OpenSSH private keys. */
     PICKY_PRIVATE_FROM_UTF8_ERROR = 0,           /* a string that must be UTF-8 isn't */
@@ -249,7 +333,16 @@ enum {
     PICKY_PUTTY_TOO_LONG = 18,                       /* there are 2^32 bytes or more */
     PICKY_PUTTY_TOO_MANY_LINES = 19,                 /* a block has 65,536 lines or more: one that is read is
                                                         PICKY_PUTTY_INVALID_INPUT, one to write PICKY_TOO_MANY_LINES */
-    PICKY_PUTTY_NO_MEMORY = 20                       /* never: it is PICKY_NO_MEMORY */
+    PICKY_PUTTY_NO_MEMORY = 20,                      /* never: it is PICKY_NO_MEMORY */
+
+    /* Of answers. */
+    PICKY_ANSWERS_ENDS_IN_ENTRY = 0,   /* they end where a string of an entry should begin, or in the four bytes of its length */
+    PICKY_ANSWERS_LENGTH_PAST_END = 1, /* a length says more bytes than are left */
+    PICKY_ANSWERS_NO_QUESTION = 2,     /* a head is none of a known question */
+    PICKY_ANSWERS_WRONG_LENGTH = 3,    /* an answer has another length than is asked */
+    PICKY_ANSWERS_CONTRADICTION = 4,   /* an answer contradicts another entry */
+    PICKY_ANSWERS_MISPLACED = 5,       /* the next entry answers another question than is asked */
+    PICKY_ANSWERS_TOO_LONG = 6         /* a part of what is asked has 2^32 bytes or more, so no question says it */
 };
 
 #ifdef __cplusplus

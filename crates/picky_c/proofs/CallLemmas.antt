@@ -26,42 +26,18 @@ use Rattle.picky_key_text.proofs.UnaskedLaws.{unasked}
 -- ---- a conversion
 
 -- the suite's fault, in reading and in writing, is the want of a cipher
-input_fault_is : (form : Form) → refusal_of (errors.Input (fault_as form)) ≡ calls.NoCipher
+pub input_fault_is : (form : Form) → refusal_of (errors.Input (fault_as form)) ≡ calls.NoCipher
 input_fault_is forms.Envelope = refl
 input_fault_is forms.Ppk = refl
 input_fault_is forms.PuttyPublic = refl
 input_fault_is forms.Certificate = refl
 input_fault_is forms.PublicLine = refl
 
-output_fault_is : (target : KeyTarget) → refusal_of (target_fault target) ≡ calls.NoCipher
-output_fault_is targets.OpenSsh = refl
+pub output_fault_is : (target : KeyTarget) → refusal_of (target_fault target) ≡ calls.NoCipher
+output_fault_is (targets.OpenSsh rounds) = refl
 output_fault_is (targets.Ppk version config layout) = refl
 output_fault_is targets.OpenSshPublic = refl
 output_fault_is targets.PuttyPublic = refl
-
-converted_refusal : (o : Outside) (to : KeyTarget) (from : List ℕ) (e : ConvertError) (rose : Type 0)
-    → AnswersKeyText {X = List ℕ} (λ t. t) o to from rose (Err e)
-    → (refusal_of e ≡ calls.NoMemory) ⊎ ((refusal_of e ≡ calls.NoCipher) × IsAskedFault (converting_asks o to from) (Unit {0}))
-    ⊎ (map_err refusal_of (conversion o to from) ≡ Err (refusal_of e))
-converted_refusal o to from e rose (inl want) = inl (ap refusal_of want)
-converted_refusal o to from e rose (inr (inl (inl fault))) =
-    inr (inl (ap refusal_of fault.0 ∙ input_fault_is (form_of from), (opening_asks o to from fault.1.0, tt)))
-converted_refusal o to from e rose (inr (inl (inr fault))) =
-    inr (inl (ap refusal_of fault.0 ∙ output_fault_is to, (sealing_asks o to from fault.1.0, tt)))
-converted_refusal o to from e rose (inr (inr refused)) = inr (inr (ap (map_err refusal_of) refused))
-
--- the same, where the meanings are equal to those
-pub conversion_refusal : (m : Meanings) (pass_in pass_out : Option (List ℕ)) (fresh : List ℕ) (to : KeyTarget) (from : List ℕ)
-    (e : ConvertError) (g : PickyError) (rose : Type 0) → m ≡ plain → g ≡ refusal_of e
-    → AnswersKeyText {X = List ℕ} (λ t. t) (record (plain_outside pass_in pass_out fresh) { meanings = m }) to from rose (Err e)
-    → (g ≡ calls.NoMemory)
-    ⊎ ((g ≡ calls.NoCipher) × IsAskedFault (converting_asks (plain_outside pass_in pass_out fresh) to from) (Unit {0}))
-    ⊎ (map_err refusal_of (conversion (plain_outside pass_in pass_out fresh) to from) ≡ Err g)
-conversion_refusal m pass_in pass_out fresh to from e g rose means is answers =
-    let o : Outside = plain_outside pass_in pass_out fresh in
-    let same = subst (λ n. AnswersKeyText {X = List ℕ} (λ t. t) (record o { meanings = n }) to from rose (Err e)) means answers in
-    subst (λ d. (d ≡ calls.NoMemory) ⊎ ((d ≡ calls.NoCipher) × IsAskedFault (converting_asks o to from) (Unit {0}))
-    ⊎ (map_err refusal_of (conversion o to from) ≡ Err d)) (sym is) (converted_refusal o to from e rose same)
 
 -- ---- a public key
 

@@ -36,7 +36,8 @@ table_short group =
     (either IsShortTable (group == 3) _ _ refl
     (either IsShortTable (group == 4) _ _ refl
     (either IsShortTable (group == 5) _ _ refl
-    (either IsShortTable (group == 6) _ _ refl refl))))))
+    (either IsShortTable (group == 6) _ _ refl
+    (either IsShortTable (group == 7) _ _ refl refl)))))))
 
 pub leaf_short : (number : ℕ) → length (leaf_name number) ≤ 32
 leaf_short number = short_at (names_in (number / 100)) (number % 100) (table_short (number / 100))

@@ -6,10 +6,11 @@ use Rattle.picky_c.specs.declared.error.PickyError.{PickyError}
 use Rattle.picky_c.specs.declared.error.PickyError.TheVariants as errors
 use Rattle.picky_c.specs.Number.{error_number}
 
--- the bytes stand at the front of the buffer and a zero behind them, where it has room for both; else it is as it was
-pub record Hands (bytes : List ℕ) (answer : PickyAnswer) (old new : List ℕ) : Type 0 where
+-- the bytes stand at the front of the buffer and a zero behind them, where it has room for both, and this number is answered; else
+-- the buffer is as it was
+pub record HandsAs (error : ℕ) (bytes : List ℕ) (answer : PickyAnswer) (old new : List ℕ) : Type 0 where
   pub len : answer.len ≡ length bytes
-  pub written : length bytes < length old → (answer.error ≡ 0) × (new ≡ bytes ++ (0 ∷ drop (length bytes + 1) old))
+  pub written : length bytes < length old → (answer.error ≡ error) × (new ≡ bytes ++ (0 ∷ drop (length bytes + 1) old))
   pub too_small : length old ≤ length bytes → (answer.error ≡ error_number errors.BufferTooSmall) × (new ≡ old)
 
 -- the reason's number is answered, and the buffer is as it was
@@ -20,7 +21,7 @@ pub record RefusesCall (e : PickyError) (answer : PickyAnswer) (old new : List �
 
 -- what is come to is handed out
 abbrev pub Comes : Result (List ℕ) PickyError → PickyAnswer → (old new : List ℕ) → Type 0
-Comes (Ok bytes) answer old new = Hands bytes answer old new
+Comes (Ok bytes) answer old new = HandsAs 0 bytes answer old new
 Comes (Err e) answer old new = RefusesCall e answer old new
 
 -- what is handed out is what the definition says, of which this holds; in its place want of memory may come, or want of a

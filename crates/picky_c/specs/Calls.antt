@@ -1,11 +1,17 @@
 -- What each call comes to: bytes, or the first reason why there are none.
-use Rattle.std.specs.Prelude.{◌≡◌, ◌++◌, ◌&&◌, List, ℕ, Bool, false, Option, None, Some, Result, Ok, codes}
+use Rattle.std.specs.Prelude.{◌≡◌, ◌++◌, ◌&&◌, List, [], ℕ, Bool, false, Option, None, Some, Result, Ok, Err, codes, is_ok}
 use Rattle.std.specs.Option.{ok_or}
 use Rattle.std.specs.Str.{is_utf8}
 use Rattle.base64.specs.Engines.{standard_no_pad}
 use Rattle.base64.specs.GeneralPurpose.{encode_of}
 use Rattle.sha2.specs.Sha256.{sha256}
 use Rattle.picky_wire_base.specs.Outcome.{and_then, map_err}
+use Rattle.picky_suite.specs.Meanings.{Meanings}
+use Rattle.picky_ask.specs.Known.{meant}
+use Rattle.picky_ask.specs.Table.{table_of}
+use Rattle.picky_ask.specs.declared.question.Entry.{Entry}
+use Rattle.picky_ask.specs.declared.table.TableError.{TableError}
+use Rattle.picky_ask.specs.declared.table.TableError.TheVariants as tables
 use Rattle.picky_keys.specs.Blob.{blob_of}
 use Rattle.picky_keys.specs.declared.key.SshPublicKey.{SshPublicKey}
 use Rattle.picky_key_text.specs.Key.{public_key as public_key_of}
@@ -14,46 +20,79 @@ use Rattle.picky_key_text.specs.Reads.{Reads}
 use Rattle.picky_key_text.specs.declared.meaning.Meaning.{Meaning}
 use Rattle.picky_target.specs.declared.target.KeyTarget.{KeyTarget}
 use Rattle.picky_conversion.specs.Convert.{IsConversion, conversion, converting_asks}
-use Rattle.picky_conversion.specs.Outside.{Outside}
 use Rattle.picky_conversion.specs.Refusal.{input_refusal}
-use Rattle.picky_c.specs.Given.{pass_of, plain_outside, plain_reader, utf8}
+use Rattle.picky_c.specs.Given.{Given, outside, plain_reader, utf8}
 use Rattle.picky_c.specs.Part.{part_numbered, part_of}
 use Rattle.picky_c.specs.Refusal.{refusal_of}
+use Rattle.picky_c.specs.Sealing.{sealing_target}
 use Rattle.picky_c.specs.Target.{target_numbered}
+use Rattle.picky_c.specs.declared.sealing.PickySealing.{PickySealing}
 use Rattle.picky_c.specs.declared.part.Part.{Part}
+use Rattle.picky_c.specs.declared.error.AnswersError.TheVariants as answers
 use Rattle.picky_c.specs.declared.error.PickyError.{PickyError}
 use Rattle.picky_c.specs.declared.error.PickyError.TheVariants as errors
 
--- ---- a conversion
+-- ---- a conversion, under what the answers mean: under m, where m gives each of them, and else under their completion
 
--- what it has beside the key text
-abbrev pub outside : (pass_in pass_out fresh : List ℕ) → Outside
-outside pass_in pass_out fresh = plain_outside (pass_of pass_in) (pass_of pass_out) fresh
+-- the entries of the answers; none where they are no table
+abbrev pub entries_in : Result (List Entry) TableError → List Entry
+entries_in (Ok entries) = entries
+entries_in (Err e) = []
 
--- the text, or the first reason why there is none
-abbrev pub converted : (target : ℕ) → (text pass_in pass_out fresh : List ℕ) → Result (List ℕ) PickyError
-converted target text pass_in pass_out fresh =
-    and_then (ok_or (target_numbered target) errors.NoSuchTarget) (λ target.
-    and_then (utf8 errors.TextNotUtf8 text) (λ text.
-    and_then (utf8 errors.PassNotUtf8 pass_in) (λ pass_in.
-    and_then (utf8 errors.PassNotUtf8 pass_out) (λ pass_out.
-    map_err refusal_of (conversion (outside pass_in pass_out fresh) target text)))))
+abbrev pub entries_of : Given → List Entry
+entries_of g = entries_in (table_of g.answers)
+
+abbrev pub meanings_by : Meanings → Given → Meanings
+meanings_by m g = meant m (entries_of g)
+
+-- a table that isn't one, as a call's refusal
+abbrev pub table_refusal : TableError → PickyError
+table_refusal tables.EndsInEntry = errors.Answers answers.EndsInEntry
+table_refusal tables.LengthPastEnd = errors.Answers answers.LengthPastEnd
+table_refusal tables.NoQuestion = errors.Answers answers.NoQuestion
+table_refusal tables.NoMemory = errors.NoMemory
+
+-- the target of a number, or why there is none; and that of what a caller chooses
+abbrev pub numbered_target : ℕ → Result KeyTarget PickyError
+numbered_target number = ok_or (target_numbered number) errors.NoSuchTarget
+
+abbrev pub sealed_target : PickySealing → Result KeyTarget PickyError
+sealed_target s = ok_or (sealing_target s) errors.NoSuchSealing
+
+-- the text under some meanings, or the first reason why there is none
+abbrev pub converted_under : Meanings → KeyTarget → Given → Result (List ℕ) PickyError
+converted_under m target g =
+    and_then (utf8 errors.TextNotUtf8 g.text) (λ text.
+    and_then (utf8 errors.PassNotUtf8 g.pass_in) (λ pass_in.
+    and_then (utf8 errors.PassNotUtf8 g.pass_out) (λ pass_out.
+    map_err refusal_of (conversion (outside m g) target text))))
 
 -- a cipher is asked for: all is UTF-8; and the key text is sealed and comes with a passphrase, or what is written is to be sealed
-abbrev pub target_asks : Option KeyTarget → Outside → List ℕ → Bool
-target_asks (Some target) o text = converting_asks o target text
-target_asks None o text = false
+abbrev pub asks_under : Meanings → KeyTarget → Given → Bool
+asks_under m target g =
+    is_utf8 g.text && is_utf8 g.pass_in && is_utf8 g.pass_out && converting_asks (outside m g) target g.text
 
-abbrev pub converting_is_asked : (target : ℕ) → (text pass_in pass_out fresh : List ℕ) → Bool
-converting_is_asked target text pass_in pass_out fresh =
-    is_utf8 text && is_utf8 pass_in && is_utf8 pass_out
-    && target_asks (target_numbered target) (outside pass_in pass_out fresh) text
+-- the same of a target that a number may not name, by answers that may be no table
+abbrev pub converted_with : Meanings → Result KeyTarget PickyError → Given → Result (List ℕ) PickyError
+converted_with m target g =
+    and_then target (λ target.
+    and_then (map_err table_refusal (table_of g.answers)) (λ entries. converted_under m target g))
+
+-- and under what the answers mean
+abbrev pub converted : Meanings → Result KeyTarget PickyError → Given → Result (List ℕ) PickyError
+converted m target g = converted_with (meanings_by m g) target g
+
+abbrev pub target_asks : Meanings → Result KeyTarget PickyError → Given → Bool
+target_asks m (Ok target) g = asks_under m target g
+target_asks m (Err e) g = false
+
+abbrev pub converting_is_asked : Meanings → Result KeyTarget PickyError → Given → Bool
+converting_is_asked m target g = is_ok (table_of g.answers) && target_asks (meanings_by m g) target g
 
 -- the bytes are the target's one text for the one thing that the key text means, and are read back
-abbrev pub IsConverted : (target : ℕ) → (text pass_in pass_out fresh : List ℕ) → (bytes : List ℕ) → Type 0
-IsConverted number text pass_in pass_out fresh bytes =
-    (target : KeyTarget) × (target_numbered number ≡ Some target)
-    × IsConversion (outside pass_in pass_out fresh) target text bytes
+abbrev pub IsConverted : Meanings → Result KeyTarget PickyError → Given → (bytes : List ℕ) → Type 0
+IsConverted m target g bytes =
+    (to : KeyTarget) × (target ≡ Ok to) × IsConversion (outside (meanings_by m g) g) to g.text bytes
 
 -- ---- a public key
 

@@ -5,4 +5,6 @@ pub mod Answer
 pub mod Given
 pub mod Target
 pub mod Part
+pub mod Sealing
 pub mod Calls
+pub mod Round

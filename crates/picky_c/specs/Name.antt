@@ -7,7 +7,8 @@ abbrev pub own_names : List (List ℕ)
 own_names =
     codes "Ok" ∷ codes "BufferTooSmall" ∷ codes "NoMemory" ∷ codes "TextNotUtf8" ∷ codes "PassNotUtf8" ∷
     codes "NoSuchTarget" ∷ codes "NoSuchPart" ∷ codes "NoCipher" ∷ codes "NoPrivateKey" ∷
-    codes "CommentNotCarried" ∷ codes "FreshTooShort" ∷ codes "TooLong" ∷ codes "TooManyLines" ∷ []
+    codes "CommentNotCarried" ∷ codes "FreshTooShort" ∷ codes "TooLong" ∷ codes "TooManyLines" ∷ codes "Asked" ∷
+    codes "CommentNotUtf8" ∷ codes "NoSuchSealing" ∷ []
 
 -- the names of an OpenSSH private key, by number
 abbrev pub private_names : List (List ℕ)
@@ -43,6 +44,12 @@ putty_names =
     codes "SshPublicKey" ∷ codes "IoError" ∷ codes "SuiteFault" ∷ codes "TooLong" ∷ codes "TooManyLines" ∷
     codes "NoMemory" ∷ []
 
+-- the names of answers, by number
+abbrev pub answers_names : List (List ℕ)
+answers_names =
+    codes "EndsInEntry" ∷ codes "LengthPastEnd" ∷ codes "NoQuestion" ∷ codes "WrongLength" ∷ codes "Contradiction" ∷
+    codes "Misplaced" ∷ codes "TooLong" ∷ []
+
 -- the names of a hundred, by its number
 abbrev pub names_in : ℕ → List (List ℕ)
 names_in group =
@@ -53,6 +60,7 @@ names_in group =
     else if group == 4 then putty_names
     else if group == 5 then private_names
     else if group == 6 then putty_names
+    else if group == 7 then answers_names
     else []
 
 -- the path to them
@@ -64,6 +72,7 @@ path_to group =
     else if group == 4 then codes "input.putty."
     else if group == 5 then codes "output.private."
     else if group == 6 then codes "output.putty."
+    else if group == 7 then codes "answers."
     else []
 
 -- the name in a hundred; [] where the number has none

@@ -13,6 +13,8 @@ use Rattle.picky_key_text.specs.declared.error.ReadError.TheVariants as input
 use Rattle.picky_target.specs.declared.error.ConvertError.{ConvertError}
 use Rattle.picky_target.specs.declared.error.ConvertError.TheVariants as errors
 use Rattle.picky_conversion.specs.Want.{IsFault, WantsMemory}
+use Rattle.picky_c.specs.declared.error.AnswersError.{AnswersError}
+use Rattle.picky_c.specs.declared.error.AnswersError.TheVariants as answers
 use Rattle.picky_c.specs.declared.error.PickyError.{PickyError}
 use Rattle.picky_c.specs.declared.error.PickyError.TheVariants as calls
 
@@ -110,6 +112,16 @@ refused_number errors.TooLong = 11
 refused_number errors.TooManyLines = 12
 refused_number errors.NoMemory = 2
 
+-- of answers
+abbrev pub answers_number : AnswersError → ℕ
+answers_number answers.EndsInEntry = 0
+answers_number answers.LengthPastEnd = 1
+answers_number answers.NoQuestion = 2
+answers_number answers.WrongLength = 3
+answers_number answers.Contradiction = 4
+answers_number answers.Misplaced = 5
+answers_number answers.TooLong = 6
+
 -- of a call
 abbrev pub error_number : PickyError → ℕ
 error_number calls.BufferTooSmall = 1
@@ -119,6 +131,9 @@ error_number calls.PassNotUtf8 = 4
 error_number calls.NoSuchTarget = 5
 error_number calls.NoSuchPart = 6
 error_number calls.NoCipher = 7
+error_number calls.Asked = 13
+error_number calls.NoSuchSealing = 15
+error_number (calls.Answers e) = 700 + answers_number e
 error_number (calls.Refused e) = refused_number e
 
 -- a refusal of no issuer and of no request

@@ -1,7 +1,9 @@
 //! What a call answers, and what it leaves in the caller's buffer.
 
+ghost use Rattle.std.specs.Prelude.{◌≡◌};
 ghost use Rattle.picky_wire_base.specs.Outcome.{map_ok};
-ghost use Rattle.picky_c.specs.Answer.{Comes, Hands};
+ghost use Rattle.picky_c.specs.Answer.{Comes, HandsAs};
+ghost use Rattle.picky_c.specs.Number.{error_number};
 
 use crate::error::PickyError;
 use crate::number::number_of;
@@ -21,18 +23,24 @@ pub fn hand(outcome: Result<Vec<u8>, PickyError>, out: &mut [u8]) -> PickyAnswer
     ensures { Comes (map_ok (λ bytes. bytes.items) outcome) result out.old out.new }
 {
     match outcome {
-        Ok(bytes) => hand_out(bytes.as_slice(), out),
-        Err(e) => {
-            let error = number_of(&e);
-            drop(e);
-            PickyAnswer { error, len: 0 }
-        }
+        Ok(bytes) => hand_out(0, bytes.as_slice(), out),
+        Err(e) => refuse(e),
     }
 }
 
-/// Puts the bytes at the front of the buffer, and a zero behind them, where it has room for both.
-fn hand_out(bytes: &[u8], out: &mut [u8]) -> PickyAnswer
-    ensures { Hands bytes.now result out.old out.new }
+/// Answers the number of a reason.
+pub fn refuse(e: PickyError) -> PickyAnswer
+    ensures error { result.error ≡ error_number e }
+    ensures len { result.len ≡ 0 }
+{
+    let error = number_of(&e);
+    drop(e);
+    PickyAnswer { error, len: 0 }
+}
+
+/// Puts the bytes at the front of the buffer, and a zero behind them, where it has room for both, and answers a number.
+pub fn hand_out(error: u32, bytes: &[u8], out: &mut [u8]) -> PickyAnswer
+    ensures { HandsAs error bytes.now result out.old out.new }
 {
     let len = bytes.len();
     if len >= out.len() {
@@ -42,5 +50,5 @@ fn hand_out(bytes: &[u8], out: &mut [u8]) -> PickyAnswer
     let (front, back) = out.split_at_mut(len);
     front.copy_from_slice(bytes);
     back[0] = 0;
-    PickyAnswer { error: 0, len }
+    PickyAnswer { error, len }
 }

@@ -1,26 +1,22 @@
-//! The conversion of a key text, with a suite that has no ciphers.
+//! The conversion of a key text without answers: with a suite that has no ciphers.
 
-ghost use Rattle.std.specs.Prelude.{IfOk};
-ghost use Rattle.std.specs.Option.{option_copied};
-ghost use Rattle.picky_wire_base.specs.Outcome.{map_err};
+ghost use Rattle.std.specs.Prelude.{[], IfOk};
+ghost use Rattle.picky_wire_base.specs.Outcome.{map_ok};
 ghost use Rattle.picky_suite.specs.Asked.{GivesAsked};
-ghost use Rattle.picky_conversion.specs.Convert.{IsConversion, conversion, converting_asks};
-ghost use Rattle.picky_c.specs.Given.{plain_outside};
-ghost use Rattle.picky_c.specs.Refusal.{refusal_of};
-ghost use Rattle.picky_c.specs.Calls.{IsConverted, converted as converted_of, converting_is_asked};
+ghost use Rattle.picky_suite.specs.Meanings.{plain};
+ghost use Rattle.picky_c.specs.Calls.{IsConverted, converted as converted_of, converting_is_asked, numbered_target};
+ghost use Rattle.picky_c.specs.Given.{given};
+ghost use Rattle.picky_c.specs.Round.{IsWithoutAnswers};
 
-use crate::error::{PickyError, refusal};
-use crate::given::{as_pass, as_text};
+use crate::error::PickyError;
+use crate::given::Given;
+use crate::round::{Round, converted_by};
 use crate::target::target_of;
-use picky_conversion::{ConversionGiven, convert_key_text};
-use picky_suite::PlainSuite;
-use picky_target::KeyTarget;
 use std::alloc::Global;
 
 /// The text of the target for what a key text means.
 ///
-/// Refuses, in order: `NoSuchTarget`, `TextNotUtf8`, `PassNotUtf8`, and as `picky_conversion::convert_key_text`, with `NoCipher`
-/// in place of the suite's fault.
+/// Refuses, in order: as `converted_by` by no answers, with `NoCipher` where that asks.
 pub fn converted(
     alloc: Global,
     text: &[u8],
@@ -30,52 +26,32 @@ pub fn converted(
     fresh: &[u8],
 ) -> Result<Vec<u8>, PickyError>
     ensures gives { GivesAsked PickyError.NoMemory PickyError.NoCipher (λ bytes. bytes.items) result
-        (converted_of target text.now pass_in.now pass_out.now fresh.now)
-        (converting_is_asked target text.now pass_in.now pass_out.now fresh.now) (Unit {0}) }
-    ensures converts { IfOk result (λ bytes. IsConverted target text.now pass_in.now pass_out.now fresh.now bytes.items) }
+        (converted_of plain (numbered_target target) (given text.now pass_in.now pass_out.now fresh.now []))
+        (converting_is_asked plain (numbered_target target) (given text.now pass_in.now pass_out.now fresh.now [])) (Unit {0}) }
+    ensures means { IfOk result (λ bytes. IsConverted plain (numbered_target target)
+        (given text.now pass_in.now pass_out.now fresh.now []) bytes.items) }
 {
-    let target = match target_of(target) {
-        Some(target) => target,
-        None => return Err(PickyError::NoSuchTarget),
-    };
-    let text = match as_text(text) {
-        Some(text) => text,
-        None => return Err(PickyError::TextNotUtf8),
-    };
-    let pass_in = match as_pass(pass_in) {
-        Some(pass) => pass,
-        None => return Err(PickyError::PassNotUtf8),
-    };
-    let pass_out = match as_pass(pass_out) {
-        Some(pass) => pass,
-        None => return Err(PickyError::PassNotUtf8),
-    };
-    converted_text(alloc, text, target, pass_in, pass_out, fresh)
-}
-
-/// The conversion of what is UTF-8.
-fn converted_text(
-    alloc: Global,
-    text: &str,
-    target: KeyTarget,
-    pass_in: Option<&str>,
-    pass_out: Option<&str>,
-    fresh: &[u8],
-) -> Result<Vec<u8>, PickyError>
-    ensures gives { GivesAsked PickyError.NoMemory PickyError.NoCipher (λ bytes. bytes.items) result
-        (map_err refusal_of (conversion (plain_outside (option_copied pass_in.entry) (option_copied pass_out.entry) fresh.now) target text.now))
-        (converting_asks (plain_outside (option_copied pass_in.entry) (option_copied pass_out.entry) fresh.now) target text.now) (Unit {0}) }
-    ensures converts { IfOk result (λ bytes. IsConversion
-        (plain_outside (option_copied pass_in.entry) (option_copied pass_out.entry) fresh.now) target text.now bytes.items) }
-{
-    let mut suite = PlainSuite::new();
-    let given = ConversionGiven {
+    let given = Given {
+        text,
         pass_in,
         pass_out,
         fresh,
+        answers: &[],
     };
-    match convert_key_text(alloc, &mut suite, text, target, given) {
-        Ok(text) => Ok(text.into_string().into_bytes()),
-        Err(e) => Err(refusal(e)),
+    without_answers(converted_by(alloc, target_of(target), given))
+}
+
+/// A round by no answers, where what is asked is the want of a cipher.
+fn without_answers(round: Result<Round, PickyError>) -> Result<Vec<u8>, PickyError>
+    ensures { IsWithoutAnswers round (map_ok (λ bytes. bytes.items) result) }
+{
+    match round {
+        Ok(Round::Text(bytes)) => Ok(bytes),
+        Ok(Round::Question(bytes)) => {
+            drop(bytes);
+            Err(PickyError::NoCipher)
+        }
+        Err(PickyError::Answers(_)) => Err(PickyError::NoCipher),
+        Err(e) => Err(e),
     }
 }

@@ -1,8 +1,10 @@
 //! Why a call hands out no bytes.
 
 ghost use Rattle.std.specs.Prelude.{◌≡◌};
+ghost use Rattle.picky_c.specs.Calls.{table_refusal as table_refusal_of};
 ghost use Rattle.picky_c.specs.Refusal.{refusal_of};
 
+use picky_ask::TableError;
 use picky_key_text::ReadError;
 use picky_ppk::PuttyError;
 use picky_sshkey::SshPrivateKeyError;
@@ -25,8 +27,45 @@ pub enum PickyError {
     NoSuchPart,
     /// The key text is to be opened, or what is written to be sealed: that takes a cipher, and there is none.
     NoCipher,
+    /// The answers lack one.
+    Asked,
+    /// The numbers name no way to seal.
+    NoSuchSealing,
+    /// The answers are none.
+    Answers(AnswersError),
     /// The key text is refused, or has no text for the target.
     Refused(ConvertError),
+}
+
+/// Why answers are none.
+#[derive(Clone, Copy)]
+pub enum AnswersError {
+    /// They end where a string of an entry should begin, or in the four bytes of its length.
+    EndsInEntry,
+    /// A length says more bytes than are left.
+    LengthPastEnd,
+    /// A head is none of a known question.
+    NoQuestion,
+    /// An answer has another length than its question wants.
+    WrongLength,
+    /// An answer contradicts another entry.
+    Contradiction,
+    /// The next entry answers another question than the one that is asked.
+    Misplaced,
+    /// A part of the question that is asked has 2^32 bytes or more, so no bytes say it.
+    TooLong,
+}
+
+/// The refusal of answers that are no table, where want of memory is the outer want.
+pub fn table_refusal(e: TableError) -> PickyError
+    ensures { result ≡ table_refusal_of e }
+{
+    match e {
+        TableError::EndsInEntry => PickyError::Answers(AnswersError::EndsInEntry),
+        TableError::LengthPastEnd => PickyError::Answers(AnswersError::LengthPastEnd),
+        TableError::NoQuestion => PickyError::Answers(AnswersError::NoQuestion),
+        TableError::NoMemory => PickyError::NoMemory,
+    }
 }
 
 /// A refusal of the conversion as the call's, where want of memory is the outer want, and the suite's fault that of a cipher.

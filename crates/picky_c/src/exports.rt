@@ -2,23 +2,29 @@
 //!
 //! A slice is a pointer and a length to C, and a `Global` is nothing. What holds of them here a caller in C has to see to.
 
-ghost use Rattle.std.specs.Prelude.{false};
+ghost use Rattle.std.specs.Prelude.{[], false};
+ghost use Rattle.picky_suite.specs.Meanings.{Meanings, plain};
 ghost use Rattle.picky_c.specs.Answer.{AnswersCall};
-ghost use Rattle.picky_c.specs.Calls.{IsConverted, IsFingerprint, IsPart, converted as converted_of};
-ghost use Rattle.picky_c.specs.Calls.{converting_is_asked, fingerprint as fingerprint_of, public_part_in};
+ghost use Rattle.picky_c.specs.Calls.{IsConverted, IsFingerprint, IsPart, converted as converted_of, converting_is_asked};
+ghost use Rattle.picky_c.specs.Calls.{fingerprint as fingerprint_of, numbered_target, public_part_in, sealed_target};
+ghost use Rattle.picky_c.specs.Given.{given};
 ghost use Rattle.picky_c.specs.Name.{IsNamed, error_name, version};
+ghost use Rattle.picky_c.specs.Round.{AnswersRound};
 
 use crate::answer::{PickyAnswer, hand};
 use crate::conversion::converted;
-use crate::given::PickyBytes;
+use crate::given::{Given, PickyBytes};
 use crate::name::{PickyName, name_of, version_name};
 use crate::public::{fingerprint, part as part_of_text};
+use crate::round::{converted_by, hand_round};
+use crate::sealing::{PickySealing, target_of_sealing};
+use crate::target::target_of;
 use std::alloc::Global;
 
 /// The text of the target with a number for what a key text means.
 ///
 /// Refuses, in order: `NoSuchTarget`, `TextNotUtf8`, `PassNotUtf8`, as `picky_conversion::convert_key_text`, and `BufferTooSmall`;
-/// `NoCipher` where something is to be opened or sealed.
+/// `NoCipher` where something is to be opened or sealed: it is `picky_convert_by` by no answers.
 #[unsafe(no_mangle)]
 pub extern "C" fn picky_convert(
     alloc: Global,
@@ -30,9 +36,12 @@ pub extern "C" fn picky_convert(
     out: &mut [u8],
 ) -> PickyAnswer
     ensures { AnswersCall
-        (converted_of target text.entry.bytes.now pass_in.entry.bytes.now pass_out.entry.bytes.now fresh.entry.bytes.now)
-        (converting_is_asked target text.entry.bytes.now pass_in.entry.bytes.now pass_out.entry.bytes.now fresh.entry.bytes.now)
-        (IsConverted target text.entry.bytes.now pass_in.entry.bytes.now pass_out.entry.bytes.now fresh.entry.bytes.now)
+        (converted_of plain (numbered_target target)
+        (given text.entry.bytes.now pass_in.entry.bytes.now pass_out.entry.bytes.now fresh.entry.bytes.now []))
+        (converting_is_asked plain (numbered_target target)
+        (given text.entry.bytes.now pass_in.entry.bytes.now pass_out.entry.bytes.now fresh.entry.bytes.now []))
+        (IsConverted plain (numbered_target target)
+        (given text.entry.bytes.now pass_in.entry.bytes.now pass_out.entry.bytes.now fresh.entry.bytes.now []))
         result out.old out.new }
 {
     let outcome = converted(
@@ -44,6 +53,66 @@ pub extern "C" fn picky_convert(
         fresh.bytes,
     );
     hand(outcome, out)
+}
+
+/// The same by the answers that the caller gives to questions: the text, or, with `Asked`, the question that they lack, as bytes.
+/// By `m`, where that gives each answer, it is what a conversion under `m` gives.
+///
+/// Refuses, in order: `NoSuchTarget`; `Answers` as `picky_ask::Table::read`; as `picky_convert`, with `Answers` for an answer that
+/// is none; `BufferTooSmall`, also where a question has no room.
+#[unsafe(no_mangle)]
+pub extern "C" fn picky_convert_by(
+    alloc: Global,
+    text: PickyBytes<'_>,
+    target: u32,
+    pass_in: PickyBytes<'_>,
+    pass_out: PickyBytes<'_>,
+    fresh: PickyBytes<'_>,
+    answers: PickyBytes<'_>,
+    out: &mut [u8],
+) -> PickyAnswer
+    ghost m: { Meanings }
+    ensures { AnswersRound m (numbered_target target)
+        (given text.entry.bytes.now pass_in.entry.bytes.now pass_out.entry.bytes.now fresh.entry.bytes.now answers.entry.bytes.now)
+        result out.old out.new }
+{
+    let given = Given {
+        text: text.bytes,
+        pass_in: pass_in.bytes,
+        pass_out: pass_out.bytes,
+        fresh: fresh.bytes,
+        answers: answers.bytes,
+    };
+    hand_round(converted_by(alloc, target_of(target), given), out)
+}
+
+/// The same to a private key's text, sealed as the caller chooses where there is a passphrase.
+///
+/// Refuses, in order: `NoSuchSealing`, and as `picky_convert_by`.
+#[unsafe(no_mangle)]
+pub extern "C" fn picky_seal_by(
+    alloc: Global,
+    text: PickyBytes<'_>,
+    sealing: &PickySealing,
+    pass_in: PickyBytes<'_>,
+    pass_out: PickyBytes<'_>,
+    fresh: PickyBytes<'_>,
+    answers: PickyBytes<'_>,
+    out: &mut [u8],
+) -> PickyAnswer
+    ghost m: { Meanings }
+    ensures { AnswersRound m (sealed_target sealing.now)
+        (given text.entry.bytes.now pass_in.entry.bytes.now pass_out.entry.bytes.now fresh.entry.bytes.now answers.entry.bytes.now)
+        result out.old out.new }
+{
+    let given = Given {
+        text: text.bytes,
+        pass_in: pass_in.bytes,
+        pass_out: pass_out.bytes,
+        fresh: fresh.bytes,
+        answers: answers.bytes,
+    };
+    hand_round(converted_by(alloc, target_of_sealing(sealing), given), out)
 }
 
 /// The SHA-256 fingerprint of the key that a text means, as `ssh-keygen -l` prints it.

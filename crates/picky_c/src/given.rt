@@ -14,6 +14,16 @@ pub struct PickyBytes<'a> {
     pub bytes: &'a [u8],
 }
 
+/// What a conversion has beside its target, as bytes.
+#[derive(Clone, Copy)]
+pub struct Given<'a> {
+    pub text: &'a [u8],
+    pub pass_in: &'a [u8],
+    pub pass_out: &'a [u8],
+    pub fresh: &'a [u8],
+    pub answers: &'a [u8],
+}
+
 /// The bytes as a text, where they are UTF-8.
 #[tactic(auto, using(picky_wire_base::proofs::TextLemmas::is_no_text, crate::proofs::GivenLemmas::is_text))]
 pub fn as_text(bytes: &[u8]) -> Option<&str>

@@ -1,16 +1,21 @@
 //! Laws of numbers and names, each as the contract of a function that does nothing.
 
-ghost use Rattle.std.specs.Prelude.{◌≡◌, ◌++◌, ℕ, List, Err, codes};
+ghost use Rattle.std.specs.Prelude.{◌≡◌, ◌++◌, ℕ, List, Result, Ok, Err, codes};
 ghost use Rattle.picky_key_text.specs.Order.{reading};
 ghost use Rattle.picky_key_text.specs.Reader.{Reader};
 ghost use Rattle.picky_key_text.specs.declared.error.ReadError.{ReadError as ReadRefusal};
 ghost use Rattle.picky_target.specs.declared.error.ConvertError.{ConvertError as Refusal};
 ghost use Rattle.picky_target.specs.declared.error.ConvertError.TheVariants as refusals;
 ghost use Rattle.picky_target.specs.declared.target.KeyTarget.{KeyTarget as To};
-ghost use Rattle.picky_conversion.specs.Convert.{conversion};
+ghost use Rattle.picky_suite.specs.Meanings.{Meanings};
+ghost use Rattle.picky_ask.specs.Known.{Agrees, with_hmac};
+ghost use Rattle.picky_conversion.specs.Convert.{IsConversion, conversion};
 ghost use Rattle.picky_conversion.specs.Outside.{Outside};
 ghost use Rattle.picky_convert.specs.Report.{name, path};
 ghost use Rattle.picky_c.specs.declared.error.PickyError.TheVariants as errors;
+ghost use Rattle.picky_c.specs.declared.error.PickyError.{PickyError as Reason};
+ghost use Rattle.picky_c.specs.Calls.{IsConverted, converted, converted_with, entries_of};
+ghost use Rattle.picky_c.specs.Given.{Given, outside};
 ghost use Rattle.picky_c.specs.Name.{error_name};
 ghost use Rattle.picky_c.specs.Number.{IsAnswered, error_number};
 ghost use Rattle.picky_c.specs.Refusal.{refusal_of};
@@ -25,4 +30,13 @@ pub fn refusals_are_answered()
     ensures conversion { (o : Outside) (to : To) (input : List ℕ) (e : Refusal) → conversion o to input ≡ Err e → IsAnswered e }
     ensures reading { (r : Reader) (text : List ℕ) (e : ReadRefusal) → reading r text ≡ Err e → IsAnswered (refusals.Input e) }
     ensures refusal { (e : Refusal) → IsAnswered e → refusal_of e ≡ errors.Refused e }
+{}
+
+/// Where each answer is what some meanings give, a conversion by the answers is one under these, with the library's MACs: its text,
+/// its first reason, and what a text is read back as.
+pub fn answers_that_agree_mean_the_same()
+    ensures gives { (m : Meanings) (to : Result To Reason) (g : Given) → Agrees m (entries_of g)
+        → converted m to g ≡ converted_with (with_hmac m) to g }
+    ensures means { (m : Meanings) (to : To) (g : Given) (bytes : List ℕ) → Agrees m (entries_of g)
+        → IsConverted m (Ok to) g bytes → IsConversion (outside (with_hmac m) g) to g.text bytes }
 {}

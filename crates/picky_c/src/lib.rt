@@ -13,4 +13,6 @@ mod name;
 mod number;
 mod part;
 mod public;
+mod round;
+mod sealing;
 mod target;

@@ -10,7 +10,7 @@ const NAME_LEN: usize = 48;
 const VERSION: &str = "0.1.0";
 
 /// The names of a call itself, by number.
-const OWN: [&str; 13] = [
+const OWN: [&str; 16] = [
     "Ok",
     "BufferTooSmall",
     "NoMemory",
@@ -24,6 +24,9 @@ const OWN: [&str; 13] = [
     "FreshTooShort",
     "TooLong",
     "TooManyLines",
+    "Asked",
+    "CommentNotUtf8",
+    "NoSuchSealing",
 ];
 
 /// The names of an OpenSSH private key, by number.
@@ -100,6 +103,17 @@ const PUTTY: [&str; 21] = [
     "TooLong",
     "TooManyLines",
     "NoMemory",
+];
+
+/// The names of answers, by number.
+const ANSWERS: [&str; 7] = [
+    "EndsInEntry",
+    "LengthPastEnd",
+    "NoQuestion",
+    "WrongLength",
+    "Contradiction",
+    "Misplaced",
+    "TooLong",
 ];
 
 /// A number's name, with zeros behind it.
@@ -185,6 +199,9 @@ fn table(group: u32) -> &'static [&'static str]
     if group == 6 {
         return &PUTTY;
     }
+    if group == 7 {
+        return &ANSWERS;
+    }
     &[]
 }
 
@@ -210,6 +227,9 @@ fn path_of(group: u32) -> &'static str
     }
     if group == 6 {
         return "output.putty.";
+    }
+    if group == 7 {
+        return "answers.";
     }
     ""
 }

@@ -3,12 +3,13 @@
 //! Those of one kind of text stand in a hundred, in the order of its errors.
 
 ghost use Rattle.std.specs.Prelude.{◌≡◌, ◌<◌};
-ghost use Rattle.picky_c.specs.Number.{certificate_number as certificate_number_of, error_number};
+ghost use Rattle.picky_c.specs.Number.{answers_number as answers_number_of, error_number};
+ghost use Rattle.picky_c.specs.Number.{certificate_number as certificate_number_of};
 ghost use Rattle.picky_c.specs.Number.{private_number as private_number_of, public_number as public_number_of};
 ghost use Rattle.picky_c.specs.Number.{putty_number as putty_number_of, read_number as read_number_of};
 ghost use Rattle.picky_c.specs.Number.{refused_number};
 
-use crate::error::PickyError;
+use crate::error::{AnswersError, PickyError};
 use picky_cert::SshCertificateError;
 use picky_key_text::ReadError;
 use picky_keys::SshPublicKeyError;
@@ -28,7 +29,26 @@ pub fn number_of(e: &PickyError) -> u32
         PickyError::NoSuchTarget => 5,
         PickyError::NoSuchPart => 6,
         PickyError::NoCipher => 7,
+        PickyError::Asked => 13,
+        PickyError::NoSuchSealing => 15,
+        PickyError::Answers(e) => 700 + answers_number(e),
         PickyError::Refused(e) => convert_number(e),
+    }
+}
+
+/// The place of an error of answers in its hundred.
+fn answers_number(e: &AnswersError) -> u32
+    ensures number { result ≡ answers_number_of e.now }
+    ensures place { result < 100 }
+{
+    match e {
+        AnswersError::EndsInEntry => 0,
+        AnswersError::LengthPastEnd => 1,
+        AnswersError::NoQuestion => 2,
+        AnswersError::WrongLength => 3,
+        AnswersError::Contradiction => 4,
+        AnswersError::Misplaced => 5,
+        AnswersError::TooLong => 6,
     }
 }
 

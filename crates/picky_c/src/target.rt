@@ -2,17 +2,29 @@
 
 ghost use Rattle.std.specs.Prelude.{◌≡◌};
 ghost use Rattle.picky_ppk_parts.specs.Config.{default_config};
-ghost use Rattle.picky_c.specs.Target.{target_numbered};
+ghost use Rattle.picky_c.specs.Calls.{numbered_target};
+ghost use Rattle.picky_c.specs.Target.{target_numbered as target_numbered_of};
 
+use crate::error::PickyError;
 use picky_ppk::{PpkEncryptionConfig, PpkLayout, PpkVersion};
 use picky_target::KeyTarget;
 
-/// The target of a number; PuTTY's files are sealed with the default configuration.
-pub fn target_of(number: u32) -> Option<KeyTarget>
-    ensures { result ≡ target_numbered number }
+/// The target of a number. Refuses: `NoSuchTarget`.
+pub fn target_of(number: u32) -> Result<KeyTarget, PickyError>
+    ensures { result ≡ numbered_target number }
+{
+    match target_numbered(number) {
+        Some(target) => Ok(target),
+        None => Err(PickyError::NoSuchTarget),
+    }
+}
+
+/// The same where there is one; PuTTY's files are sealed with the default configuration.
+fn target_numbered(number: u32) -> Option<KeyTarget>
+    ensures { result ≡ target_numbered_of number }
 {
     if number == 1 {
-        return Some(KeyTarget::OpenSsh);
+        return Some(KeyTarget::OpenSsh(DEFAULT_ROUNDS));
     }
     if number == 2 {
         return Some(file_of(PpkVersion::V2, PpkLayout::Number));

@@ -1,0 +1,121 @@
+-- What a round comes to, from what the conversion answers and why the device has no answer.
+use Rattle.std.proofs.Common.{◌≡◌, ◌⊎◌, ◌∙◌, ◌<◌, true, false, ℕ, Bool, List, [], Option, None, Some, Result, Ok, Err, ap, sym, subst, inl}
+use Rattle.std.proofs.Common.{inr, refl, length}
+use Rattle.std.specs.Prelude.{if◌then◌else◌}
+use Rattle.std.specs.Str.{is_utf8}
+use Rattle.picky_wire_base.specs.Outcome.{and_then, map_err, map_ok}
+use Rattle.picky_suite.specs.{Asked.{GivesAsked}, Meanings.{Meanings}}
+use Rattle.picky_ask.specs.Lookup.{answer_to}
+use Rattle.picky_ask.specs.declared.{missing.Missing.{Missing}, question.Entry.{Entry}, question.Question.{Question}}
+use Rattle.picky_ask.specs.declared.missing.Missing.TheVariants as missings
+use Rattle.picky_key_text.specs.Form.{form_of}
+use Rattle.picky_target.specs.declared.{error.ConvertError.{ConvertError}, target.KeyTarget.{KeyTarget}}
+use Rattle.picky_conversion.specs.{Convert.{AnswersKeyText, conversion, converting_asks}, Outside.{Outside}}
+use Rattle.picky_conversion.proofs.AnswerLemmas.{opening_asks, sealing_asks}
+use Rattle.picky_c.specs.{Calls.{converted, converted_under, numbered_target}, Given.{Given, outside, utf8}, Refusal.{refusal_of}}
+use Rattle.picky_c.specs.Round.{GivesRound, IfText, IsLeft, IsOfAnswer, IsUnanswered, IsWithoutAnswers, RefusesAnswer, without_answers}
+use Rattle.picky_c.specs.Target.{target_numbered}
+use Rattle.picky_c.specs.declared.error.{AnswersError.{AnswersError}, PickyError.{PickyError}}
+use Rattle.picky_c.specs.declared.round.Round.{Round}
+use Rattle.picky_c.specs.declared.error.AnswersError.TheVariants as answers
+use Rattle.picky_c.specs.declared.error.PickyError.TheVariants as errors
+use Rattle.picky_c.specs.declared.round.Round.TheVariants as rounds
+use Rattle.picky_c.proofs.CallLemmas.{input_fault_is, output_fault_is}
+use Rattle.picky_c.proofs.LawLemmas.{conversion_answered, refusal_kept}
+
+-- ---- the suite's fault, by what it left
+
+-- what the device says of a question that it left
+abbrev pub LeavesOnly : List Entry → Option Missing → Type 0
+LeavesOnly entries missing =
+    (q : Question) → missing ≡ Some (missings.Asked q) → (answer_to q entries ≡ None) × (length entries < 4)
+
+refused_round : (says : Result (List ℕ) PickyError) (asked : Bool) (entries : List Entry) (reason : AnswersError) (round : Result Round PickyError)
+    → asked ≡ true → IsOfAnswer reason → round ≡ Err (errors.Answers reason) → GivesRound says asked entries round
+refused_round says asked entries reason round is_asked of is =
+    subst (GivesRound says asked entries) (sym is) (inr (inl (is_asked, (reason, refl, of))))
+
+fault_round : (says : Result (List ℕ) PickyError) (asked : Bool) (entries : List Entry) (missing : Option Missing)
+    (round : Result Round PickyError) → asked ≡ true → (missing ≡ None → ⊥) → LeavesOnly entries missing
+    → IsUnanswered errors.NoCipher missing round → GivesRound says asked entries round
+fault_round says asked entries None round is_asked some left is = absurd (some refl)
+fault_round says asked entries (Some (missings.Asked q)) (Ok (rounds.Text bytes)) is_asked some left is = absurd is
+fault_round says asked entries (Some (missings.Asked q)) (Ok (rounds.Question bytes)) is_asked some left is =
+    (q, is, record { is_asked = is_asked; unanswered = (left q refl).0; few = (left q refl).1 })
+fault_round says asked entries (Some (missings.Asked q)) (Err e) is_asked some left (inl want) = inl want
+fault_round says asked entries (Some (missings.Asked q)) (Err e) is_asked some left (inr long) =
+    inr (inl (is_asked, (answers.TooLong, long, tt)))
+fault_round says asked entries (Some missings.WrongLength) round is_asked some left is =
+    refused_round says asked entries answers.WrongLength round is_asked tt is
+fault_round says asked entries (Some missings.Contradiction) round is_asked some left is =
+    refused_round says asked entries answers.Contradiction round is_asked tt is
+fault_round says asked entries (Some missings.Misplaced) round is_asked some left is =
+    refused_round says asked entries answers.Misplaced round is_asked tt is
+fault_round says asked entries (Some missings.TooLong) round is_asked some left is =
+    refused_round says asked entries answers.TooLong round is_asked tt is
+fault_round says asked entries (Some missings.NoMemory) round is_asked some left is =
+    subst (GivesRound says asked entries) (sym is) (inl refl)
+
+-- ---- any refusal
+
+pub refusal_round : (o : Outside) (to : KeyTarget) (from : List ℕ) (e : ConvertError) (rose : Type 0) (entries : List Entry)
+    (missing : Option Missing) (round : Result Round PickyError)
+    → AnswersKeyText {X = List ℕ} (λ t. t) o to from rose (Err e) → (rose → missing ≡ None → ⊥) → LeavesOnly entries missing
+    → IsUnanswered (refusal_of e) missing round
+    → GivesRound (map_err refusal_of (conversion o to from)) (converting_asks o to from) entries round
+refusal_round o to from e rose entries missing round (inl want) some left is =
+    let memory : round ≡ Err errors.NoMemory = subst (λ g. IsUnanswered g missing round) (ap refusal_of want) is in
+    subst (GivesRound (map_err refusal_of (conversion o to from)) (converting_asks o to from) entries) (sym memory) (inl refl)
+refusal_round o to from e rose entries missing round (inr (inl (inl fault))) some left is =
+    fault_round (map_err refusal_of (conversion o to from)) (converting_asks o to from) entries missing round
+    (opening_asks o to from fault.1.0) (some fault.1.1) left
+    (subst (λ g. IsUnanswered g missing round) (ap refusal_of fault.0 ∙ input_fault_is (form_of from)) is)
+refusal_round o to from e rose entries missing round (inr (inl (inr fault))) some left is =
+    fault_round (map_err refusal_of (conversion o to from)) (converting_asks o to from) entries missing round
+    (sealing_asks o to from fault.1.0) (some fault.1.1) left
+    (subst (λ g. IsUnanswered g missing round) (ap refusal_of fault.0 ∙ output_fault_is to) is)
+refusal_round o to from e rose entries missing round (inr (inr refused)) some left is =
+    let kept : refusal_of e ≡ errors.Refused e = refusal_kept e (conversion_answered o to from e refused) in
+    let as_it_is : round ≡ Err (errors.Refused e) = subst (λ g. IsUnanswered g missing round) kept is in
+    subst (GivesRound (map_err refusal_of (conversion o to from)) (converting_asks o to from) entries) (sym as_it_is)
+    (inr (inr (ap (map_err refusal_of) refused ∙ ap Err kept)))
+
+pub no_text : (round : Result Round PickyError) (P : List ℕ → Type 0) → IfText round (λ bytes. ⊥) → IfText round P
+no_text (Ok (rounds.Text bytes)) P none = absurd none
+no_text (Ok (rounds.Question bytes)) P none = tt
+no_text (Err e) P none = tt
+
+-- ---- without answers
+
+-- no reason is one of answers
+abbrev Keeps : {A : Type 0} → Result A PickyError → Type 0
+Keeps r = (e : PickyError) → r ≡ Err e → without_answers e ≡ e
+
+next_keeps : {A B : Type 0} (r : Result A PickyError) (next : A → Result B PickyError) → Keeps r → ((x : A) → Keeps (next x))
+    → Keeps (and_then r next)
+next_keeps (Ok x) next first later = later x
+next_keeps (Err e) next first later f is = first f (cc is)
+
+utf8_keeps : (e : PickyError) (bytes : List ℕ) → without_answers e ≡ e → Keeps (utf8 e bytes)
+utf8_keeps e bytes own f is = go (is_utf8 bytes) is
+  where
+    go : (b : Bool) → (if b then Ok {E = PickyError} bytes else Err e) ≡ Err f → without_answers f ≡ f
+    go true same = cc same
+    go false same = let one : e ≡ f = cc same in subst (λ g. without_answers g ≡ g) one own
+
+conversion_keeps : (o : Outside) (to : KeyTarget) (from : List ℕ) → Keeps (map_err refusal_of (conversion o to from))
+conversion_keeps o to from f is = go (conversion o to from) refl is
+  where
+    go : (r : Result (List ℕ) ConvertError) → conversion o to from ≡ r → map_err refusal_of r ≡ Err f → without_answers f ≡ f
+    go (Ok text) was same = cc same
+    go (Err e) was same =
+        let one : refusal_of e ≡ f = cc same in
+        let kept : refusal_of e ≡ errors.Refused e = refusal_kept e (conversion_answered o to from e was) in
+        subst (λ g. without_answers g ≡ g) (sym kept ∙ one) refl
+
+under_keeps : (m : Meanings) (to : KeyTarget) (g : Given) → Keeps (converted_under m to g)
+under_keeps m to g =
+    next_keeps (utf8 errors.TextNotUtf8 g.text) _ (utf8_keeps errors.TextNotUtf8 g.text refl) (λ text.
+    next_keeps (utf8 errors.PassNotUtf8 g.pass_in) _ (utf8_keeps errors.PassNotUtf8 g.pass_in refl) (λ pass_in.
+    next_keeps (utf8 errors.PassNotUtf8 g.pass_out) _ (utf8_keeps errors.PassNotUtf8 g.pass_out refl) (λ pass_out.
+    conversion_keeps (outside m g) to text)))
