@@ -7,7 +7,7 @@ ghost use Rattle.picky_c.specs.Target.{target_numbered as target_numbered_of};
 
 use crate::error::PickyError;
 use picky_ppk::{PpkEncryptionConfig, PpkLayout, PpkVersion};
-use picky_target::KeyTarget;
+use picky_target::{DEFAULT_ROUNDS, KeyTarget};
 
 /// The target of a number. Refuses: `NoSuchTarget`.
 pub fn target_of(number: u32) -> Result<KeyTarget, PickyError>
@@ -19,7 +19,7 @@ pub fn target_of(number: u32) -> Result<KeyTarget, PickyError>
     }
 }
 
-/// The same where there is one; PuTTY's files are sealed with the default configuration.
+/// The same where there is one; OpenSSH's key is sealed with 16 rounds, and PuTTY's files with the default configuration.
 fn target_numbered(number: u32) -> Option<KeyTarget>
     ensures { result ≡ target_numbered_of number }
 {
