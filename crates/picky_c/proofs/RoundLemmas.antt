@@ -1,19 +1,20 @@
 -- What a round comes to, from what the conversion answers and why the device has no answer.
-use Rattle.std.proofs.Common.{◌≡◌, ◌⊎◌, ◌∙◌, ◌<◌, true, false, ℕ, Bool, List, [], Option, None, Some, Result, Ok, Err, ap, sym, subst, inl}
-use Rattle.std.proofs.Common.{inr, refl, length}
-use Rattle.std.specs.Prelude.{if◌then◌else◌}
+use Rattle.std.proofs.Common.{◌≡◌, ◌⊎◌, ◌∙◌, ◌<◌, true, false, ℕ, Bool, List, [], Option, None, Some, Result, Ok, Err, ap, sym, subst}
+use Rattle.std.proofs.Common.{inl, inr, refl, length}
+use Rattle.std.specs.{Option.{ok_or}, Prelude.{IfOk, if◌then◌else◌}}
 use Rattle.std.specs.Str.{is_utf8}
-use Rattle.picky_wire_base.specs.Outcome.{and_then, map_err, map_ok}
+use Rattle.picky_wire_base.specs.{Outcome.{and_then, map_err, map_ok}, Row.{read_all}}
 use Rattle.picky_suite.specs.{Asked.{GivesAsked}, Meanings.{Meanings}}
-use Rattle.picky_ask.specs.Lookup.{answer_to}
+use Rattle.picky_ask.specs.{Lookup.{answer_to}, Table.{table_of}}
 use Rattle.picky_ask.specs.declared.{missing.Missing.{Missing}, question.Entry.{Entry}, question.Question.{Question}}
 use Rattle.picky_ask.specs.declared.missing.Missing.TheVariants as missings
 use Rattle.picky_key_text.specs.Form.{form_of}
 use Rattle.picky_target.specs.declared.{error.ConvertError.{ConvertError}, target.KeyTarget.{KeyTarget}}
 use Rattle.picky_conversion.specs.{Convert.{AnswersKeyText, conversion, converting_asks}, Outside.{Outside}}
 use Rattle.picky_conversion.proofs.AnswerLemmas.{opening_asks, sealing_asks}
-use Rattle.picky_c.specs.{Calls.{converted, converted_under, numbered_target}, Given.{Given, outside, utf8}, Refusal.{refusal_of}}
-use Rattle.picky_c.specs.Round.{GivesRound, IfText, IsLeft, IsOfAnswer, IsUnanswered, IsWithoutAnswers, RefusesAnswer, without_answers}
+use Rattle.picky_c.specs.{Given.{Given, outside, utf8}, Refusal.{refusal_of}}
+use Rattle.picky_c.specs.Calls.{converted, converted_under, converting_is_asked, entries_of, meanings_by, numbered_target, table_refusal}
+use Rattle.picky_c.specs.Round.{GivesRound, IfText, IsNumbered, IsOfAnswer, IsUnanswered, IsWithoutAnswers, without_answers}
 use Rattle.picky_c.specs.Target.{target_numbered}
 use Rattle.picky_c.specs.declared.error.{AnswersError.{AnswersError}, PickyError.{PickyError}}
 use Rattle.picky_c.specs.declared.round.Round.{Round}
@@ -119,3 +120,68 @@ under_keeps m to g =
     next_keeps (utf8 errors.PassNotUtf8 g.pass_in) _ (utf8_keeps errors.PassNotUtf8 g.pass_in refl) (λ pass_in.
     next_keeps (utf8 errors.PassNotUtf8 g.pass_out) _ (utf8_keeps errors.PassNotUtf8 g.pass_out refl) (λ pass_out.
     conversion_keeps (outside m g) to text)))
+
+next_ok : {A B : Type 0} (r : Result A PickyError) (next : A → Result B PickyError) (x : A) → r ≡ Ok x → and_then r next ≡ next x
+next_ok r next x is = rw is refl
+
+empty_table : table_of [] ≡ Ok []
+unfolding read_all
+empty_table = refl
+
+no_table : (g : Given) → g.answers ≡ [] → table_of g.answers ≡ Ok []
+no_table g none = ap table_of none ∙ empty_table
+
+converted_keeps : (m : Meanings) (to : Result KeyTarget PickyError) (g : Given) → IsNumbered to → g.answers ≡ [] → Keeps (converted m to g)
+converted_keeps m to g numbered none =
+    next_keeps to _ (λ e is. subst (λ x. without_answers x ≡ x) (sym (numbered e is)) refl) (λ target.
+    next_keeps (map_err table_refusal (table_of g.answers)) _ (λ e is. cc (sym (ap (map_err table_refusal) (no_table g none)) ∙ is))
+    (λ entries. under_keeps (meanings_by m g) target g))
+
+-- a round by no answers, as a call without them
+pub without_gives : {X : Type 0} (view : X → List ℕ) (says : Result (List ℕ) PickyError) (asked : Bool) (entries : List Entry)
+    (round : Result Round PickyError) (result : Result X PickyError) → Keeps says → GivesRound says asked entries round
+    → IsWithoutAnswers round (map_ok view result) → GivesAsked errors.NoMemory errors.NoCipher view result says asked (Unit {0})
+without_gives view says asked entries (Ok (rounds.Text bytes)) (Ok x) keeps gives is = gives ∙ sym is
+without_gives view says asked entries (Ok (rounds.Text bytes)) (Err e) keeps gives is = cc is
+without_gives view says asked entries (Ok (rounds.Question bytes)) (Ok x) keeps gives is = cc is
+without_gives view says asked entries (Ok (rounds.Question bytes)) (Err e) keeps gives is =
+    let none : e ≡ errors.NoCipher = cc is in inr (inl (none, (gives.2.is_asked, tt)))
+without_gives view says asked entries (Err f) (Ok x) keeps gives is = cc is
+without_gives view says asked entries (Err f) (Err e) keeps (inl want) is =
+    let same : e ≡ without_answers f = cc is in inl (same ∙ ap without_answers want)
+without_gives view says asked entries (Err f) (Err e) keeps (inr (inl refused)) is =
+    let same : e ≡ without_answers f = cc is in
+    inr (inl (same ∙ ap without_answers refused.1.1, (refused.0, tt)))
+without_gives view says asked entries (Err f) (Err e) keeps (inr (inr first)) is =
+    let same : e ≡ without_answers f = cc is in
+    let kept : e ≡ f = same ∙ keeps f first in
+    inr (inr (first ∙ ap Err (sym kept)))
+
+pub conversion_gives : {X : Type 0} (view : X → List ℕ) (m : Meanings) (to : Result KeyTarget PickyError) (g : Given)
+    (round : Result Round PickyError) (result : Result X PickyError) → IsNumbered to → g.answers ≡ []
+    → GivesRound (converted m to g) (converting_is_asked m to g) (entries_of g) round → IsWithoutAnswers round (map_ok view result)
+    → GivesAsked errors.NoMemory errors.NoCipher view result (converted m to g) (converting_is_asked m to g) (Unit {0})
+conversion_gives view m to g round result numbered none gives is =
+    without_gives view (converted m to g) (converting_is_asked m to g) (entries_of g) round result
+    (converted_keeps m to g numbered none) gives is
+
+pub seen_as_it_is : (r : Result (List ℕ) PickyError) → map_ok (λ bytes. bytes) r ≡ r
+seen_as_it_is (Ok bytes) = refl
+seen_as_it_is (Err e) = refl
+
+-- a text that a round comes to is the one of the call
+pub without_means : {X : Type 0} (view : X → List ℕ) (round : Result Round PickyError) (result : Result X PickyError)
+    (P : List ℕ → Type 0) → IfText round P → IsWithoutAnswers round (map_ok view result) → IfOk result (λ x. P (view x))
+without_means view (Ok (rounds.Text bytes)) (Ok x) P means is =
+    let same : view x ≡ bytes.items = cc is in subst P (sym same) means
+without_means view (Ok (rounds.Question bytes)) (Ok x) P means is = cc is
+without_means view (Err f) (Ok x) P means is = cc is
+without_means view round (Err e) P means is = tt
+
+-- a number's target is one, or the number names none
+pub is_numbered : (number : ℕ) → IsNumbered (numbered_target number)
+is_numbered number e is = go (target_numbered number) is
+  where
+    go : (o : Option KeyTarget) → ok_or o errors.NoSuchTarget ≡ Err e → e ≡ errors.NoSuchTarget
+    go None same = cc same
+    go (Some to) same = cc same

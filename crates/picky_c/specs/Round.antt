@@ -83,6 +83,10 @@ pub record ConvertsRound (m : Meanings) (target : KeyTarget) (given : Conversion
       (converting_asks (outside_given m given) target text) entries round
   pub means : IfText round (IsConversion (outside_given m given) target text)
 
+-- a target that a number names, or the reason why it names none
+abbrev pub IsNumbered : Result KeyTarget PickyError → Type 0
+IsNumbered to = (e : PickyError) → to ≡ Err e → e ≡ errors.NoSuchTarget
+
 -- what is refused of an answer, where none is taken, is the want of a cipher
 abbrev pub without_answers : PickyError → PickyError
 without_answers (errors.Answers e) = errors.NoCipher

@@ -1,0 +1,5 @@
+-- The caller's meanings.
+use Rattle.picky_c.proofs.exports.picky_seal_by.Given as goal
+
+abbrev pub ghost-converted_by : goal.ghost-converted_by
+ghost-converted_by g a = g.m
