@@ -23,12 +23,13 @@ use Rattle.picky_ask.specs.declared.question.Entry.{Entry}
 use Rattle.picky_ask.specs.Answered.{answered}
 use Rattle.picky_ask.specs.Completion.{derived, exchanged, other_side}
 use Rattle.picky_ask.specs.Known.{gives, agrees, with_hmac, meant}
-use Rattle.picky_ask.specs.Lookup.{all_bytes, answer_to, are_paired, derivation, exchange, first_side, is_side, judged, of_len, paired, question}
+use Rattle.picky_ask.specs.Lookup.{all_bytes, answer_to, are_paired, derivation, exchange, first_side, in_turn, is_side, judged, of_len, paired, question}
 use Rattle.picky_ask.specs.Same.{same_question}
 use Rattle.picky_ask.specs.State.{State, LooksUp}
 use Rattle.picky_ask.specs.carried.Completion.{mutual_pair}
 use Rattle.picky_ask.specs.carried.Tests.{by_test, first_of_and, second_of_and, both_true, all_bytes_of, same_of}
 use Rattle.picky_ask.proofs.SameLemmas.{same_question_so}
+use Rattle.picky_ask.proofs.TurnLemmas.{turn_so}
 
 -- ---- what an answer says
 
@@ -212,18 +213,18 @@ meant_sha256 m entries key message =
 
 -- ---- a call that looks up is a call of a suite
 
-pub looks_fills : {A E : Type 0} (m : Meanings) (says : Result (List ℕ) Missing) (result : Result A E)
-    (buffer filled wanted : List ℕ) (old new : State) → LooksUp says result filled old new → length filled ≡ length buffer
-    → OnOk result (IsBytes filled) → (says ≡ Ok filled → IsBytes filled → filled ≡ wanted)
+pub looks_fills : {A E : Type 0} (m : Meanings) (q : Question) (says : Result (List ℕ) Missing) (result : Result A E)
+    (buffer filled wanted : List ℕ) (old new : State) → LooksUp q (in_turn q old.used old.entries says) result filled old new
+    → length filled ≡ length buffer → OnOk result (IsBytes filled) → (says ≡ Ok filled → IsBytes filled → filled ≡ wanted)
     → Fills (λ s. meant m s.entries) (λ s. min s.faults (2 ^ 64 - 1)) wanted result buffer filled old new
-looks_fills m says (Ok x) buffer filled wanted old new looks len each is = record {
-  kept = ap (λ (s : State). meant m s.entries) looks.kept;
-  value = is looks.value each;
+looks_fills m q says (Ok x) buffer filled wanted old new looks len each is = record {
+  kept = ap (λ (s : State). meant m s.entries) looks.moved;
+  value = is (turn_so q old.used old.entries says filled looks.value).1 each;
   len = len;
   counted = tt;
-  calm = ap (λ (s : State). min s.faults (2 ^ 64 - 1)) looks.kept;
+  calm = ap (λ (s : State). min s.faults (2 ^ 64 - 1)) looks.moved;
 }
-looks_fills m says (Err e) buffer filled wanted old new looks len each is =
+looks_fills m q says (Err e) buffer filled wanted old new looks len each is =
     let faults : new.faults ≡ count_one old.faults = ap (λ (s : State). s.faults) looks.failed.fails in
     record {
       kept = ap (λ (s : State). meant m s.entries) looks.failed.fails;

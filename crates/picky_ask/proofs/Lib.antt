@@ -1,9 +1,9 @@
 pub mod TableLemmas
 pub mod SameLemmas
 pub mod LookupLemmas
+pub mod TurnLemmas
 pub mod KnownLemmas
 pub mod QuestionLaws
 pub mod TableLaws
 pub mod SignLemmas
-pub mod SettleLemmas
 pub mod RefusalLaws

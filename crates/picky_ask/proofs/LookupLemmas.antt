@@ -1,17 +1,12 @@
--- A look-up goes on where an entry doesn't answer, and ends at the first that does.
+-- A look-up goes on where an entry isn't the one, and ends at the first that is.
 use Rattle.std.proofs.Common.{◌≡◌, ◌<◌, ◌≤◌, ◌+◌, ◌∙◌, ℕ, Bool, true, false, List, [], ◌∷◌, length, get_or, drop, refl, sym, ap}
 use Rattle.std.specs.Prelude.{if◌then◌else◌, Option, None, Some}
 use Rattle.std.proofs.lemmas.List.{at_drop_more, at_drop_all}
 use Rattle.picky_ask.specs.declared.lookup.Mode.{Mode}
 use Rattle.picky_ask.specs.declared.question.Question.{Question}
 use Rattle.picky_ask.specs.declared.question.Entry.{Entry}
-use Rattle.picky_ask.specs.Lookup.{answer_to, or_later, side, first_side}
+use Rattle.picky_ask.specs.Lookup.{or_later, place_of, side, first_side}
 use Rattle.picky_ask.specs.Same.{same_question}
-
-answer_on : (q : Question) (e : Entry) (more : List Entry) (b : Bool) → same_question q e.question ≡ b
-    → answer_to q (e ∷ more) ≡ (if b then Some e.answer else answer_to q more)
-unfolding answer_to
-answer_on q e more b is = ap (λ t. if t then Some e.answer else answer_to q more) is
 
 -- the entries from a place on are its entry and those behind it
 from_place : {X : Type 0} (f : List Entry → X) (entries : List Entry) (i : ℕ) (e : Entry) → i < length entries
@@ -19,19 +14,27 @@ from_place : {X : Type 0} (f : List Entry → X) (entries : List Entry) (i : ℕ
 from_place f entries i e fits is =
     at_drop_more f entries i e fits ∙ ap (λ (x : Entry). f (x ∷ drop (i + 1) entries)) (sym is)
 
-pub answer_goes_on : (q : Question) (entries : List Entry) (i : ℕ) (e : Entry) → i < length entries → e ≡ get_or entries i e
-    → same_question q e.question ≡ false → answer_to q (drop i entries) ≡ answer_to q (drop (i + 1) entries)
-answer_goes_on q entries i e fits is fails =
-    from_place (answer_to q) entries i e fits is ∙ answer_on q e (drop (i + 1) entries) false fails
+place_on : (q : Question) (e : Entry) (more : List Entry) (b : Bool) → same_question q e.question ≡ b
+    → place_of q (e ∷ more) ≡ (if b then 0 else place_of q more + 1)
+unfolding place_of
+place_on q e more b is = ap (λ t. if t then 0 else place_of q more + 1) is
 
-pub answer_ends : (q : Question) (entries : List Entry) (i : ℕ) (e : Entry) → i < length entries → e ≡ get_or entries i e
-    → same_question q e.question ≡ true → answer_to q (drop i entries) ≡ Some e.answer
-answer_ends q entries i e fits is holds =
-    from_place (answer_to q) entries i e fits is ∙ answer_on q e (drop (i + 1) entries) true holds
+pub place_goes_on : (q : Question) (entries : List Entry) (i : ℕ) (e : Entry) → i < length entries → e ≡ get_or entries i e
+    → same_question q e.question ≡ false → place_of q (drop i entries) ≡ place_of q (drop (i + 1) entries) + 1
+place_goes_on q entries i e fits is fails =
+    from_place (place_of q) entries i e fits is ∙ place_on q e (drop (i + 1) entries) false fails
 
-pub no_answer : (q : Question) → answer_to q [] ≡ None
-unfolding answer_to
-no_answer q = refl
+pub place_ends : (q : Question) (entries : List Entry) (i : ℕ) (e : Entry) → i < length entries → e ≡ get_or entries i e
+    → same_question q e.question ≡ true → place_of q (drop i entries) ≡ 0
+place_ends q entries i e fits is holds =
+    from_place (place_of q) entries i e fits is ∙ place_on q e (drop (i + 1) entries) true holds
+
+no_place : (q : Question) → place_of q [] ≡ 0
+unfolding place_of
+no_place q = refl
+
+pub place_none : (q : Question) (entries : List Entry) (i : ℕ) → length entries ≤ i → place_of q (drop i entries) ≡ 0
+place_none q entries i all = at_drop_all (place_of q) entries i all ∙ no_place q
 
 first_on : (mode : Mode) (key iv text : List ℕ) (e : Entry) (more : List Entry) (o : Option (List ℕ))
     → side mode key iv text e ≡ o
@@ -53,9 +56,6 @@ first_ends mode key iv text x entries i e fits is some =
 no_side : (mode : Mode) (key iv text : List ℕ) → first_side mode key iv text [] ≡ None
 unfolding first_side
 no_side mode key iv text = refl
-
-pub answer_none : (q : Question) (entries : List Entry) (i : ℕ) → length entries ≤ i → answer_to q (drop i entries) ≡ None
-answer_none q entries i all = at_drop_all (answer_to q) entries i all ∙ no_answer q
 
 pub first_none : (mode : Mode) (key iv text : List ℕ) (entries : List Entry) (i : ℕ) → length entries ≤ i
     → first_side mode key iv text (drop i entries) ≡ None

@@ -137,6 +137,9 @@ same_head_self (heads.Sign by key) =
     both_true (a && b) (bytes_eq key key) (both_true a b (number_self (kind_number (algorithm_kind by))) (number_self (algorithm_hash by))) (bytes_self key)
 same_head_self (heads.Verify key signature) = two_self key signature
 
+pub same_head-Decides : (h k : Head) → Decides (same_head h k) (h ≡ k)
+same_head-Decides h k = (same_head_so h k, λ is. subst (λ (x : Head). same_head h x ≡ true) is (same_head_self h))
+
 -- ---- questions
 
 pub same_question_so : (q r : Question) → same_question q r ≡ true → q ≡ r
@@ -148,9 +151,6 @@ same_question_so q r is =
 pub same_question_self : (q : Question) → same_question q q ≡ true
 unfolding same_question
 same_question_self q = both_true (same_head q.head q.head) (bytes_eq q.text q.text) (same_head_self q.head) (bytes_self q.text)
-
-pub same_question-Decides : (q r : Question) → Decides (same_question q r) (q ≡ r)
-same_question-Decides q r = (same_question_so q r, λ is. subst (λ (x : Question). same_question q x ≡ true) is (same_question_self q))
 
 -- two tests of one fact answer alike
 pub tests_alike : {P : Type 0} (x y : Bool) → (x ≡ true → P) → (P → x ≡ true) → Decides y P → x ≡ y

@@ -18,6 +18,7 @@ use Rattle.picky_ask.specs.Same.{same_question}
 use Rattle.picky_ask.specs.carried.Tests.{both_true, first_of_and, second_of_and, same_of}
 use Rattle.picky_ask.proofs.KnownLemmas.{IsExchanged, derivation_so, derivation_asks, exchange_so, exchange_asks}
 use Rattle.picky_ask.proofs.SameLemmas.{same_question_self}
+use Rattle.picky_ask.proofs.TurnLemmas.{place_more}
 
 -- ---- more answers behind
 
@@ -79,7 +80,7 @@ exchange_more mode key iv q entries more a is =
       back = first_more mode key iv a q.text entries more so.1.back;
     })
 
-pub ruleset more_laws = (answer_more, derivation_more, exchange_more)
+pub ruleset more_laws = (answer_more, place_more, derivation_more, exchange_more)
 
 -- ---- what is asked
 

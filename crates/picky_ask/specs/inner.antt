@@ -1,2 +1,2 @@
 pub mod HeadView
-pub mod Finding
+pub mod Turn

@@ -1,22 +1,28 @@
-//! A head, seen where it stands: its parts are slices of the bytes that it is read from.
+//! A head whose strings are borrowed, and questions made of it.
 
-ghost use Rattle.std.specs.Prelude.{◌≡◌, IfOk};
-ghost use Rattle.picky_wire_base.specs.View.{Sees, why_in};
-ghost use Rattle.picky_ask.specs.Algorithm.{algorithm, ecdsa_hash, ed_hash, hash, kind, kind_hash, no_hash, rsa_hash};
-ghost use Rattle.picky_ask.specs.Head.{argon2_fields, bcrypt_fields, cipher_fields, flavour, head, operation, operation_fields};
-ghost use Rattle.picky_ask.specs.Head.{sign_fields};
-ghost use Rattle.picky_ask.specs.declared.question.Head.TheVariants as heads;
-ghost use Rattle.picky_ask.specs.inner.HeadView.{head_seen};
+ghost use Rattle.std.specs.Prelude.{◌≡◌, ◌↔◌, IfOk, IsTrue};
+ghost use Rattle.picky_ask.specs.Head.{IsHead};
+ghost use Rattle.picky_ask.specs.Lookup.{question as question_seen};
+ghost use Rattle.picky_ask.specs.State.{IsShort};
+ghost use Rattle.picky_ask.specs.inner.HeadView.{head_seen, two_head};
 
-use crate::operation::{AlgorithmKind, Operation, flavour_of, hash_of, kind_of, operation_of};
-use crate::question::Head;
-use picky_keys::{HashAlgorithm, SignatureAlgorithm};
+use crate::question::{Head, Question};
+use picky_keys::SignatureAlgorithm;
 use picky_suite::Flavour;
-use picky_wire::{Bytes, NoMemory, Stuck, both, byte_at, string_at, uint32_at};
+use picky_wire::{Bytes, MAX_LEN, NoMemory, both};
 use std::alloc::Global;
 
-/// A head whose parts are slices of the bytes that it is read from.
-#[derive(Clone, Copy)]
+/// The operations whose arguments but the text are two strings.
+#[derive(Clone, Copy, PartialEq, Eq)]
+pub(crate) enum TwoStrings {
+    CbcSeal,
+    CbcOpen,
+    Ctr,
+    Verify,
+}
+
+/// A head whose strings are borrowed.
+#[derive(Clone, Copy, PartialEq, Eq)]
 pub(crate) enum HeadView<'a> {
     Bcrypt {
         len: u32,
@@ -30,26 +36,101 @@ pub(crate) enum HeadView<'a> {
         parallelism: u32,
         salt: &'a [u8],
     },
-    CbcSeal {
-        key: &'a [u8],
-        iv: &'a [u8],
-    },
-    CbcOpen {
-        key: &'a [u8],
-        iv: &'a [u8],
-    },
-    Ctr {
-        key: &'a [u8],
-        iv: &'a [u8],
+    Two {
+        of: TwoStrings,
+        first: &'a [u8],
+        second: &'a [u8],
     },
     Sign {
         algorithm: SignatureAlgorithm,
         key: &'a [u8],
     },
-    Verify {
-        key: &'a [u8],
-        signature: &'a [u8],
-    },
+}
+
+/// The head, with its strings borrowed.
+pub(crate) fn head_view<'a>(head: &'a Head) -> HeadView<'a>
+    ensures { head_seen result ≡ head.now }
+{
+    match head {
+        Head::Bcrypt { len, rounds, salt } => HeadView::Bcrypt {
+            len: *len,
+            rounds: *rounds,
+            salt: salt.as_slice(),
+        },
+        Head::Argon2 {
+            flavour,
+            memory,
+            passes,
+            parallelism,
+            salt,
+        } => HeadView::Argon2 {
+            flavour: *flavour,
+            memory: *memory,
+            passes: *passes,
+            parallelism: *parallelism,
+            salt: salt.as_slice(),
+        },
+        Head::CbcSeal { key, iv } => two_view(TwoStrings::CbcSeal, key, iv),
+        Head::CbcOpen { key, iv } => two_view(TwoStrings::CbcOpen, key, iv),
+        Head::Ctr { key, iv } => two_view(TwoStrings::Ctr, key, iv),
+        Head::Sign { algorithm, key } => HeadView::Sign {
+            algorithm: *algorithm,
+            key: key.as_slice(),
+        },
+        Head::Verify { key, signature } => two_view(TwoStrings::Verify, key, signature),
+    }
+}
+
+fn two_view<'a>(of: TwoStrings, first: &'a Bytes, second: &'a Bytes) -> HeadView<'a>
+    ensures { head_seen result ≡ two_head of first.now second.now }
+{
+    HeadView::Two {
+        of,
+        first: first.as_slice(),
+        second: second.as_slice(),
+    }
+}
+
+/// Whether each string of the question is shorter than 2^32 bytes, so that bytes can say it.
+pub(crate) fn is_short(head: &HeadView<'_>, text: &[u8]) -> bool
+    ensures { IsTrue result ↔ IsShort (question_seen (head_seen head.now) text.now) }
+{
+    is_short_head(head) && text.len() <= MAX_LEN
+}
+
+fn is_short_head(head: &HeadView<'_>) -> bool
+    ensures { IsTrue result ↔ IsHead (head_seen head.now) }
+{
+    match head {
+        HeadView::Bcrypt { len, rounds, salt } => {
+            let _numbers = (*len, *rounds);
+            salt.len() <= MAX_LEN
+        }
+        HeadView::Argon2 {
+            memory,
+            passes,
+            parallelism,
+            salt,
+            ..
+        } => {
+            let _numbers = (*memory, *passes, *parallelism);
+            salt.len() <= MAX_LEN
+        }
+        HeadView::Two { first, second, .. } => first.len() <= MAX_LEN && second.len() <= MAX_LEN,
+        HeadView::Sign { key, .. } => key.len() <= MAX_LEN,
+    }
+}
+
+/// A copy of the question. Refuses: `NoMemory`.
+pub(crate) fn question_copy(
+    alloc: Global,
+    head: &HeadView<'_>,
+    text: &[u8],
+) -> Result<Question, NoMemory>
+    ensures { IfOk result (λ q. q ≡ question_seen (head_seen head.now) text.now) }
+{
+    let (head, text) = both(head_copy(alloc, head), copy(alloc, text))?;
+    Ok(Question { head, text })
 }
 
 /// A copy of the head. Refuses: `NoMemory`.
@@ -81,17 +162,9 @@ pub(crate) fn head_copy(alloc: Global, view: &HeadView<'_>) -> Result<Head, NoMe
                 salt,
             })
         }
-        HeadView::CbcSeal { key, iv } => {
-            let (key, iv) = both(copy(alloc, key), copy(alloc, iv))?;
-            Ok(Head::CbcSeal { key, iv })
-        }
-        HeadView::CbcOpen { key, iv } => {
-            let (key, iv) = both(copy(alloc, key), copy(alloc, iv))?;
-            Ok(Head::CbcOpen { key, iv })
-        }
-        HeadView::Ctr { key, iv } => {
-            let (key, iv) = both(copy(alloc, key), copy(alloc, iv))?;
-            Ok(Head::Ctr { key, iv })
+        HeadView::Two { of, first, second } => {
+            let (first, second) = both(copy(alloc, first), copy(alloc, second))?;
+            Ok(two_strings(*of, first, second))
         }
         HeadView::Sign { algorithm, key } => {
             let key = copy(alloc, key)?;
@@ -100,10 +173,29 @@ pub(crate) fn head_copy(alloc: Global, view: &HeadView<'_>) -> Result<Head, NoMe
                 key,
             })
         }
-        HeadView::Verify { key, signature } => {
-            let (key, signature) = both(copy(alloc, key), copy(alloc, signature))?;
-            Ok(Head::Verify { key, signature })
-        }
+    }
+}
+
+fn two_strings(of: TwoStrings, first: Bytes, second: Bytes) -> Head
+    ensures { result ≡ two_head of first second }
+{
+    match of {
+        TwoStrings::CbcSeal => Head::CbcSeal {
+            key: first,
+            iv: second,
+        },
+        TwoStrings::CbcOpen => Head::CbcOpen {
+            key: first,
+            iv: second,
+        },
+        TwoStrings::Ctr => Head::Ctr {
+            key: first,
+            iv: second,
+        },
+        TwoStrings::Verify => Head::Verify {
+            key: first,
+            signature: second,
+        },
     }
 }
 
@@ -115,289 +207,4 @@ pub(crate) fn copy(alloc: Global, bytes: &[u8]) -> Result<Bytes, NoMemory>
         Ok(bytes) => Ok(bytes),
         Err(_) => Err(NoMemory),
     }
-}
-
-/// The head that stands at a place, and the place after it. Refuses, in order, by field: `Short`, `Number`.
-#[tactic(auto, unfolding(crate::specs::Head::head))]
-pub(crate) fn head_at<'a>(blob: &'a [u8], from: usize) -> Result<(HeadView<'a>, usize), Stuck<'a>>
-    ensures { Sees head_seen why_in head blob.now from result }
-{
-    let (operation, next) = match operation_at(blob, from) {
-        Ok(found) => found,
-        Err(stuck) => return Err(stuck),
-    };
-    fields_at(blob, next, operation)
-}
-
-#[tactic(auto, unfolding(crate::specs::Head::operation))]
-fn operation_at<'a>(blob: &'a [u8], from: usize) -> Result<(Operation, usize), Stuck<'a>>
-    ensures { Sees (λ operation. operation) why_in operation blob.now from result }
-{
-    let (number, next) = match byte_at(blob, from) {
-        Ok(found) => found,
-        Err(stuck) => return Err(stuck),
-    };
-    match operation_of(number) {
-        Some(operation) => Ok((operation, next)),
-        None => Err(Stuck::Number(u32::from(number))),
-    }
-}
-
-fn fields_at<'a>(
-    blob: &'a [u8],
-    from: usize,
-    operation: Operation,
-) -> Result<(HeadView<'a>, usize), Stuck<'a>>
-    ensures { Sees head_seen why_in (operation_fields operation) blob.now from result }
-{
-    match operation {
-        Operation::Bcrypt => bcrypt_at(blob, from),
-        Operation::Argon2 => argon2_at(blob, from),
-        Operation::CbcSeal => seal_at(blob, from),
-        Operation::CbcOpen => open_at(blob, from),
-        Operation::Ctr => ctr_at(blob, from),
-        Operation::Sign => sign_at(blob, from),
-        Operation::Verify => verify_at(blob, from),
-    }
-}
-
-#[tactic(auto, unfolding(crate::specs::Head::bcrypt_fields))]
-fn bcrypt_at<'a>(blob: &'a [u8], from: usize) -> Result<(HeadView<'a>, usize), Stuck<'a>>
-    ensures { Sees head_seen why_in bcrypt_fields blob.now from result }
-{
-    let (len, next) = match uint32_at(blob, from) {
-        Ok(found) => found,
-        Err(stuck) => return Err(stuck),
-    };
-    let (rounds, next) = match uint32_at(blob, next) {
-        Ok(found) => found,
-        Err(stuck) => return Err(stuck),
-    };
-    let (salt, next) = match string_at(blob, next) {
-        Ok(found) => found,
-        Err(stuck) => return Err(stuck),
-    };
-    let salt = salt.bytes;
-    Ok((HeadView::Bcrypt { len, rounds, salt }, next))
-}
-
-#[tactic(auto, unfolding(crate::specs::Head::argon2_fields))]
-fn argon2_at<'a>(blob: &'a [u8], from: usize) -> Result<(HeadView<'a>, usize), Stuck<'a>>
-    ensures { Sees head_seen why_in argon2_fields blob.now from result }
-{
-    let (flavour, next) = match flavour_at(blob, from) {
-        Ok(found) => found,
-        Err(stuck) => return Err(stuck),
-    };
-    let (memory, next) = match uint32_at(blob, next) {
-        Ok(found) => found,
-        Err(stuck) => return Err(stuck),
-    };
-    let (passes, next) = match uint32_at(blob, next) {
-        Ok(found) => found,
-        Err(stuck) => return Err(stuck),
-    };
-    let (parallelism, next) = match uint32_at(blob, next) {
-        Ok(found) => found,
-        Err(stuck) => return Err(stuck),
-    };
-    let (salt, next) = match string_at(blob, next) {
-        Ok(found) => found,
-        Err(stuck) => return Err(stuck),
-    };
-    let salt = salt.bytes;
-    Ok((
-        HeadView::Argon2 {
-            flavour,
-            memory,
-            passes,
-            parallelism,
-            salt,
-        },
-        next,
-    ))
-}
-
-#[tactic(auto, unfolding(crate::specs::Head::flavour))]
-fn flavour_at<'a>(blob: &'a [u8], from: usize) -> Result<(Flavour, usize), Stuck<'a>>
-    ensures { Sees (λ kind. kind) why_in flavour blob.now from result }
-{
-    let (number, next) = match byte_at(blob, from) {
-        Ok(found) => found,
-        Err(stuck) => return Err(stuck),
-    };
-    match flavour_of(number) {
-        Some(flavour) => Ok((flavour, next)),
-        None => Err(Stuck::Number(u32::from(number))),
-    }
-}
-
-#[tactic(auto, unfolding(crate::specs::Head::cipher_fields))]
-fn seal_at<'a>(blob: &'a [u8], from: usize) -> Result<(HeadView<'a>, usize), Stuck<'a>>
-    ensures { Sees head_seen why_in (cipher_fields heads.CbcSeal) blob.now from result }
-{
-    let (key, next) = match string_at(blob, from) {
-        Ok(found) => found,
-        Err(stuck) => return Err(stuck),
-    };
-    let (iv, next) = match string_at(blob, next) {
-        Ok(found) => found,
-        Err(stuck) => return Err(stuck),
-    };
-    let (key, iv) = (key.bytes, iv.bytes);
-    Ok((HeadView::CbcSeal { key, iv }, next))
-}
-
-#[tactic(auto, unfolding(crate::specs::Head::cipher_fields))]
-fn open_at<'a>(blob: &'a [u8], from: usize) -> Result<(HeadView<'a>, usize), Stuck<'a>>
-    ensures { Sees head_seen why_in (cipher_fields heads.CbcOpen) blob.now from result }
-{
-    let (key, next) = match string_at(blob, from) {
-        Ok(found) => found,
-        Err(stuck) => return Err(stuck),
-    };
-    let (iv, next) = match string_at(blob, next) {
-        Ok(found) => found,
-        Err(stuck) => return Err(stuck),
-    };
-    let (key, iv) = (key.bytes, iv.bytes);
-    Ok((HeadView::CbcOpen { key, iv }, next))
-}
-
-#[tactic(auto, unfolding(crate::specs::Head::cipher_fields))]
-fn ctr_at<'a>(blob: &'a [u8], from: usize) -> Result<(HeadView<'a>, usize), Stuck<'a>>
-    ensures { Sees head_seen why_in (cipher_fields heads.Ctr) blob.now from result }
-{
-    let (key, next) = match string_at(blob, from) {
-        Ok(found) => found,
-        Err(stuck) => return Err(stuck),
-    };
-    let (iv, next) = match string_at(blob, next) {
-        Ok(found) => found,
-        Err(stuck) => return Err(stuck),
-    };
-    let (key, iv) = (key.bytes, iv.bytes);
-    Ok((HeadView::Ctr { key, iv }, next))
-}
-
-#[tactic(auto, unfolding(crate::specs::Head::cipher_fields))]
-fn verify_at<'a>(blob: &'a [u8], from: usize) -> Result<(HeadView<'a>, usize), Stuck<'a>>
-    ensures { Sees head_seen why_in (cipher_fields heads.Verify) blob.now from result }
-{
-    let (key, next) = match string_at(blob, from) {
-        Ok(found) => found,
-        Err(stuck) => return Err(stuck),
-    };
-    let (signature, next) = match string_at(blob, next) {
-        Ok(found) => found,
-        Err(stuck) => return Err(stuck),
-    };
-    let (key, signature) = (key.bytes, signature.bytes);
-    Ok((HeadView::Verify { key, signature }, next))
-}
-
-#[tactic(auto, unfolding(crate::specs::Head::sign_fields))]
-fn sign_at<'a>(blob: &'a [u8], from: usize) -> Result<(HeadView<'a>, usize), Stuck<'a>>
-    ensures { Sees head_seen why_in sign_fields blob.now from result }
-{
-    let (algorithm, next) = match algorithm_at(blob, from) {
-        Ok(found) => found,
-        Err(stuck) => return Err(stuck),
-    };
-    let (key, next) = match string_at(blob, next) {
-        Ok(found) => found,
-        Err(stuck) => return Err(stuck),
-    };
-    let key = key.bytes;
-    Ok((HeadView::Sign { algorithm, key }, next))
-}
-
-#[tactic(auto, unfolding(crate::specs::Algorithm::algorithm))]
-fn algorithm_at<'a>(blob: &'a [u8], from: usize) -> Result<(SignatureAlgorithm, usize), Stuck<'a>>
-    ensures { Sees (λ by. by) why_in algorithm blob.now from result }
-{
-    let (kind, next) = match kind_at(blob, from) {
-        Ok(found) => found,
-        Err(stuck) => return Err(stuck),
-    };
-    match kind {
-        AlgorithmKind::Rsa => rsa_at(blob, next),
-        AlgorithmKind::Ecdsa => ecdsa_at(blob, next),
-        AlgorithmKind::Ed25519 => ed_at(blob, next),
-    }
-}
-
-#[tactic(auto, unfolding(crate::specs::Algorithm::kind))]
-fn kind_at<'a>(blob: &'a [u8], from: usize) -> Result<(AlgorithmKind, usize), Stuck<'a>>
-    ensures { Sees (λ k. k) why_in kind blob.now from result }
-{
-    let (number, next) = match byte_at(blob, from) {
-        Ok(found) => found,
-        Err(stuck) => return Err(stuck),
-    };
-    match kind_of(number) {
-        Some(kind) => Ok((kind, next)),
-        None => Err(Stuck::Number(u32::from(number))),
-    }
-}
-
-#[tactic(auto, unfolding(crate::specs::Algorithm::hash))]
-fn hash_at<'a>(blob: &'a [u8], from: usize) -> Result<(HashAlgorithm, usize), Stuck<'a>>
-    ensures { Sees (λ digest. digest) why_in hash blob.now from result }
-{
-    let (number, next) = match byte_at(blob, from) {
-        Ok(found) => found,
-        Err(stuck) => return Err(stuck),
-    };
-    match hash_of(number) {
-        Some(hash) => Ok((hash, next)),
-        None => Err(Stuck::Number(u32::from(number))),
-    }
-}
-
-#[tactic(auto, unfolding(crate::specs::Algorithm::rsa_hash))]
-fn rsa_at<'a>(blob: &'a [u8], from: usize) -> Result<(SignatureAlgorithm, usize), Stuck<'a>>
-    ensures { Sees (λ by. by) why_in rsa_hash blob.now from result }
-{
-    let (hash, next) = match hash_at(blob, from) {
-        Ok(found) => found,
-        Err(stuck) => return Err(stuck),
-    };
-    Ok((SignatureAlgorithm::RsaPkcs1v15(hash), next))
-}
-
-#[tactic(auto, unfolding(crate::specs::Algorithm::ecdsa_hash))]
-fn ecdsa_at<'a>(blob: &'a [u8], from: usize) -> Result<(SignatureAlgorithm, usize), Stuck<'a>>
-    ensures { Sees (λ by. by) why_in ecdsa_hash blob.now from result }
-{
-    let (hash, next) = match hash_at(blob, from) {
-        Ok(found) => found,
-        Err(stuck) => return Err(stuck),
-    };
-    Ok((SignatureAlgorithm::Ecdsa(hash), next))
-}
-
-#[tactic(auto, unfolding(crate::specs::Algorithm::ed_hash))]
-fn ed_at<'a>(blob: &'a [u8], from: usize) -> Result<(SignatureAlgorithm, usize), Stuck<'a>>
-    ensures { Sees (λ by. by) why_in ed_hash blob.now from result }
-{
-    let (_, next) = match zero_at(blob, from) {
-        Ok(found) => found,
-        Err(stuck) => return Err(stuck),
-    };
-    Ok((SignatureAlgorithm::Ed25519, next))
-}
-
-#[tactic(auto, unfolding(crate::specs::Algorithm::no_hash))]
-fn zero_at<'a>(blob: &'a [u8], from: usize) -> Result<(u8, usize), Stuck<'a>>
-    ensures { Sees (λ n. n) why_in no_hash blob.now from result }
-{
-    let (number, next) = match byte_at(blob, from) {
-        Ok(found) => found,
-        Err(stuck) => return Err(stuck),
-    };
-    if number != 0 {
-        return Err(Stuck::Number(u32::from(number)));
-    }
-    Ok((number, next))
 }

@@ -1,9 +1,10 @@
 //! The laws of this crate, each as the contract of a function that does nothing.
 
-ghost use Rattle.std.specs.Prelude.{◌≡◌, ◌≢◌, ◌↔◌, ◌++◌, ◌∷◌, ℕ, List, true, None, Some, Ok, Err, All, OnOk, length};
+ghost use Rattle.std.specs.Prelude.{◌≡◌, ◌≢◌, ◌↔◌, ◌<◌, ◌+◌, ◌++◌, ◌∷◌, ℕ, List, true, None, Some, Ok, Err, All, OnOk, length, take};
 ghost use Rattle.std.specs.List.{flat_map};
 ghost use Rattle.picky_wire_base.specs.Equality.{IsEquality};
 ghost use Rattle.picky_wire_base.specs.Row.{Row};
+ghost use Rattle.picky_suite.specs.Asked.{IsAskedAtMost};
 ghost use Rattle.picky_suite.specs.Meanings.{Meanings};
 ghost use Rattle.picky_suite.specs.Ranges.{IsCipherKey, IsWhole};
 ghost use Rattle.picky_ask.specs.declared.lookup.Mode.{Mode as AMode};
@@ -11,8 +12,9 @@ ghost use Rattle.picky_ask.specs.declared.missing.Missing.TheVariants as missing
 ghost use Rattle.picky_ask.specs.declared.question.Entry.{Entry as AnEntry};
 ghost use Rattle.picky_ask.specs.declared.question.Question.{Question as AQuestion};
 ghost use Rattle.picky_ask.specs.Known.{Agrees, agrees, meant, with_hmac};
-ghost use Rattle.picky_ask.specs.Lookup.{answer_to, derivation, exchange, first_side};
+ghost use Rattle.picky_ask.specs.Lookup.{answer_to, derivation, exchange, first_side, place_of};
 ghost use Rattle.picky_ask.specs.Question.{IsEntry, IsQuestion, entry_of, question_of};
+ghost use Rattle.picky_ask.specs.State.{IsState, State as AState, calls_made, fresh};
 ghost use Rattle.picky_ask.specs.Table.{entry, table_of};
 
 use crate::known::Known;
@@ -45,6 +47,8 @@ pub fn a_table_is_read_back()
 pub fn more_answers_change_nothing()
     ensures answer { (q : AQuestion) (entries more : List AnEntry) (a : List ℕ) → answer_to q entries ≡ Some a
         → answer_to q (entries ++ more) ≡ Some a }
+    ensures placed { (q : AQuestion) (entries more : List AnEntry) (a : List ℕ) → answer_to q entries ≡ Some a
+        → place_of q (entries ++ more) ≡ place_of q entries }
     ensures derived { (q : AQuestion) (n : ℕ) (entries more : List AnEntry) (a : List ℕ) → derivation q n entries ≡ Ok a
         → derivation q n (entries ++ more) ≡ Ok a }
     ensures exchanged { (mode : AMode) (key iv : List ℕ) (q : AQuestion) (entries more : List AnEntry) (a : List ℕ)
@@ -78,8 +82,9 @@ pub fn a_table_that_agrees_means_the_same()
     ensures test { (m : Meanings) (entries : List AnEntry) → (agrees m entries ≡ true) ↔ Agrees m entries }
 {}
 
-/// An answer is refused for its length only where that is another, and for a contradiction only where it isn't both: what the
-/// first pair with the text has on the other side, and what has the text there.
+/// An answer is refused for its length only where that is another; for a contradiction only where it isn't both: what the
+/// first pair with the text has on the other side, and what has the text there; and as misplaced only where there is a next
+/// entry, and neither it nor one before it answers the question.
 pub fn an_answer_is_refused_for_its_reason()
     ensures length { (q : AQuestion) (n : ℕ) (entries : List AnEntry) → derivation q n entries ≡ Err missings.WrongLength
         → (a : List ℕ) × (answer_to q entries ≡ Some a) × (length a ≢ n) }
@@ -87,22 +92,33 @@ pub fn an_answer_is_refused_for_its_reason()
         → exchange mode key iv q entries ≡ Err missings.Contradiction
         → (a : List ℕ) × (answer_to q entries ≡ Some a)
         × (first_side mode key iv q.text entries ≡ Some a → first_side mode key iv a entries ≡ Some q.text → ⊥) }
+    ensures misplaced { (q : AQuestion) (used : ℕ) (entries : List AnEntry) → used < place_of q entries
+        → (used < length entries) × (answer_to q (take (used + 1) entries) ≡ None) }
 {}
 
-/// Where each answer of the table is what some meanings give, what is sealed by the table is what they seal. Whoever hands the
-/// suite to a longer call says the same of it so: the call is generic over `Known`, and its caller picks the meanings.
-/// Refuses: `Failed`.
+/// A call that asks at most n times leaves no question under a table of n entries. So what asks at most four times ends after
+/// four answers, in the fifth round.
+#[tactic(auto, using(crate::proofs::TurnLemmas::enough_answers))]
+pub fn enough_answers_leave_no_question()
+    ensures { (n : ℕ) (entries : List AnEntry) (q : AQuestion) (new : AState) → IsState (Some entries) new
+        → IsAskedAtMost n calls_made (fresh entries) new → new.missing ≡ Some (missings.Asked q) → length entries < n }
+{}
+
+/// Where each answer of the table is what some meanings give, what is sealed by the table is what they seal; and one entry is
+/// enough. Whoever hands the suite to a longer call says the same of it so: the call is generic over `Known`, and its caller
+/// picks the meanings. Refuses: why there is no answer.
 pub fn what_answers_seal_is_what_was_answered(
     alloc: Global,
     table: &Table,
     key: &[u8],
     iv: &[u8; 16],
     block: &mut [u8],
-) -> Result<(), Failed>
+) -> Result<(), Option<Missing>>
     ghost m: { Meanings }
     requires key { IsCipherKey key.now }
     requires whole { IsWhole block.old }
-    ensures { Agrees m table.now → OnOk result (block.new ≡ m.cbc_seal key.now iv.now block.old) }
+    ensures sealed { Agrees m table.now → OnOk result (block.new ≡ m.cbc_seal key.now iv.now block.old) }
+    ensures enough { (q : AQuestion) → result ≡ Err (Some (missings.Asked q)) → length table.now < 1 }
 {
     seal_by::<Brand>(alloc, table, key, iv, block)
 }
@@ -114,14 +130,18 @@ fn seal_by<K: Known>(
     key: &[u8],
     iv: &[u8; 16],
     block: &mut [u8],
-) -> Result<(), Failed>
-    requires told { (entries : List AnEntry) → K.table ≡ Some entries → table.now ≡ entries }
+) -> Result<(), Option<Missing>>
+    requires told { K.table ≡ Some table.now }
     requires key { IsCipherKey key.now }
     requires whole { IsWhole block.old }
-    ensures { OnOk result (block.new ≡ (meant K.known table.now).cbc_seal key.now iv.now block.old) }
+    ensures sealed { OnOk result (block.new ≡ (meant K.known table.now).cbc_seal key.now iv.now block.old) }
+    ensures enough { (q : AQuestion) → result ≡ Err (Some (missings.Asked q)) → length table.now < 1 }
 {
     let mut suite: AnsweredSuite<'_, K> = AnsweredSuite::new(alloc, table);
-    suite.cbc_seal(key, iv, block)
+    match suite.cbc_seal(key, iv, block) {
+        Ok(()) => Ok(()),
+        Err(Failed) => Err(suite.into_missing()),
+    }
 }
 
 /// Two heads, questions, entries and reasons are equal exactly where their contents are.

@@ -6,6 +6,7 @@
 //! Read first: `specs/Head.antt`, `specs/Lookup.antt` and `specs/Known.antt`; then `src/laws.rt`.
 #![tactic(auto)]
 
+mod head_read;
 mod head_view;
 mod known;
 pub mod laws;

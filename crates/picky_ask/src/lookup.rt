@@ -1,13 +1,14 @@
 //! Answers looked up in a table: the first answer to a question counts.
 
-ghost use Rattle.std.specs.Prelude.{◌≡◌, ◌∷◌, None, Some, MatchOption, length, true};
-ghost use Rattle.picky_wire_base.specs.Equality.{IsEquality};
+ghost use Rattle.std.specs.Prelude.{◌≡◌, ◌∷◌, ◌≤◌, None, Some, MatchOption, length, true};
+ghost use Rattle.picky_wire_base.specs.Equality.{IsEqualityOf};
 ghost use Rattle.picky_wire_base.specs.Numbers.{IsBytes};
 ghost use Rattle.picky_ask.specs.Lookup.{all_bytes, answer_to as answer_in, asks_cipher as asks_cipher_of, are_paired as are_paired_in};
-ghost use Rattle.picky_ask.specs.Lookup.{derivation, exchange, first_side, is_pair as is_pair_of, is_side, side as side_of};
-ghost use Rattle.picky_ask.specs.Same.{same_question};
-ghost use Rattle.picky_ask.specs.inner.Finding.{finding_shown};
+ghost use Rattle.picky_ask.specs.Lookup.{first_side, is_pair as is_pair_of, is_side, place_of, question, side as side_of};
+ghost use Rattle.picky_ask.specs.Same.{same_head, same_question};
+ghost use Rattle.picky_ask.specs.inner.HeadView.{head_seen};
 
+use crate::head_view::{HeadView, head_view};
 use crate::question::{Entry, Head, Question};
 
 /// A mode of AES, whose questions pair texts.
@@ -17,88 +18,58 @@ pub(crate) enum Mode {
     Ctr,
 }
 
-/// What was found of an answer.
-#[derive(Clone, Copy)]
-pub(crate) enum Finding<'t> {
-    Found(&'t [u8]),
-    Unlisted,
-    WrongLength,
-    Contradiction,
-}
-
-/// The table's answer of so many bytes.
-pub(crate) fn derivation_in<'t>(
-    entries: &'t [Entry],
-    question: &Question,
-    len: usize,
-) -> Finding<'t>
-    ensures { finding_shown question.now result ≡ derivation question.now len entries.now }
-{
-    match answer_to(entries, question) {
-        Some(answer) => {
-            if answer.len() != len {
-                return Finding::WrongLength;
-            }
-            Finding::Found(answer)
-        }
-        None => Finding::Unlisted,
-    }
-}
-
-/// The table's answer that is as long as the question's text, where no earlier entry contradicts it.
-#[tactic(auto, unfolding(crate::specs::Lookup::paired))]
-pub(crate) fn exchange_in<'t>(
-    entries: &'t [Entry],
-    mode: Mode,
-    key: &[u8],
-    iv: &[u8],
-    question: &Question,
-) -> Finding<'t>
-    ensures { finding_shown question.now result ≡ exchange mode key.now iv.now question.now entries.now }
-{
-    match answer_to(entries, question) {
-        Some(answer) => {
-            if answer.len() != question.text.as_slice().len() {
-                return Finding::WrongLength;
-            }
-            if !are_paired(entries, mode, key, iv, question.text.as_slice(), answer) {
-                return Finding::Contradiction;
-            }
-            Finding::Found(answer)
-        }
-        None => Finding::Unlisted,
-    }
-}
-
 /// The first answer to the question.
-pub(crate) fn answer_to<'t>(entries: &'t [Entry], question: &Question) -> Option<&'t [u8]>
-    ensures { MatchOption result (answer_in question.now entries.now ≡ None)
-        (λ answer. answer_in question.now entries.now ≡ Some answer.now) }
+pub(crate) fn answer_to<'t>(
+    entries: &'t [Entry],
+    head: &HeadView<'_>,
+    text: &[u8],
+) -> Option<&'t [u8]>
+    ensures { MatchOption result (answer_in (question (head_seen head.now) text.now) entries.now ≡ None)
+        (λ answer. answer_in (question (head_seen head.now) text.now) entries.now ≡ Some answer.now) }
 {
-    for entry in entries {
-        if is_same(question, &entry.question) {
-            return Some(entry.answer.as_slice());
-        }
+    let place = place_in(entries, head, text);
+    if place < entries.len() {
+        return Some(entries[place].answer.as_slice());
     }
     None
 }
 
-/// Whether two questions are the same.
-fn is_same(question: &Question, other: &Question) -> bool
-    ensures { result ≡ same_question question.now other.now }
+/// The place of the first entry that answers the question; how many there are, where there is none.
+pub(crate) fn place_in(entries: &[Entry], head: &HeadView<'_>, text: &[u8]) -> usize
+    ensures { result ≡ place_of (question (head_seen head.now) text.now) entries.now }
 {
-    questions_are_equal_by_contents();
-    question == other
+    for (place, entry) in entries.iter().enumerate() {
+        if is_same(head, text, &entry.question) {
+            return place;
+        }
+    }
+    entries.len()
 }
 
-/// Two questions are equal exactly where their contents are.
-fn questions_are_equal_by_contents()
-    ensures { IsEquality ⟦<Question as PartialEq>⟧.eq }
+/// Whether two questions are the same.
+#[tactic(auto, unfolding(crate::specs::Same::same_question))]
+fn is_same(head: &HeadView<'_>, text: &[u8], other: &Question) -> bool
+    ensures { result ≡ same_question (question (head_seen head.now) text.now) other.now }
+{
+    is_same_head(head, &other.head) && text == other.text.as_slice()
+}
+
+/// Whether two heads are the same.
+fn is_same_head(head: &HeadView<'_>, other: &Head) -> bool
+    ensures { result ≡ same_head (head_seen head.now) other.now }
+{
+    heads_are_equal_by_contents();
+    *head == head_view(other)
+}
+
+/// Two heads are equal exactly where they show the same.
+fn heads_are_equal_by_contents()
+    ensures { IsEqualityOf head_seen ⟦<HeadView<'static> as PartialEq>⟧.eq }
 {}
 
 /// Whether each of the two texts is first met on the other side of the other.
 #[tactic(auto, unfolding(crate::specs::Lookup::are_paired))]
-fn are_paired(
+pub(crate) fn are_paired(
     entries: &[Entry],
     mode: Mode,
     key: &[u8],

@@ -1,23 +1,26 @@
 //! The signer whose signatures the caller gives.
 
-ghost use Rattle.std.specs.Prelude.{◌≡◌, ◌-◌, ◌^◌, List, Some, min, IfOk};
+ghost use Rattle.std.specs.Prelude.{◌≡◌, ◌≤◌, ◌-◌, ◌^◌, List, None, Some, length, min, IfOk, IsErrOf};
 ghost use Rattle.std.proofs.Common.{arith};
 ghost use Rattle.picky_keys.specs.PrivateKey.{issuer_key};
 ghost use Rattle.picky_keys.specs.PublicKey.{key_shown};
 ghost use Rattle.picky_keys.specs.Blob.{blob_of};
 ghost use Rattle.picky_ask.specs.declared.question.Entry.{Entry as AnEntry};
-ghost use Rattle.picky_ask.specs.Signing.{LooksUpSignature, SignsByTable, base_key_of, sign_question as sign_question_of};
-ghost use Rattle.picky_ask.specs.State.{IsState, fresh as fresh_state};
+ghost use Rattle.picky_ask.specs.declared.question.Question.{Question as AQuestion};
+ghost use Rattle.picky_ask.specs.Lookup.{answer_to as answer_in, question};
+ghost use Rattle.picky_ask.specs.Signing.{IsSignerState, LooksUpSignature, SignerFailsFor, SignsByTable, base_key_of, fresh_signer};
+ghost use Rattle.picky_ask.specs.Signing.{sign_question};
+ghost use Rattle.picky_ask.specs.inner.HeadView.{head_seen};
 
-use crate::head_view::copy;
+use crate::head_view::{HeadView, copy, is_short, question_copy};
 use crate::known::Known;
 use crate::lookup::answer_to;
 use crate::missing::Missing;
-use crate::question::{Entry, Head, Question};
+use crate::question::Entry;
 use crate::table::Table;
-use picky_keys::{Issuer, PublicKeyRef, SignatureAlgorithm, SshBasePublicKey};
+use picky_keys::{Issuer, PublicKeyRef, SignatureAlgorithm, SshBasePublicKey, SshPublicKeyError};
 use picky_suite::{SignError, Signer};
-use picky_wire::{Bytes, NoMemory, TryClone, both};
+use picky_wire::{Bytes, NoMemory, SizeError, TryClone, both};
 use std::alloc::Global;
 use std::marker::{Model, PhantomData};
 
@@ -33,20 +36,20 @@ pub struct AnsweredSigner<'t, K: Known> {
 }
 
 impl<'t, K: Known> Model for AnsweredSigner<'t, K> {
-    ghost use Rattle.picky_ask.specs.State.{IsState, State};
+    ghost use Rattle.picky_ask.specs.Signing.{IsSignerState, SignerState};
 
-    ghost Value = { State };
+    ghost Value = { SignerState };
 
     ghost view = { λ s. record { entries = s.entries.now; missing = s.missing; faults = s.faults } };
 
-    ghost invariant = { λ s. IsState K.table (record { entries = s.entries.now; missing = s.missing; faults = s.faults }) };
+    ghost invariant = { λ s. IsSignerState K.table (record { entries = s.entries.now; missing = s.missing; faults = s.faults }) };
 }
 
 impl<'t, K: Known> AnsweredSigner<'t, K> {
     /// A signer that signs as the table says.
     pub fn new(table: &'t Table) -> AnsweredSigner<'t, K>
         requires { (entries : List AnEntry) → K.table ≡ Some entries → table.now ≡ entries }
-        ensures { result ≡ fresh_state table.now }
+        ensures { result ≡ fresh_signer table.now }
     {
         AnsweredSigner {
             entries: table.entries(),
@@ -59,7 +62,7 @@ impl<'t, K: Known> AnsweredSigner<'t, K> {
     /// Why the last call that failed has no answer; `None` where no call failed.
     pub fn into_missing(self) -> Option<Missing>
         ensures missing { result ≡ self.entry.missing }
-        ensures state { IsState K.table self.entry }
+        ensures state { IsSignerState K.table self.entry }
     {
         let AnsweredSigner { missing, .. } = self;
         missing
@@ -73,24 +76,54 @@ impl<'t, K: Known> AnsweredSigner<'t, K> {
         algorithm: SignatureAlgorithm,
         message: &[u8],
     ) -> Result<Bytes, SignError>
-        ensures { LooksUpSignature (sign_question_of (issuer_key issuer.now) algorithm message.now)
+        ensures { LooksUpSignature (sign_question (issuer_key issuer.now) algorithm message.now)
             result self.old self.new }
     {
-        let question = match sign_question(alloc, issuer.public(), algorithm, message) {
-            Ok(question) => question,
-            Err(NoMemory) => return Err(SignError::NoMemory),
+        let key = match key_blob(alloc, issuer.public()) {
+            Ok(key) => key,
+            Err(SizeError::TooLong) => return Err(self.fail(Missing::TooLong)),
+            Err(SizeError::NoMemory) => return Err(SignError::NoMemory),
         };
-        match answer_to(self.entries, &question) {
-            Some(signature) => match copy(alloc, signature) {
-                Ok(signature) => Ok(signature),
+        let head = HeadView::Sign {
+            algorithm,
+            key: key.as_slice(),
+        };
+        self.look_up(alloc, &head, message)
+    }
+
+    // The table's answer to the question. Refuses: `Failed`; `NoMemory`, with nothing changed.
+    fn look_up(
+        &mut self,
+        alloc: Global,
+        head: &HeadView<'_>,
+        text: &[u8],
+    ) -> Result<Bytes, SignError>
+        ensures { LooksUpSignature (question (head_seen head.now) text.now) result self.old self.new }
+    {
+        if let Some(answer) = answer_to(self.entries, head, text) {
+            return match copy(alloc, answer) {
+                Ok(answer) => Ok(answer),
                 Err(NoMemory) => Err(SignError::NoMemory),
-            },
-            None => {
-                self.missing = Some(Missing::Asked(question));
-                self.faults = self.faults.saturating_add(1);
-                Err(SignError::Failed)
-            }
+            };
         }
+        if !is_short(head, text) {
+            return Err(self.fail(Missing::TooLong));
+        }
+        match question_copy(alloc, head, text) {
+            Ok(question) => Err(self.fail(Missing::Asked(question))),
+            Err(NoMemory) => Err(SignError::NoMemory),
+        }
+    }
+
+    // The call fails for this reason, and is counted.
+    fn fail(&mut self, missing: Missing) -> SignError
+        requires { (q : AQuestion) → missing ≡ Missing.Asked q → answer_in q self.old.entries ≡ None }
+        ensures failed { result ≡ SignError.Failed }
+        ensures state { SignerFailsFor missing self.old self.new }
+    {
+        self.missing = Some(missing);
+        self.faults = self.faults.saturating_add(1);
+        SignError::Failed
     }
 }
 
@@ -112,31 +145,23 @@ impl<K: Known> Signer for AnsweredSigner<'_, K> {
     }
 }
 
-// The question for a signature. Refuses: `NoMemory`.
-fn sign_question(
-    alloc: Global,
-    key: PublicKeyRef<'_>,
-    algorithm: SignatureAlgorithm,
-    message: &[u8],
-) -> Result<Question, NoMemory>
-    ensures { IfOk result (λ q. q ≡ sign_question_of (key_shown key.entry) algorithm message.now) }
-{
-    let (key, text) = both(key_blob(alloc, key), copy(alloc, message))?;
-    let head = Head::Sign { algorithm, key };
-    Ok(Question { head, text })
-}
-
-// The key's blob. Refuses: `NoMemory`.
+// The key's blob. Refuses, in order: `TooLong`, where it has 2^32 bytes or more.
 #[tactic(auto, using(crate::proofs::SignLemmas::blob_is))]
-fn key_blob(alloc: Global, key: PublicKeyRef<'_>) -> Result<Bytes, NoMemory>
-    ensures { IfOk result (λ bytes. bytes ≡ blob_of (base_key_of (key_shown key.entry))) }
+fn key_blob(alloc: Global, key: PublicKeyRef<'_>) -> Result<Bytes, SizeError>
+    ensures ok { IfOk result (λ bytes. bytes ≡ blob_of (base_key_of (key_shown key.entry))) }
+    ensures too_long_only_if_long { IsErrOf result SizeError.TooLong
+        → 2 ^ 32 ≤ length (blob_of (base_key_of (key_shown key.entry))) }
 {
-    let key = base_key(alloc, key)?;
+    let key = match base_key(alloc, key) {
+        Ok(key) => key,
+        Err(NoMemory) => return Err(SizeError::NoMemory),
+    };
     match key.to_blob(alloc) {
         Ok(bytes) => Ok(bytes),
+        Err(SshPublicKeyError::TooLong) => Err(SizeError::TooLong),
         Err(e) => {
             drop(e);
-            Err(NoMemory)
+            Err(SizeError::NoMemory)
         }
     }
 }

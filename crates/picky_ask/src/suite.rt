@@ -1,36 +1,40 @@
 //! The suite whose answers the caller gives.
 
-ghost use Rattle.std.specs.Prelude.{◌≡◌, ◌-◌, ◌^◌, ◌<◌, ℕ, List, None, Some, Ok, Err, length, min, IfOk, IsErr, OnOk};
+ghost use Rattle.std.specs.Prelude.{◌≡◌, ◌+◌, ◌<◌, ◌-◌, ◌^◌, ℕ, List, None, Some, Err, Result, length, min, max, IfOk, OnErr, OnOk};
 ghost use Rattle.std.proofs.Common.{arith};
 ghost use Rattle.picky_wire_base.specs.Numbers.{IsBytes};
 ghost use Rattle.picky_suite.specs.Ranges.{IsBcryptLen};
 ghost use Rattle.picky_ask.specs.declared.lookup.Mode.TheVariants as modes;
+ghost use Rattle.picky_ask.specs.declared.missing.Missing.{Missing as AMissing};
 ghost use Rattle.picky_ask.specs.declared.question.Head.TheVariants as heads;
 ghost use Rattle.picky_ask.specs.declared.question.Question.{Question as AQuestion};
 ghost use Rattle.picky_ask.specs.declared.question.Entry.{Entry as AnEntry};
 ghost use Rattle.picky_ask.specs.Known.{meant};
-ghost use Rattle.picky_ask.specs.Lookup.{answer_to, derivation, exchange, question as asked_question};
-ghost use Rattle.picky_ask.specs.State.{FailsFor, IsState, LooksUp, fresh as fresh_state};
-ghost use Rattle.picky_ask.specs.inner.Finding.{finding_shown};
+ghost use Rattle.picky_ask.specs.Lookup.{answer_to, derivation, exchange, in_turn, question as asked_question};
+ghost use Rattle.picky_ask.specs.State.{FailsFor, HasReason, IsState, LooksUp, calls_made, fresh as fresh_state};
+ghost use Rattle.picky_ask.specs.inner.HeadView.{head_seen, two_head};
+ghost use Rattle.picky_ask.specs.inner.Turn.{IsAskedFor, IsFound, turned};
 
-use crate::head_view::copy;
+use crate::head_view::{HeadView, TwoStrings, is_short, question_copy};
 use crate::known::Known;
-use crate::lookup::{Finding, Mode, bytes_are_bytes, derivation_in, exchange_in};
+use crate::lookup::{Mode, are_paired, bytes_are_bytes, place_in};
 use crate::missing::Missing;
-use crate::question::{Entry, Head, Question};
+use crate::question::Entry;
 use crate::table::Table;
 use picky_suite::{Flavour, Suite};
-use picky_wire::{Failed, NoMemory, both};
+use picky_wire::{Failed, NoMemory};
 use std::alloc::Global;
 use std::marker::{Model, PhantomData};
 
 /// A suite whose answers are those of a table: a lawful one, whatever the table. Its MACs are those of RFC 2104.
 ///
-/// A call that the table doesn't answer fails, and keeps aside what is missing.
+/// The table is the record of a run: an answer is used in its turn, and a question that comes again is answered from where it
+/// stands. A call that the table doesn't answer fails, and keeps aside what is missing.
 #[derive(Drop)]
 pub struct AnsweredSuite<'t, K: Known> {
     alloc: Global,
     entries: &'t [Entry],
+    used: usize,
     missing: Option<Missing>,
     faults: u64,
     known: PhantomData<K>,
@@ -41,9 +45,10 @@ impl<'t, K: Known> Model for AnsweredSuite<'t, K> {
 
     ghost Value = { State };
 
-    ghost view = { λ s. record { entries = s.entries.now; missing = s.missing; faults = s.faults } };
+    ghost view = { λ s. record { entries = s.entries.now; used = s.used; missing = s.missing; faults = s.faults } };
 
-    ghost invariant = { λ s. IsState K.table (record { entries = s.entries.now; missing = s.missing; faults = s.faults }) };
+    ghost invariant = { λ s.
+        IsState K.table (record { entries = s.entries.now; used = s.used; missing = s.missing; faults = s.faults }) };
 }
 
 impl<'t, K: Known> AnsweredSuite<'t, K> {
@@ -51,11 +56,13 @@ impl<'t, K: Known> AnsweredSuite<'t, K> {
     pub fn new(alloc: Global, table: &'t Table) -> AnsweredSuite<'t, K>
         requires { (entries : List AnEntry) → K.table ≡ Some entries → table.now ≡ entries }
         ensures meanings { ⟦<AnsweredSuite<'t, K> as Suite>⟧.meanings result ≡ meant K.known table.now }
+        ensures calls { ⟦<AnsweredSuite<'t, K> as Suite>⟧.calls result ≡ 0 }
         ensures fresh { result ≡ fresh_state table.now }
     {
         AnsweredSuite {
             alloc,
             entries: table.entries(),
+            used: 0,
             missing: None,
             faults: 0,
             known: PhantomData,
@@ -66,6 +73,7 @@ impl<'t, K: Known> AnsweredSuite<'t, K> {
     pub fn into_missing(self) -> Option<Missing>
         ensures missing { result ≡ self.entry.missing }
         ensures state { IsState K.table self.entry }
+        ensures calls { ⟦<AnsweredSuite<'t, K> as Suite>⟧.calls self.entry ≡ calls_made self.entry }
     {
         let AnsweredSuite { missing, .. } = self;
         missing
@@ -80,13 +88,14 @@ impl<'t, K: Known> AnsweredSuite<'t, K> {
         out: &mut [u8],
     ) -> Result<(), Failed>
         requires { IsBcryptLen (length out.old) }
-        ensures looks { LooksUp (derivation (asked_question (heads.Bcrypt (length out.old) rounds salt.now) pass.now)
-            (length out.old) self.old.entries) result out.new self.old self.new }
+        ensures looks { let q = asked_question (heads.Bcrypt (length out.old) rounds salt.now) pass.now in
+            LooksUp q (in_turn q self.old.used self.old.entries (derivation q (length out.old) self.old.entries))
+            result out.new self.old self.new }
         ensures len { length out.new ≡ length out.old }
         ensures bytes { OnOk result (IsBytes out.new) }
     {
-        let asked = bcrypt_question(self.alloc, pass, salt, rounds, out.len() as u32);
-        self.derive(asked, out)
+        let len = out.len() as u32;
+        self.derive(&HeadView::Bcrypt { len, rounds, salt }, pass, out)
     }
 
     /// Derives by Argon2, as the table says. Refuses: `Failed`.
@@ -100,124 +109,142 @@ impl<'t, K: Known> AnsweredSuite<'t, K> {
         salt: &[u8],
         out: &mut [u8],
     ) -> Result<(), Failed>
-        ensures looks { LooksUp (derivation
-            (asked_question (heads.Argon2 flavour memory passes parallelism salt.now) pass.now)
-            (length out.old) self.old.entries) result out.new self.old self.new }
+        ensures looks { let q = asked_question (heads.Argon2 flavour memory passes parallelism salt.now) pass.now in
+            LooksUp q (in_turn q self.old.used self.old.entries (derivation q (length out.old) self.old.entries))
+            result out.new self.old self.new }
         ensures len { length out.new ≡ length out.old }
         ensures bytes { OnOk result (IsBytes out.new) }
     {
-        let asked = argon2_question(self.alloc, flavour, memory, passes, parallelism, pass, salt);
-        self.derive(asked, out)
+        let head = HeadView::Argon2 {
+            flavour,
+            memory,
+            passes,
+            parallelism,
+            salt,
+        };
+        self.derive(&head, pass, out)
     }
 
     /// Seals by AES in CBC mode, as the table says. Refuses: `Failed`.
     pub fn ask_seal(&mut self, key: &[u8], iv: &[u8; 16], block: &mut [u8]) -> Result<(), Failed>
-        ensures looks { LooksUp (exchange modes.Cbc key.now iv.now (asked_question (heads.CbcSeal key.now iv.now) block.old)
-            self.old.entries) result block.new self.old self.new }
+        ensures looks { let q = asked_question (heads.CbcSeal key.now iv.now) block.old in
+            LooksUp q (in_turn q self.old.used self.old.entries (exchange modes.Cbc key.now iv.now q self.old.entries))
+            result block.new self.old self.new }
         ensures len { length block.new ≡ length block.old }
         ensures bytes { OnOk result (IsBytes block.new) }
     {
-        let asked = seal_question(self.alloc, key, iv, block);
-        self.exchange(Mode::Cbc, key, iv, asked, block)
+        self.exchange(TwoStrings::CbcSeal, Mode::Cbc, key, iv, block)
     }
 
     /// Opens by AES in CBC mode, as the table says. Refuses: `Failed`.
     pub fn ask_open(&mut self, key: &[u8], iv: &[u8; 16], block: &mut [u8]) -> Result<(), Failed>
-        ensures looks { LooksUp (exchange modes.Cbc key.now iv.now (asked_question (heads.CbcOpen key.now iv.now) block.old)
-            self.old.entries) result block.new self.old self.new }
+        ensures looks { let q = asked_question (heads.CbcOpen key.now iv.now) block.old in
+            LooksUp q (in_turn q self.old.used self.old.entries (exchange modes.Cbc key.now iv.now q self.old.entries))
+            result block.new self.old self.new }
         ensures len { length block.new ≡ length block.old }
         ensures bytes { OnOk result (IsBytes block.new) }
     {
-        let asked = open_question(self.alloc, key, iv, block);
-        self.exchange(Mode::Cbc, key, iv, asked, block)
+        self.exchange(TwoStrings::CbcOpen, Mode::Cbc, key, iv, block)
     }
 
     /// Seals or opens by AES in CTR mode, as the table says. Refuses: `Failed`.
     pub fn ask_ctr(&mut self, key: &[u8], iv: &[u8; 16], block: &mut [u8]) -> Result<(), Failed>
-        ensures looks { LooksUp (exchange modes.Ctr key.now iv.now (asked_question (heads.Ctr key.now iv.now) block.old)
-            self.old.entries) result block.new self.old self.new }
+        ensures looks { let q = asked_question (heads.Ctr key.now iv.now) block.old in
+            LooksUp q (in_turn q self.old.used self.old.entries (exchange modes.Ctr key.now iv.now q self.old.entries))
+            result block.new self.old self.new }
         ensures len { length block.new ≡ length block.old }
         ensures bytes { OnOk result (IsBytes block.new) }
     {
-        let asked = ctr_question(self.alloc, key, iv, block);
-        self.exchange(Mode::Ctr, key, iv, asked, block)
+        self.exchange(TwoStrings::Ctr, Mode::Ctr, key, iv, block)
     }
 
     // Fills the buffer with the answer to a question, of its length.
-    fn derive(&mut self, asked: Result<Question, NoMemory>, out: &mut [u8]) -> Result<(), Failed>
-        ensures looks { (q : AQuestion) → IfOk asked (λ x. x ≡ q)
-            → LooksUp (derivation q (length out.old) self.old.entries) result out.new self.old self.new }
+    fn derive(&mut self, head: &HeadView<'_>, text: &[u8], out: &mut [u8]) -> Result<(), Failed>
+        ensures looks { let q = asked_question (head_seen head.now) text.now in
+            LooksUp q (in_turn q self.old.used self.old.entries (derivation q (length out.old) self.old.entries))
+            result out.new self.old self.new }
         ensures len { length out.new ≡ length out.old }
         ensures bytes { OnOk result (IsBytes out.new) }
     {
-        match asked {
-            Ok(question) => {
-                let finding = derivation_in(self.entries, &question, out.len());
-                self.settle(question, finding, out)
-            }
-            Err(NoMemory) => self.fail(Missing::NoMemory),
+        let (place, answer) = self.find(head, text)?;
+        if answer.len() != out.len() {
+            return Err(self.fail(Missing::WrongLength));
         }
+        self.use_up(place);
+        bytes_are_bytes(answer);
+        out.copy_from_slice(answer);
+        Ok(())
     }
 
     // Exchanges what the buffer holds for the answer to a question about it.
     fn exchange(
         &mut self,
+        of: TwoStrings,
         mode: Mode,
         key: &[u8],
         iv: &[u8],
-        asked: Result<Question, NoMemory>,
         block: &mut [u8],
     ) -> Result<(), Failed>
-        requires { IfOk asked (λ x. x.text ≡ block.old) }
-        ensures looks { (q : AQuestion) → IfOk asked (λ x. x ≡ q)
-            → LooksUp (exchange mode key.now iv.now q self.old.entries) result block.new self.old self.new }
+        ensures looks { let q = asked_question (two_head of key.now iv.now) block.old in
+            LooksUp q (in_turn q self.old.used self.old.entries (exchange mode key.now iv.now q self.old.entries))
+            result block.new self.old self.new }
         ensures len { length block.new ≡ length block.old }
         ensures bytes { OnOk result (IsBytes block.new) }
     {
-        match asked {
-            Ok(question) => {
-                let finding = exchange_in(self.entries, mode, key, iv, &question);
-                self.settle(question, finding, block)
-            }
-            Err(NoMemory) => self.fail(Missing::NoMemory),
+        let head = HeadView::Two {
+            of,
+            first: key,
+            second: iv,
+        };
+        let (place, answer) = self.find(&head, block)?;
+        if answer.len() != block.len() {
+            return Err(self.fail(Missing::WrongLength));
         }
+        if !are_paired(self.entries, mode, key, iv, block, answer) {
+            return Err(self.fail(Missing::Contradiction));
+        }
+        self.use_up(place);
+        bytes_are_bytes(answer);
+        block.copy_from_slice(answer);
+        Ok(())
     }
 
-    // Fills the buffer with what was found, or fails for what wasn't.
-    fn settle(
-        &mut self,
-        question: Question,
-        finding: Finding<'_>,
-        out: &mut [u8],
-    ) -> Result<(), Failed>
-        requires sized { (answer : List ℕ) → finding_shown question finding ≡ Ok answer → length answer ≡ length out.old }
-        requires unlisted { (q : AQuestion) → finding_shown question finding ≡ Err (Missing.Asked q)
-            → answer_to q self.old.entries ≡ None }
-        ensures looks { LooksUp (finding_shown question finding.entry) result out.new self.old self.new }
-        ensures len { length out.new ≡ length out.old }
-        ensures bytes { OnOk result (IsBytes out.new) }
+    // The answer to the question, and its place, where its turn has come; else the call fails.
+    fn find(&mut self, head: &HeadView<'_>, text: &[u8]) -> Result<(usize, &'t [u8]), Failed>
+        ensures found { IfOk result (λ found. IsFound (asked_question (head_seen head.now) text.now) found.0 found.1.now self.old) }
+        ensures kept { OnOk result (self.new ≡ self.old) }
+        ensures failed { OnErr result ((judge : List ℕ → Result (List ℕ) AMissing)
+            → HasReason (asked_question (head_seen head.now) text.now)
+            (turned (asked_question (head_seen head.now) text.now) judge self.old) self.old self.new) }
     {
-        match finding {
-            Finding::Found(answer) => {
-                bytes_are_bytes(answer);
-                out.copy_from_slice(answer);
-                Ok(())
-            }
-            Finding::Unlisted => self.fail(Missing::Asked(question)),
-            Finding::WrongLength => self.fail(Missing::WrongLength),
-            Finding::Contradiction => self.fail(Missing::Contradiction),
+        let place = place_in(self.entries, head, text);
+        if self.used < place {
+            return Err(self.fail(Missing::Misplaced));
         }
+        if place < self.entries.len() {
+            return Ok((place, self.entries[place].answer.as_slice()));
+        }
+        let missing = missing_answer(self.alloc, head, text);
+        Err(self.fail(missing))
+    }
+
+    // The entries up to this place are used.
+    fn use_up(&mut self, place: usize)
+        requires { place < length self.old.entries }
+        ensures { self.new ≡ record self.old { used = max self.old.used (place + 1) } }
+    {
+        self.used = self.used.max(place + 1);
     }
 
     // The call fails for this reason, and is counted.
-    fn fail(&mut self, missing: Missing) -> Result<(), Failed>
-        requires { (q : AQuestion) → missing ≡ Missing.Asked q → answer_to q self.old.entries ≡ None }
-        ensures fails { IsErr result }
-        ensures state { FailsFor missing self.old self.new }
+    fn fail(&mut self, missing: Missing) -> Failed
+        requires unlisted { (q : AQuestion) → missing ≡ Missing.Asked q → answer_to q self.old.entries ≡ None }
+        requires last { (q : AQuestion) → missing ≡ Missing.Asked q → self.old.used ≡ length self.old.entries }
+        ensures { FailsFor missing self.old self.new }
     {
         self.missing = Some(missing);
         self.faults = self.faults.saturating_add(1);
-        Err(Failed)
+        Failed
     }
 }
 
@@ -225,6 +252,8 @@ impl<K: Known> Suite for AnsweredSuite<'_, K> {
     ghost meanings = { λ s. meant K.known s.entries };
 
     ghost faults = { λ s. min s.faults (2 ^ 64 - 1) };
+
+    ghost calls = { calls_made };
 
     ghost in_range = { λ s. Prim.omega arith };
 
@@ -272,77 +301,15 @@ impl<K: Known> Suite for AnsweredSuite<'_, K> {
     }
 }
 
-// The question for bytes that bcrypt-pbkdf derives. Refuses: `NoMemory`.
-fn bcrypt_question(
-    alloc: Global,
-    pass: &[u8],
-    salt: &[u8],
-    rounds: u32,
-    len: u32,
-) -> Result<Question, NoMemory>
-    ensures { IfOk result (λ q. q ≡ asked_question (heads.Bcrypt len rounds salt.now) pass.now) }
+// Why a question that the table doesn't answer has no answer: it is asked, or can't be.
+fn missing_answer(alloc: Global, head: &HeadView<'_>, text: &[u8]) -> Missing
+    ensures { IsAskedFor (asked_question (head_seen head.now) text.now) result }
 {
-    let (salt, text) = both(copy(alloc, salt), copy(alloc, pass))?;
-    let head = Head::Bcrypt { len, rounds, salt };
-    Ok(Question { head, text })
-}
-
-// The question for the bytes that Argon2 derives. Refuses: `NoMemory`.
-fn argon2_question(
-    alloc: Global,
-    flavour: Flavour,
-    memory: u32,
-    passes: u32,
-    parallelism: u32,
-    pass: &[u8],
-    salt: &[u8],
-) -> Result<Question, NoMemory>
-    ensures { IfOk result (λ q. q ≡ asked_question (heads.Argon2 flavour memory passes parallelism salt.now) pass.now) }
-{
-    let (salt, text) = both(copy(alloc, salt), copy(alloc, pass))?;
-    let head = Head::Argon2 {
-        flavour,
-        memory,
-        passes,
-        parallelism,
-        salt,
-    };
-    Ok(Question { head, text })
-}
-
-// The question for a text that AES in CBC mode seals. Refuses: `NoMemory`.
-fn seal_question(
-    alloc: Global,
-    key: &[u8],
-    iv: &[u8; 16],
-    text: &[u8],
-) -> Result<Question, NoMemory>
-    ensures { IfOk result (λ q. q ≡ asked_question (heads.CbcSeal key.now iv.now) text.now) }
-{
-    let ((key, iv), text) = both(both(copy(alloc, key), copy(alloc, iv)), copy(alloc, text))?;
-    let head = Head::CbcSeal { key, iv };
-    Ok(Question { head, text })
-}
-
-// The question for a text that AES in CBC mode opens. Refuses: `NoMemory`.
-fn open_question(
-    alloc: Global,
-    key: &[u8],
-    iv: &[u8; 16],
-    text: &[u8],
-) -> Result<Question, NoMemory>
-    ensures { IfOk result (λ q. q ≡ asked_question (heads.CbcOpen key.now iv.now) text.now) }
-{
-    let ((key, iv), text) = both(both(copy(alloc, key), copy(alloc, iv)), copy(alloc, text))?;
-    let head = Head::CbcOpen { key, iv };
-    Ok(Question { head, text })
-}
-
-// The question for a text that AES in CTR mode seals or opens. Refuses: `NoMemory`.
-fn ctr_question(alloc: Global, key: &[u8], iv: &[u8; 16], text: &[u8]) -> Result<Question, NoMemory>
-    ensures { IfOk result (λ q. q ≡ asked_question (heads.Ctr key.now iv.now) text.now) }
-{
-    let ((key, iv), text) = both(both(copy(alloc, key), copy(alloc, iv)), copy(alloc, text))?;
-    let head = Head::Ctr { key, iv };
-    Ok(Question { head, text })
+    if !is_short(head, text) {
+        return Missing::TooLong;
+    }
+    match question_copy(alloc, head, text) {
+        Ok(question) => Missing::Asked(question),
+        Err(NoMemory) => Missing::NoMemory,
+    }
 }

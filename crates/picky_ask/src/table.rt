@@ -7,7 +7,8 @@ ghost use Rattle.picky_ask.specs.Lookup.{answer_to as answer_in};
 ghost use Rattle.picky_ask.specs.Table.{entry as entry_layout, made_entry, string_whole, table_of};
 ghost use Rattle.picky_ask.specs.Whole.{whole_only};
 
-use crate::head_view::{copy, head_at, head_copy};
+use crate::head_read::head_at;
+use crate::head_view::{copy, head_copy, head_view};
 use crate::lookup::answer_to;
 use crate::question::{Entry, Head, Question};
 use picky_wire::{both, uint32_at};
@@ -76,7 +77,11 @@ impl Table {
         ensures { MatchOption result (answer_in question.now self.now ≡ None)
             (λ answer. answer_in question.now self.now ≡ Some answer.now) }
     {
-        answer_to(self.entries.as_slice(), question)
+        answer_to(
+            self.entries.as_slice(),
+            &head_view(&question.head),
+            question.text.as_slice(),
+        )
     }
 
     /// The table that the bytes are: entries one after another, each the strings head, text and answer.

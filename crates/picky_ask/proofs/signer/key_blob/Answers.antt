@@ -1,0 +1,6 @@
+use Rattle.picky_ask.proofs.SignLemmas.{refused_long}
+use Rattle.picky_ask.proofs.signer.key_blob.Goals as goal
+
+pub returns-in-Err-TooLong-clause-too_long_only_if_long : goal.returns-in-Err-TooLong-clause-too_long_only_if_long
+returns-in-Err-TooLong-clause-too_long_only_if_long c = λ _.
+    refused_long c.in-Ok.key _ c.in-Err-TooLong.field-0 c.in-Ok.ensures c.in-Err-TooLong.field-0-is c.in-Err-TooLong.ensures
