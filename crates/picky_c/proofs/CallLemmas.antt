@@ -18,7 +18,7 @@ use Rattle.picky_target.specs.declared.target.KeyTarget.TheVariants as targets
 use Rattle.picky_conversion.specs.{Convert.{AnswersKeyText, conversion, converting_asks}, Outside.{Outside}}
 use Rattle.picky_conversion.specs.Refusal.{input_refusal}
 use Rattle.picky_conversion.proofs.AnswerLemmas.{opening_asks, sealing_asks}
-use Rattle.picky_c.specs.{Calls.{public_key}, Given.{plain_outside, plain_reader}, Refusal.{refusal_of}}
+use Rattle.picky_c.specs.{Calls.{public_key}, Given.{plain_reader}, Refusal.{refusal_of}}
 use Rattle.picky_c.specs.declared.error.PickyError.{PickyError}
 use Rattle.picky_c.specs.declared.error.PickyError.TheVariants as calls
 use Rattle.picky_key_text.proofs.UnaskedLaws.{unasked}

@@ -1,11 +1,13 @@
 -- What a round comes to, from what the conversion answers and why the device has no answer.
 use Rattle.std.proofs.Common.{◌≡◌, ◌⊎◌, ◌∙◌, ◌<◌, true, false, ℕ, Bool, List, [], Option, None, Some, Result, Ok, Err, ap, sym, subst}
 use Rattle.std.proofs.Common.{inl, inr, refl, length}
-use Rattle.std.specs.{Option.{ok_or}, Prelude.{IfOk, if◌then◌else◌}}
+use Rattle.std.specs.{Option.{ok_or}, Prelude.{◌-◌, ◌^◌, IfOk, if◌then◌else◌, min}}
 use Rattle.std.specs.Str.{is_utf8}
 use Rattle.picky_wire_base.specs.{Outcome.{and_then, map_err, map_ok}, Row.{read_all}}
-use Rattle.picky_suite.specs.{Asked.{GivesAsked}, Meanings.{Meanings}}
-use Rattle.picky_ask.specs.{Lookup.{answer_to}, Table.{table_of}}
+use Rattle.picky_suite.specs.{Asked.{GivesAsked, IsAskedAtMost}, Meanings.{Meanings}}
+use Rattle.picky_wire.specs.Count.{Rose, count_one}
+use Rattle.picky_ask.proofs.TurnLemmas.{enough_answers}
+use Rattle.picky_ask.specs.{Lookup.{answer_to}, State.{IsState, State, calls_made, fresh}, Table.{table_of}}
 use Rattle.picky_ask.specs.declared.{missing.Missing.{Missing}, question.Entry.{Entry}, question.Question.{Question}}
 use Rattle.picky_ask.specs.declared.missing.Missing.TheVariants as missings
 use Rattle.picky_key_text.specs.Form.{form_of}
@@ -95,12 +97,12 @@ Keeps r = (e : PickyError) → r ≡ Err e → without_answers e ≡ e
 next_keeps : {A B : Type 0} (r : Result A PickyError) (next : A → Result B PickyError) → Keeps r → ((x : A) → Keeps (next x))
     → Keeps (and_then r next)
 next_keeps (Ok x) next first later = later x
-next_keeps (Err e) next first later f is = first f (cc is)
+next_keeps (Err e) next first later = λ f is. first f (cc is)
 
 utf8_keeps : (e : PickyError) (bytes : List ℕ) → without_answers e ≡ e → Keeps (utf8 e bytes)
 utf8_keeps e bytes own f is = go (is_utf8 bytes) is
   where
-    go : (b : Bool) → (if b then Ok {E = PickyError} bytes else Err e) ≡ Err f → without_answers f ≡ f
+    go : (b : Bool) → (if b then Ok bytes else Err e) ≡ Err f → without_answers f ≡ f
     go true same = cc same
     go false same = let one : e ≡ f = cc same in subst (λ g. without_answers g ≡ g) one own
 
@@ -185,3 +187,25 @@ is_numbered number e is = go (target_numbered number) is
     go : (o : Option KeyTarget) → ok_or o errors.NoSuchTarget ≡ Err e → e ≡ errors.NoSuchTarget
     go None same = cc same
     go (Some to) same = cc same
+
+-- ---- the device behind the conversion
+
+-- where it counted a fault, there is a reason why
+pub counted_for_a_reason : (told : Option (List Entry)) (entries : List Entry) (old new : State) (missing : Option Missing)
+    → old ≡ fresh entries → IsState told new → missing ≡ new.missing
+    → Rose (min old.faults (2 ^ 64 - 1)) (min new.faults (2 ^ 64 - 1)) → missing ≡ None → ⊥
+counted_for_a_reason told entries old new missing begins is same rose none =
+    let calm : new.faults ≡ 0 = is.calm (sym same ∙ none) in
+    let before : old.faults ≡ 0 = ap (λ s. s.faults) begins in
+    let after : min new.faults (2 ^ 64 - 1) ≡ 0 = ap (λ n. min n (2 ^ 64 - 1)) calm in
+    let first : min old.faults (2 ^ 64 - 1) ≡ 0 = ap (λ n. min n (2 ^ 64 - 1)) before in
+    let one : 0 ≡ 1 = sym after ∙ rose ∙ ap count_one first in
+    cc one
+
+-- what it left isn't in the table, which has fewer entries than the conversion asks questions
+pub leaves_only : (entries : List Entry) (old new : State) (missing : Option Missing) → old ≡ fresh entries
+    → IsState (Some entries) new → missing ≡ new.missing → IsAskedAtMost 4 calls_made old new → LeavesOnly entries missing
+leaves_only entries old new missing begins is same asked q left =
+    let there : new.missing ≡ Some (missings.Asked q) = sym same ∙ left in
+    (subst (λ es. answer_to q es ≡ None) (is.table entries refl) (is.unlisted q there),
+    enough_answers 4 entries q new is (subst (λ s. IsAskedAtMost 4 calls_made s new) begins asked) there)

@@ -3,7 +3,7 @@
 ghost use Rattle.std.specs.Prelude.{[], IfOk};
 ghost use Rattle.picky_wire_base.specs.Outcome.{map_ok};
 ghost use Rattle.picky_suite.specs.Asked.{GivesAsked};
-ghost use Rattle.picky_suite.specs.Meanings.{plain};
+ghost use Rattle.picky_suite.specs.Meanings.{Meanings};
 ghost use Rattle.picky_c.specs.Calls.{IsConverted, converted as converted_of, converting_is_asked, numbered_target};
 ghost use Rattle.picky_c.specs.Given.{given};
 ghost use Rattle.picky_c.specs.Round.{IsWithoutAnswers};
@@ -14,7 +14,7 @@ use crate::round::{Round, converted_by};
 use crate::target::target_of;
 use std::alloc::Global;
 
-/// The text of the target for what a key text means.
+/// The text of the target for what a key text means, whatever ciphers and derivations `m` has: none is asked.
 ///
 /// Refuses, in order: as `converted_by` by no answers, with `NoCipher` where that asks.
 pub fn converted(
@@ -25,10 +25,11 @@ pub fn converted(
     pass_out: &[u8],
     fresh: &[u8],
 ) -> Result<Vec<u8>, PickyError>
+    ghost m: { Meanings }
     ensures gives { GivesAsked PickyError.NoMemory PickyError.NoCipher (λ bytes. bytes.items) result
-        (converted_of plain (numbered_target target) (given text.now pass_in.now pass_out.now fresh.now []))
-        (converting_is_asked plain (numbered_target target) (given text.now pass_in.now pass_out.now fresh.now [])) (Unit {0}) }
-    ensures means { IfOk result (λ bytes. IsConverted plain (numbered_target target)
+        (converted_of m (numbered_target target) (given text.now pass_in.now pass_out.now fresh.now []))
+        (converting_is_asked m (numbered_target target) (given text.now pass_in.now pass_out.now fresh.now [])) (Unit {0}) }
+    ensures means { IfOk result (λ bytes. IsConverted m (numbered_target target)
         (given text.now pass_in.now pass_out.now fresh.now []) bytes.items) }
 {
     let given = Given {

@@ -3,7 +3,7 @@
 //! A slice is a pointer and a length to C, and a `Global` is nothing. What holds of them here a caller in C has to see to.
 
 ghost use Rattle.std.specs.Prelude.{[], false};
-ghost use Rattle.picky_suite.specs.Meanings.{Meanings, plain};
+ghost use Rattle.picky_suite.specs.Meanings.{Meanings};
 ghost use Rattle.picky_c.specs.Answer.{AnswersCall};
 ghost use Rattle.picky_c.specs.Calls.{IsConverted, IsFingerprint, IsPart, converted as converted_of, converting_is_asked};
 ghost use Rattle.picky_c.specs.Calls.{fingerprint as fingerprint_of, numbered_target, public_part_in, sealed_target};
@@ -24,7 +24,7 @@ use std::alloc::Global;
 /// The text of the target with a number for what a key text means.
 ///
 /// Refuses, in order: `NoSuchTarget`, `TextNotUtf8`, `PassNotUtf8`, as `picky_conversion::convert_key_text`, and `BufferTooSmall`;
-/// `NoCipher` where something is to be opened or sealed: it is `picky_convert_by` by no answers.
+/// `NoCipher` where something is to be opened or sealed: it is `picky_convert_by` by no answers, under any ciphers `m`.
 #[unsafe(no_mangle)]
 pub extern "C" fn picky_convert(
     alloc: Global,
@@ -35,12 +35,13 @@ pub extern "C" fn picky_convert(
     fresh: PickyBytes<'_>,
     out: &mut [u8],
 ) -> PickyAnswer
+    ghost m: { Meanings }
     ensures { AnswersCall
-        (converted_of plain (numbered_target target)
+        (converted_of m (numbered_target target)
         (given text.entry.bytes.now pass_in.entry.bytes.now pass_out.entry.bytes.now fresh.entry.bytes.now []))
-        (converting_is_asked plain (numbered_target target)
+        (converting_is_asked m (numbered_target target)
         (given text.entry.bytes.now pass_in.entry.bytes.now pass_out.entry.bytes.now fresh.entry.bytes.now []))
-        (IsConverted plain (numbered_target target)
+        (IsConverted m (numbered_target target)
         (given text.entry.bytes.now pass_in.entry.bytes.now pass_out.entry.bytes.now fresh.entry.bytes.now []))
         result out.old out.new }
 {

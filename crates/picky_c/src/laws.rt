@@ -8,7 +8,7 @@ ghost use Rattle.picky_target.specs.declared.error.ConvertError.{ConvertError as
 ghost use Rattle.picky_target.specs.declared.error.ConvertError.TheVariants as refusals;
 ghost use Rattle.picky_target.specs.declared.target.KeyTarget.{KeyTarget as To};
 ghost use Rattle.picky_suite.specs.Asked.{GivesAsked};
-ghost use Rattle.picky_suite.specs.Meanings.{Meanings, plain};
+ghost use Rattle.picky_suite.specs.Meanings.{Meanings};
 ghost use Rattle.picky_ask.specs.Known.{Agrees, with_hmac};
 ghost use Rattle.picky_conversion.specs.Convert.{IsConversion, conversion};
 ghost use Rattle.picky_conversion.specs.Outside.{Outside};
@@ -50,8 +50,8 @@ pub fn answers_that_agree_mean_the_same()
 
 /// What a round by no answers comes to is what a conversion without answers does, where a question is the want of a cipher.
 pub fn a_conversion_is_a_round_by_no_answers()
-    ensures { (to : Result To Reason) (g : Given) (round : Result ARound Reason) (result : Result (List ℕ) Reason)
+    ensures { (m : Meanings) (to : Result To Reason) (g : Given) (round : Result ARound Reason) (result : Result (List ℕ) Reason)
         → IsNumbered to → g.answers ≡ []
-        → GivesRound (converted plain to g) (converting_is_asked plain to g) (entries_of g) round → IsWithoutAnswers round result
-        → GivesAsked errors.NoMemory errors.NoCipher (λ bytes. bytes) result (converted plain to g) (converting_is_asked plain to g) (Unit {0}) }
+        → GivesRound (converted m to g) (converting_is_asked m to g) (entries_of g) round → IsWithoutAnswers round result
+        → GivesAsked errors.NoMemory errors.NoCipher (λ bytes. bytes) result (converted m to g) (converting_is_asked m to g) (Unit {0}) }
 {}
