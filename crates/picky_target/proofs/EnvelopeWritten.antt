@@ -20,6 +20,7 @@ use Rattle.picky_sshkey.specs.Written.{envelope_of, unpadded_block, key_text, bl
 use Rattle.picky_sshkey.proofs.WrittenLemmas.{block_within}
 use Rattle.picky_key_text.specs.Key.{private_meaning}
 use Rattle.picky_target.specs.declared.target.KeyTarget.TheVariants as targets
+use Rattle.picky_target.specs.Drafts.{with_rounds}
 use Rattle.picky_target.specs.Output.{Output}
 use Rattle.picky_target.specs.Judged.{is_short_envelope, is_trimmed, judged_meaning}
 use Rattle.picky_target.specs.Written.{written, writing_asks}
@@ -64,16 +65,16 @@ long_comment key long =
 
 -- ---- each way
 
-abbrev pub AreWritten : Meanings → Output → SshBasePrivateKey → List ℕ → Type 0
-AreWritten m out key comment =
-    (envelope_written m out key comment ≡ written m out targets.OpenSsh (private_meaning key comment))
-    × (envelope_asks out key comment ≡ writing_asks out targets.OpenSsh (private_meaning key comment))
+abbrev pub AreWritten : Meanings → Output → ℕ → SshBasePrivateKey → List ℕ → Type 0
+AreWritten m out rounds key comment =
+    (envelope_written m out rounds key comment ≡ written m out (targets.OpenSsh rounds) (private_meaning key comment))
+    × (envelope_asks out rounds key comment ≡ writing_asks out (targets.OpenSsh rounds) (private_meaning key comment))
 
-plain_is_written : (m : Meanings) (fresh : List ℕ) (key : SshBasePrivateKey) (comment : List ℕ)
-    → AreWritten m (record { pass = None; fresh = fresh }) key comment
+plain_is_written : (m : Meanings) (fresh : List ℕ) (rounds : ℕ) (key : SshBasePrivateKey) (comment : List ℕ)
+    → AreWritten m (record { pass = None; fresh = fresh }) rounds key comment
 unfolding written writing_asks judged_meaning key_made key_text text_writing_asks sealable
-plain_is_written m fresh key comment =
-    let k = made_of key None comment (take 16 fresh) in
+plain_is_written m fresh rounds key comment =
+    let k = with_rounds rounds (made_of key None comment (take 16 fresh)) in
     let enough : nat_le 0 (length fresh) ≡ true = le-leb 0 (length fresh) (omega arith) in
     elim (cases_Bool (is_trimmed comment)) [
       | inr bad ↦ rw bad (refl, refl)
@@ -86,22 +87,22 @@ plain_is_written m fresh key comment =
       ])
     ]
 
-sealed_is_written : (m : Meanings) (pass fresh : List ℕ) (key : SshBasePrivateKey) (comment : List ℕ)
-    → AreWritten m (record { pass = Some pass; fresh = fresh }) key comment
+sealed_is_written : (m : Meanings) (pass fresh : List ℕ) (rounds : ℕ) (key : SshBasePrivateKey) (comment : List ℕ)
+    → AreWritten m (record { pass = Some pass; fresh = fresh }) rounds key comment
 unfolding written writing_asks judged_meaning key_made key_text text_writing_asks sealable
-sealed_is_written m pass fresh key comment =
-    let k = made_of key (Some pass) comment (take 16 fresh) in
+sealed_is_written m pass fresh rounds key comment =
+    let k = with_rounds rounds (made_of key (Some pass) comment (take 16 fresh)) in
     elim (cases_Bool (is_trimmed comment)) [
       | inr bad ↦ rw bad (refl, refl)
-      | inl trimmed ↦ rw trimmed (elim (cases_Bool (bcrypt_fits (length pass) 16 16)) [
+      | inl trimmed ↦ rw trimmed (elim (cases_Bool (bcrypt_fits (length pass) 16 rounds)) [
         | inr bad ↦ rw bad (refl, refl)
         | inl derives ↦ rw derives (elim (cases_Bool (nat_le 16 (length fresh))) [
           | inr few ↦ rw few (refl, refl)
           | inl enough ↦
               let sized : length (take 16 fresh) ≡ 16 = omega (arith, length-take 16 fresh, leb-true 16 (length fresh) enough) in
-              let range = (bcrypt_decides (length pass) 16 16).0 derives in
+              let range = (bcrypt_decides (length pass) 16 rounds).0 derives in
               let pass_short : is_short pass ≡ true = lt-ltb (length pass) (2 ^ 32) range.1 in
-              let may : bcrypt_fits (length pass) (length (take 16 fresh)) 16 ≡ true = rw sized derives in
+              let may : bcrypt_fits (length pass) (length (take 16 fresh)) rounds ≡ true = rw sized derives in
               rw (enough, pass_short) (elim (cases_Bool (is_short comment)) [
                 | inr long ↦ rw (long, long_comment k long) (refl, refl)
                 | inl short ↦ rw (short, may) (elim (cases_Bool (is_short_envelope k)) [
@@ -114,7 +115,7 @@ sealed_is_written m pass fresh key comment =
     ]
 
 -- OpenSSH's private key is written as its conditions say, and the suite is asked as they say.
-pub envelope_is_written : (m : Meanings) (pass : Option (List ℕ)) (fresh : List ℕ) (key : SshBasePrivateKey) (comment : List ℕ)
-    → AreWritten m (record { pass = pass; fresh = fresh }) key comment
-envelope_is_written m None fresh key comment = plain_is_written m fresh key comment
-envelope_is_written m (Some pass) fresh key comment = sealed_is_written m pass fresh key comment
+pub envelope_is_written : (m : Meanings) (pass : Option (List ℕ)) (fresh : List ℕ) (rounds : ℕ) (key : SshBasePrivateKey)
+    (comment : List ℕ) → AreWritten m (record { pass = pass; fresh = fresh }) rounds key comment
+envelope_is_written m None fresh rounds key comment = plain_is_written m fresh rounds key comment
+envelope_is_written m (Some pass) fresh rounds key comment = sealed_is_written m pass fresh rounds key comment

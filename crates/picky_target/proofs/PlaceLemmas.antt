@@ -36,16 +36,16 @@ use Rattle.picky_target.proofs.TestLemmas.{not_true, test_from_has_no, no_end_fr
 -- ---- a private key
 
 secret_holds : (target : KeyTarget) (key : Key) → has_needed_secret target key ≡ true → HasNeededSecret target key
-secret_holds targets.OpenSsh (keys.Private key) test = tt
-secret_holds targets.OpenSsh (keys.Public key) test = cc test
+secret_holds (targets.OpenSsh rounds) (keys.Private key) test = tt
+secret_holds (targets.OpenSsh rounds) (keys.Public key) test = cc test
 secret_holds (targets.Ppk version config layout) (keys.Private key) test = tt
 secret_holds (targets.Ppk version config layout) (keys.Public key) test = cc test
 secret_holds targets.OpenSshPublic key test = tt
 secret_holds targets.PuttyPublic key test = tt
 
 secret_test : (target : KeyTarget) (key : Key) → HasNeededSecret target key → has_needed_secret target key ≡ true
-secret_test targets.OpenSsh (keys.Private key) holds = refl
-secret_test targets.OpenSsh (keys.Public key) holds = absurd holds
+secret_test (targets.OpenSsh rounds) (keys.Private key) holds = refl
+secret_test (targets.OpenSsh rounds) (keys.Public key) holds = absurd holds
 secret_test (targets.Ppk version config layout) (keys.Private key) holds = refl
 secret_test (targets.Ppk version config layout) (keys.Public key) holds = absurd holds
 secret_test targets.OpenSshPublic key holds = refl
@@ -54,13 +54,13 @@ secret_test targets.PuttyPublic key holds = refl
 -- ---- the kind
 
 kind_holds : (target : KeyTarget) (key : Key) → has_kind target key ≡ true → HasKind target key
-kind_holds targets.OpenSsh key test = tt
+kind_holds (targets.OpenSsh rounds) key test = tt
 kind_holds (targets.Ppk version config layout) key test = not_true (is_security_key (public_part key)) test
 kind_holds targets.OpenSshPublic key test = tt
 kind_holds targets.PuttyPublic key test = not_true (is_security_key (public_part key)) test
 
 kind_test : (target : KeyTarget) (key : Key) → HasKind target key → has_kind target key ≡ true
-kind_test targets.OpenSsh key holds = refl
+kind_test (targets.OpenSsh rounds) key holds = refl
 kind_test (targets.Ppk version config layout) key holds = ap not holds
 kind_test targets.OpenSshPublic key holds = refl
 kind_test targets.PuttyPublic key holds = ap not holds
@@ -74,7 +74,7 @@ no_lf_test : (comment : List ℕ) → HasNo 10 comment → not (has_lf comment) 
 no_lf_test comment holds = ap not (test_from_has_no 10 comment holds)
 
 pub comment_holds : (target : KeyTarget) (comment : List ℕ) → carries_comment target comment ≡ true → CarriesComment target comment
-comment_holds targets.OpenSsh comment test = (bytes_eq-Decides (trim_end comment) comment).0 test
+comment_holds (targets.OpenSsh rounds) comment test = (bytes_eq-Decides (trim_end comment) comment).0 test
 comment_holds (targets.Ppk V2 config layout) comment test = no_lf_holds comment test
 comment_holds (targets.Ppk V3 config layout) comment test =
     let parts = and_parts (not (has_lf comment)) (not (ends_in_cr comment)) test in
@@ -87,7 +87,7 @@ comment_holds targets.OpenSshPublic comment test =
 comment_holds targets.PuttyPublic comment test = no_lf_holds comment test
 
 pub comment_test : (target : KeyTarget) (comment : List ℕ) → CarriesComment target comment → carries_comment target comment ≡ true
-comment_test targets.OpenSsh comment holds = (bytes_eq-Decides (trim_end comment) comment).1 holds
+comment_test (targets.OpenSsh rounds) comment holds = (bytes_eq-Decides (trim_end comment) comment).1 holds
 comment_test (targets.Ppk V2 config layout) comment holds = no_lf_test comment holds
 comment_test (targets.Ppk V3 config layout) comment holds =
     let last = slice_index comment (length comment - 1) in
@@ -100,7 +100,7 @@ comment_test targets.PuttyPublic comment holds = no_lf_test comment holds
 
 derivation_holds : (target : KeyTarget) (pass : Option (List ℕ)) → derives target pass ≡ true → Derives target pass
 derivation_holds target None test = tt
-derivation_holds targets.OpenSsh (Some pass) test = (bcrypt_decides (length pass) 16 16).0 test
+derivation_holds (targets.OpenSsh rounds) (Some pass) test = (bcrypt_decides (length pass) 16 rounds).0 test
 derivation_holds (targets.Ppk V2 config layout) (Some pass) test = tt
 derivation_holds (targets.Ppk V3 config layout) (Some pass) test =
     (argon2_decides config.argon2_memory config.argon2_passes config.argon2_parallelism (length pass) config.argon2_salt_size).0 test
@@ -109,7 +109,7 @@ derivation_holds targets.PuttyPublic (Some pass) test = tt
 
 derivation_test : (target : KeyTarget) (pass : Option (List ℕ)) → Derives target pass → derives target pass ≡ true
 derivation_test target None holds = refl
-derivation_test targets.OpenSsh (Some pass) holds = (bcrypt_decides (length pass) 16 16).1 holds
+derivation_test (targets.OpenSsh rounds) (Some pass) holds = (bcrypt_decides (length pass) 16 rounds).1 holds
 derivation_test (targets.Ppk V2 config layout) (Some pass) holds = refl
 derivation_test (targets.Ppk V3 config layout) (Some pass) holds =
     (argon2_decides config.argon2_memory config.argon2_passes config.argon2_parallelism (length pass) config.argon2_salt_size).1 holds
@@ -171,21 +171,21 @@ file_room_test out version config layout key comment holds =
       short_test text (omega (arith, same, holds.text plain)),
     ) refl
 
-openssh_room_holds : (out : Output) (key : Key) (comment : List ℕ)
-    → has_room out targets.OpenSsh (record { key = key; comment = comment }) ≡ true
-    → HasRoom out targets.OpenSsh (record { key = key; comment = comment })
-openssh_room_holds out (keys.Private key) comment test m =
-    let made = openssh_key out key comment in
+openssh_room_holds : (out : Output) (rounds : ℕ) (key : Key) (comment : List ℕ)
+    → has_room out (targets.OpenSsh rounds) (record { key = key; comment = comment }) ≡ true
+    → HasRoom out (targets.OpenSsh rounds) (record { key = key; comment = comment })
+openssh_room_holds out rounds (keys.Private key) comment test m =
+    let made = openssh_key out rounds key comment in
     omega (arith, envelope_len m made, ltb-true (length (pem_text (envelope_of made (plain_block made)))) (2 ^ 32) test)
-openssh_room_holds out (keys.Public key) comment test m = omega arith
+openssh_room_holds out rounds (keys.Public key) comment test m = omega arith
 
-openssh_room_test : (out : Output) (key : Key) (comment : List ℕ)
-    → HasRoom out targets.OpenSsh (record { key = key; comment = comment })
-    → has_room out targets.OpenSsh (record { key = key; comment = comment }) ≡ true
-openssh_room_test out (keys.Private key) comment holds =
-    let made = openssh_key out key comment in
+openssh_room_test : (out : Output) (rounds : ℕ) (key : Key) (comment : List ℕ)
+    → HasRoom out (targets.OpenSsh rounds) (record { key = key; comment = comment })
+    → has_room out (targets.OpenSsh rounds) (record { key = key; comment = comment }) ≡ true
+openssh_room_test out rounds (keys.Private key) comment holds =
+    let made = openssh_key out rounds key comment in
     lt-ltb (length (pem_text (envelope_of made (plain_block made)))) (2 ^ 32) (omega (arith, envelope_len plain made, holds plain))
-openssh_room_test out (keys.Public key) comment holds = refl
+openssh_room_test out rounds (keys.Public key) comment holds = refl
 
 ppk_room_holds : (out : Output) (version : PpkVersionKey) (config : PpkEncryptionConfig) (layout : PpkLayout) (key : Key) (comment : List ℕ)
     → has_room out (targets.Ppk version config layout) (record { key = key; comment = comment }) ≡ true
@@ -200,7 +200,7 @@ ppk_room_test out version config layout (keys.Private key) comment holds = file_
 ppk_room_test out version config layout (keys.Public key) comment holds = refl
 
 room_holds : (out : Output) (target : KeyTarget) (meaning : Meaning) → has_room out target meaning ≡ true → HasRoom out target meaning
-room_holds out targets.OpenSsh meaning test = openssh_room_holds out meaning.key meaning.comment test
+room_holds out (targets.OpenSsh rounds) meaning test = openssh_room_holds out rounds meaning.key meaning.comment test
 room_holds out (targets.Ppk version config layout) meaning test = ppk_room_holds out version config layout meaning.key meaning.comment test
 room_holds out targets.OpenSshPublic meaning test = short_holds (line_of (public_key meaning)) test
 room_holds out targets.PuttyPublic meaning test =
@@ -210,7 +210,7 @@ room_holds out targets.PuttyPublic meaning test =
     (short_holds blob parts.0, short_holds text parts.1)
 
 room_test : (out : Output) (target : KeyTarget) (meaning : Meaning) → HasRoom out target meaning → has_room out target meaning ≡ true
-room_test out targets.OpenSsh meaning holds = openssh_room_test out meaning.key meaning.comment holds
+room_test out (targets.OpenSsh rounds) meaning holds = openssh_room_test out rounds meaning.key meaning.comment holds
 room_test out (targets.Ppk version config layout) meaning holds = ppk_room_test out version config layout meaning.key meaning.comment holds
 room_test out targets.OpenSshPublic meaning holds = short_test (line_of (public_key meaning)) holds
 room_test out targets.PuttyPublic meaning holds =
@@ -237,13 +237,13 @@ file_lines_test out version config layout (keys.Private key) holds =
 file_lines_test out version config layout (keys.Public key) holds = refl
 
 lines_hold : (out : Output) (target : KeyTarget) (key : Key) → has_lines out target key ≡ true → HasLines out target key
-lines_hold out targets.OpenSsh key test = tt
+lines_hold out (targets.OpenSsh rounds) key test = tt
 lines_hold out (targets.Ppk version config layout) key test = file_lines_hold out version config layout key test
 lines_hold out targets.OpenSshPublic key test = tt
 lines_hold out targets.PuttyPublic key test = tt
 
 lines_test : (out : Output) (target : KeyTarget) (key : Key) → HasLines out target key → has_lines out target key ≡ true
-lines_test out targets.OpenSsh key holds = refl
+lines_test out (targets.OpenSsh rounds) key holds = refl
 lines_test out (targets.Ppk version config layout) key holds = file_lines_test out version config layout key holds
 lines_test out targets.OpenSshPublic key holds = refl
 lines_test out targets.PuttyPublic key holds = refl

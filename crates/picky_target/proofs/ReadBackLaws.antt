@@ -1,5 +1,5 @@
 -- What is written is read back.
-use Rattle.std.proofs.{Common.{ℕ, List, [], refl, sym, subst}, lemmas.List.{append-nil}}
+use Rattle.std.proofs.{Common.{◌<◌, ◌^◌, ℕ, List, [], refl, sym, subst}, lemmas.List.{append-nil}}
 use Rattle.std.specs.{Option.{IfSome}, Str.{IsUtf8}}
 use Rattle.picky_wire_base.specs.Numbers.{IsBytes}
 use Rattle.picky_suite.specs.Meanings.{Meanings}
@@ -57,12 +57,13 @@ putty_is_read_back m out meaning is carries =
 
 -- ---- private ones
 
-openssh_is_read_back : (m : Meanings) (out : Output) (key : Key) (comment : List ℕ) → IsKeptMeaning (record { key = key; comment = comment })
-    → IsBytes out.fresh → IfSome out.pass IsUtf8 → Carries out targets.OpenSsh (record { key = key; comment = comment })
-    → Reads (under m out.pass) (text_for m out targets.OpenSsh (record { key = key; comment = comment })) (record { key = key; comment = comment })
-openssh_is_read_back m out (keys.Private key) comment is fresh pass carries =
-    envelope_is_read_back m out key comment is.key is.comment fresh pass carries
-openssh_is_read_back m out (keys.Public key) comment is fresh pass carries = absurd (carries.holds PrivateKey)
+openssh_is_read_back : (m : Meanings) (out : Output) (rounds : ℕ) (key : Key) (comment : List ℕ) → rounds < 2 ^ 32
+    → IsKeptMeaning (record { key = key; comment = comment }) → IsBytes out.fresh → IfSome out.pass IsUtf8
+    → Carries out (targets.OpenSsh rounds) (record { key = key; comment = comment })
+    → Reads (under m out.pass) (text_for m out (targets.OpenSsh rounds) (record { key = key; comment = comment })) (record { key = key; comment = comment })
+openssh_is_read_back m out rounds (keys.Private key) comment fit is fresh pass carries =
+    envelope_is_read_back m out rounds key comment fit is.key is.comment fresh pass carries
+openssh_is_read_back m out rounds (keys.Public key) comment fit is fresh pass carries = absurd (carries.holds PrivateKey)
 
 ppk_is_read_back : (m : Meanings) (out : Output) (version : PpkVersionKey) (config : PpkEncryptionConfig) (layout : PpkLayout) (key : Key)
     (comment : List ℕ) → IsConfig config → IsKeptMeaning (record { key = key; comment = comment }) → IsBytes out.fresh
@@ -78,8 +79,8 @@ text_for_is_read_back : (m : Meanings) (out : Output) (target : KeyTarget) (mean
     → IsKeptMeaning meaning
     → IsBytes out.fresh → IfSome out.pass IsUtf8 → Carries out target meaning
     → Reads (under m out.pass) (text_for m out target meaning) (kept target meaning)
-text_for_is_read_back m out targets.OpenSsh meaning ranges is fresh pass carries =
-    openssh_is_read_back m out meaning.key meaning.comment is fresh pass carries
+text_for_is_read_back m out (targets.OpenSsh rounds) meaning ranges is fresh pass carries =
+    openssh_is_read_back m out rounds meaning.key meaning.comment ranges is fresh pass carries
 text_for_is_read_back m out (targets.Ppk version config layout) meaning ranges is fresh pass carries =
     ppk_is_read_back m out version config layout meaning.key meaning.comment ranges is fresh pass carries
 text_for_is_read_back m out targets.OpenSshPublic meaning ranges is fresh pass carries = line_is_read_back m out meaning is carries

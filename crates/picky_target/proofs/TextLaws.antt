@@ -12,14 +12,14 @@ use Rattle.picky_target.specs.Texts.{Spells, text_for}
 
 pub text_spells : (m : Meanings) (out : Output) (target : KeyTarget) (meaning : Meaning)
     → Spells m out target meaning (text_for m out target meaning)
-text_spells m out targets.OpenSsh meaning = refl
+text_spells m out (targets.OpenSsh rounds) meaning = refl
 text_spells m out (targets.Ppk version config layout) meaning = refl
 text_spells m out targets.OpenSshPublic meaning = refl
 text_spells m out targets.PuttyPublic meaning = putty_public_spells (blob_of (public_part meaning.key)) meaning.comment
 
 pub text_only : (m : Meanings) (out : Output) (target : KeyTarget) (meaning : Meaning) (text : List ℕ)
     → Spells m out target meaning text → text ≡ text_for m out target meaning
-text_only m out targets.OpenSsh meaning text spells = spells
+text_only m out (targets.OpenSsh rounds) meaning text spells = spells
 text_only m out (targets.Ppk version config layout) meaning text spells = spells
 text_only m out targets.OpenSshPublic meaning text spells = spells
 text_only m out targets.PuttyPublic meaning text spells =

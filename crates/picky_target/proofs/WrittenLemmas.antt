@@ -74,19 +74,19 @@ meaning_is meaning key comment key_is comment_is =
     ap (λ c. record { key = keys.Private key; comment = c }) comment_is
     ∙ ap (λ k. record { key = k; comment = meaning.comment }) k
 
-pub written_openssh : (m : Meanings) (pass : Option (List ℕ)) (fresh : List ℕ) (target : KeyTarget) (meaning : Meaning)
-    (key : SshBasePrivateKey) (comment : List ℕ) → target ≡ targets.OpenSsh → meaning.key ≡ keys.Private key
-    → comment ≡ meaning.comment
+pub written_openssh : (m : Meanings) (pass : Option (List ℕ)) (fresh : List ℕ) (target : KeyTarget) (rounds : ℕ)
+    (meaning : Meaning) (key : SshBasePrivateKey) (comment : List ℕ) → target ≡ targets.OpenSsh rounds
+    → meaning.key ≡ keys.Private key → comment ≡ meaning.comment
     → IsWrittenAs m (record { pass = pass; fresh = fresh }) target meaning
-    (envelope_written m (record { pass = pass; fresh = fresh }) key comment)
-    (envelope_asks (record { pass = pass; fresh = fresh }) key comment) (errors.Private private.SuiteFault)
-written_openssh m pass fresh target meaning key comment target_is key_is comment_is =
+    (envelope_written m (record { pass = pass; fresh = fresh }) rounds key comment)
+    (envelope_asks (record { pass = pass; fresh = fresh }) rounds key comment) (errors.Private private.SuiteFault)
+written_openssh m pass fresh target rounds meaning key comment target_is key_is comment_is =
     let out : Output = record { pass = pass; fresh = fresh } in
-    let says = envelope_written m out key comment in
-    let asks = envelope_asks out key comment in
-    let both = envelope_is_written m pass fresh key comment in
+    let says = envelope_written m out rounds key comment in
+    let asks = envelope_asks out rounds key comment in
+    let both = envelope_is_written m pass fresh rounds key comment in
     subst (λ t. IsWrittenAs m out t meaning says asks (errors.Private private.SuiteFault)) (sym target_is)
-    (subst (λ p. IsWrittenAs m out targets.OpenSsh p says asks (errors.Private private.SuiteFault))
+    (subst (λ p. IsWrittenAs m out (targets.OpenSsh rounds) p says asks (errors.Private private.SuiteFault))
     (meaning_is meaning key comment key_is comment_is)
     (record { says_is = both.0; asks_is = both.1; fault_is = refl }))
 
@@ -108,10 +108,11 @@ written_ppk m pass fresh target version config layout meaning key comment target
 
 -- ---- no private key
 
-pub openssh_wants_private : (m : Meanings) (out : Output) (target : KeyTarget) (meaning : Meaning) (key : SshBasePublicKey)
-    → target ≡ targets.OpenSsh → meaning.key ≡ keys.Public key → written m out target meaning ≡ Err errors.NoPrivateKey
+pub openssh_wants_private : (m : Meanings) (out : Output) (target : KeyTarget) (rounds : ℕ) (meaning : Meaning)
+    (key : SshBasePublicKey) → target ≡ targets.OpenSsh rounds → meaning.key ≡ keys.Public key
+    → written m out target meaning ≡ Err errors.NoPrivateKey
 unfolding written judged_meaning
-openssh_wants_private m out target meaning key target_is key_is = rw (target_is, key_is) refl
+openssh_wants_private m out target rounds meaning key target_is key_is = rw (target_is, key_is) refl
 
 pub ppk_wants_private : (m : Meanings) (out : Output) (target : KeyTarget) (version : PpkVersionKey) (config : PpkEncryptionConfig) (layout : PpkLayout)
     (meaning : Meaning) (key : SshBasePublicKey) → target ≡ targets.Ppk version config layout → meaning.key ≡ keys.Public key

@@ -49,7 +49,7 @@ IsPrivate (keys.Public key) = ⊥
 
 -- the target keeps the secret
 abbrev pub HasNeededSecret : KeyTarget → Key → Type 0
-HasNeededSecret targets.OpenSsh key = IsPrivate key
+HasNeededSecret (targets.OpenSsh rounds) key = IsPrivate key
 HasNeededSecret (targets.Ppk version config layout) key = IsPrivate key
 HasNeededSecret targets.OpenSshPublic key = Unit {0}
 HasNeededSecret targets.PuttyPublic key = Unit {0}
@@ -57,7 +57,7 @@ HasNeededSecret targets.PuttyPublic key = Unit {0}
 -- ---- the kind: PuTTY has no key whose secret a device keeps
 
 abbrev pub HasKind : KeyTarget → Key → Type 0
-HasKind targets.OpenSsh key = Unit {0}
+HasKind (targets.OpenSsh rounds) key = Unit {0}
 HasKind (targets.Ppk version config layout) key = is_security_key (public_part key) ≡ false
 HasKind targets.OpenSshPublic key = Unit {0}
 HasKind targets.PuttyPublic key = is_security_key (public_part key) ≡ false
@@ -72,7 +72,7 @@ pub record LineCarries (comment : List ℕ) : Type 0 where
 
 -- OpenSSH's private key drops white space at the comment's end, and PuTTY's lines end a comment
 abbrev pub CarriesComment : KeyTarget → List ℕ → Type 0
-CarriesComment targets.OpenSsh comment = trim_end comment ≡ comment
+CarriesComment (targets.OpenSsh rounds) comment = trim_end comment ≡ comment
 CarriesComment (targets.Ppk version config layout) comment = IsLine (line_end_of version) comment
 CarriesComment targets.OpenSshPublic comment = LineCarries comment
 CarriesComment targets.PuttyPublic comment = HasNo 10 comment
@@ -80,7 +80,7 @@ CarriesComment targets.PuttyPublic comment = HasNo 10 comment
 -- ---- the keys that seal
 
 abbrev pub DerivesUnder : KeyTarget → List ℕ → Type 0
-DerivesUnder targets.OpenSsh pass = BcryptOk (length pass) 16 16
+DerivesUnder (targets.OpenSsh rounds) pass = BcryptOk (length pass) 16 rounds
 DerivesUnder (targets.Ppk V2 config layout) pass = Unit {0}
 DerivesUnder (targets.Ppk V3 config layout) pass =
     Argon2Ok config.argon2_memory config.argon2_passes config.argon2_parallelism (length pass) config.argon2_salt_size
@@ -95,7 +95,7 @@ Derives target (Some pass) = DerivesUnder target pass
 
 -- how many sealing takes: OpenSSH's salt; PuTTY's salt in version 3, and the padding of its layout
 abbrev pub need_of : KeyTarget → SshBasePrivateKey → ℕ
-need_of targets.OpenSsh key = 16
+need_of (targets.OpenSsh rounds) key = 16
 need_of (targets.Ppk version config layout) key = salt_len version config + key_padding_len layout key
 need_of targets.OpenSshPublic key = 0
 need_of targets.PuttyPublic key = 0
@@ -123,7 +123,8 @@ HasSecretRoom out version config layout (keys.Public key) comment = Unit {0}
 
 -- the text, whatever a suite's calls mean, and PuTTY's blob
 abbrev pub HasRoom : Output → KeyTarget → Meaning → Type 0
-HasRoom out targets.OpenSsh meaning = (m : Meanings) → length (text_for m out targets.OpenSsh meaning) < 2 ^ 32
+HasRoom out (targets.OpenSsh rounds) meaning =
+    (m : Meanings) → length (text_for m out (targets.OpenSsh rounds) meaning) < 2 ^ 32
 HasRoom out (targets.Ppk version config layout) meaning = HasSecretRoom out version config layout meaning.key meaning.comment
 HasRoom out targets.OpenSshPublic meaning = length (line_of (public_key meaning)) < 2 ^ 32
 HasRoom out targets.PuttyPublic meaning =
@@ -138,7 +139,7 @@ HasFileLines out version config layout (keys.Private key) =
 HasFileLines out version config layout (keys.Public key) = Unit {0}
 
 abbrev pub HasLines : Output → KeyTarget → Key → Type 0
-HasLines out targets.OpenSsh key = Unit {0}
+HasLines out (targets.OpenSsh rounds) key = Unit {0}
 HasLines out (targets.Ppk version config layout) key = HasFileLines out version config layout key
 HasLines out targets.OpenSshPublic key = Unit {0}
 HasLines out targets.PuttyPublic key = Unit {0}

@@ -20,9 +20,18 @@ use Rattle.picky_ppk.specs.PpkLayout.{laid_secret}
 use Rattle.picky_ppk.specs.Sealed.{file_to_seal, lacking, seal_draft}
 use Rattle.picky_target.specs.Output.{Output}
 
--- OpenSSH's key, with the check number 0 and, where there is a passphrase, a salt of 16 fresh bytes and 16 rounds
-abbrev pub openssh_key : Output → SshBasePrivateKey → (comment : List ℕ) → SshPrivateKey
-openssh_key out key comment = made_of key out.pass comment (take 16 out.fresh)
+-- bcrypt's rounds where a caller names none
+abbrev pub default_rounds : ℕ
+default_rounds = 16
+
+-- a key that says these rounds; they are written where it is sealed
+abbrev pub with_rounds : (rounds : ℕ) → SshPrivateKey → SshPrivateKey
+with_rounds rounds key =
+    record key { kdf = record { name = key.kdf.name; option = record { salt = key.kdf.option.salt; rounds = rounds } } }
+
+-- OpenSSH's key, with the check number 0 and, where there is a passphrase, a salt of 16 fresh bytes and the rounds
+abbrev pub openssh_key : Output → (rounds : ℕ) → SshBasePrivateKey → (comment : List ℕ) → SshPrivateKey
+openssh_key out rounds key comment = with_rounds rounds (made_of key out.pass comment (take 16 out.fresh))
 
 -- ---- PuTTY's file
 

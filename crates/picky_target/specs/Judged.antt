@@ -47,13 +47,13 @@ is_private (keys.Private key) = true
 is_private (keys.Public key) = false
 
 abbrev pub has_needed_secret : KeyTarget → Key → Bool
-has_needed_secret targets.OpenSsh key = is_private key
+has_needed_secret (targets.OpenSsh rounds) key = is_private key
 has_needed_secret (targets.Ppk version config layout) key = is_private key
 has_needed_secret targets.OpenSshPublic key = true
 has_needed_secret targets.PuttyPublic key = true
 
 abbrev pub has_kind : KeyTarget → Key → Bool
-has_kind targets.OpenSsh key = true
+has_kind (targets.OpenSsh rounds) key = true
 has_kind (targets.Ppk version config layout) key = not (is_security_key (public_part key))
 has_kind targets.OpenSshPublic key = true
 has_kind targets.PuttyPublic key = not (is_security_key (public_part key))
@@ -68,14 +68,14 @@ abbrev pub is_trimmed : List ℕ → Bool
 is_trimmed comment = bytes_eq (trim_end comment) comment
 
 abbrev pub carries_comment : KeyTarget → List ℕ → Bool
-carries_comment targets.OpenSsh comment = is_trimmed comment
+carries_comment (targets.OpenSsh rounds) comment = is_trimmed comment
 carries_comment (targets.Ppk V2 config layout) comment = not (has_lf comment)
 carries_comment (targets.Ppk V3 config layout) comment = not (has_lf comment) && not (ends_in_cr comment)
 carries_comment targets.OpenSshPublic comment = not (list_any ends_line comment) && is_trimmed comment
 carries_comment targets.PuttyPublic comment = not (has_lf comment)
 
 abbrev pub derives_under : KeyTarget → List ℕ → Bool
-derives_under targets.OpenSsh pass = bcrypt_fits (length pass) 16 16
+derives_under (targets.OpenSsh rounds) pass = bcrypt_fits (length pass) 16 rounds
 derives_under (targets.Ppk version config layout) pass = can_derive_by version config pass
 derives_under targets.OpenSshPublic pass = true
 derives_under targets.PuttyPublic pass = true
@@ -109,7 +109,7 @@ measured_file out version config layout key comment = record {
 }
 
 abbrev pub secret_has_room : Output → KeyTarget → SshBasePrivateKey → (comment : List ℕ) → Bool
-secret_has_room out targets.OpenSsh key comment = is_short_envelope (openssh_key out key comment)
+secret_has_room out (targets.OpenSsh rounds) key comment = is_short_envelope (openssh_key out rounds key comment)
 secret_has_room out (targets.Ppk version config layout) key comment =
     is_short (blob_of (public_part_of key)) && is_short (private_bytes out version config layout key)
     && is_short (file_text (measured_file out version config layout key comment))
@@ -121,7 +121,7 @@ key_has_room out target (keys.Private key) comment = secret_has_room out target 
 key_has_room out target (keys.Public key) comment = true
 
 abbrev pub has_room : Output → KeyTarget → Meaning → Bool
-has_room out targets.OpenSsh meaning = key_has_room out targets.OpenSsh meaning.key meaning.comment
+has_room out (targets.OpenSsh rounds) meaning = key_has_room out (targets.OpenSsh rounds) meaning.key meaning.comment
 has_room out (targets.Ppk version config layout) meaning =
     key_has_room out (targets.Ppk version config layout) meaning.key meaning.comment
 has_room out targets.OpenSshPublic meaning = is_short (line_of (public_key meaning))
@@ -135,7 +135,7 @@ file_has_lines out version config layout (keys.Private key) =
 file_has_lines out version config layout (keys.Public key) = true
 
 abbrev pub has_lines : Output → KeyTarget → Key → Bool
-has_lines out targets.OpenSsh key = true
+has_lines out (targets.OpenSsh rounds) key = true
 has_lines out (targets.Ppk version config layout) key = file_has_lines out version config layout key
 has_lines out targets.OpenSshPublic key = true
 has_lines out targets.PuttyPublic key = true
@@ -153,7 +153,7 @@ passes out target meaning Lines = has_lines out target meaning.key
 
 -- PuTTY's keys are derived by Argon2, and OpenSSH's by bcrypt
 abbrev pub not_derived : KeyTarget → ConvertError
-not_derived targets.OpenSsh = errors.Private private.HashingError
+not_derived (targets.OpenSsh rounds) = errors.Private private.HashingError
 not_derived target = errors.Putty putty.Argon2
 
 abbrev pub place_refusal : KeyTarget → Place → ConvertError

@@ -10,7 +10,7 @@ use Rattle.picky_target.specs.declared.target.KeyTarget.TheVariants as targets
 
 -- a public target keeps the public part
 abbrev pub kept : KeyTarget → Meaning → Meaning
-kept targets.OpenSsh meaning = meaning
+kept (targets.OpenSsh rounds) meaning = meaning
 kept (targets.Ppk version config layout) meaning = meaning
 kept targets.OpenSshPublic meaning = public_meaning (public_key meaning)
 kept targets.PuttyPublic meaning = public_meaning (public_key meaning)
@@ -27,7 +27,7 @@ pub record IsConfig (config : PpkEncryptionConfig) : Type 0 where
 
 -- so has each of a target
 abbrev pub IsTarget : KeyTarget → Type 0
-IsTarget targets.OpenSsh = Unit {0}
+IsTarget (targets.OpenSsh rounds) = rounds < 2 ^ 32
 IsTarget (targets.Ppk version config layout) = IsConfig config
 IsTarget targets.OpenSshPublic = Unit {0}
 IsTarget targets.PuttyPublic = Unit {0}

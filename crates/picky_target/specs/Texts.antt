@@ -24,7 +24,7 @@ envelope_text m key = pem_text (content_under m key (lock_kept key.passphrase))
 
 -- the text of a private key; a public target has none
 abbrev pub private_text : Meanings → Output → KeyTarget → SshBasePrivateKey → (comment : List ℕ) → List ℕ
-private_text m out targets.OpenSsh key comment = envelope_text m (openssh_key out key comment)
+private_text m out (targets.OpenSsh rounds) key comment = envelope_text m (openssh_key out rounds key comment)
 private_text m out (targets.Ppk version config layout) key comment = file_text (ppk_file m out version config layout key comment)
 private_text m out targets.OpenSshPublic key comment = []
 private_text m out targets.PuttyPublic key comment = []
@@ -36,7 +36,7 @@ text_of_secret m out target (keys.Public key) comment = []
 
 -- the text spells the key, or its public part where the target is a public one, and the comment
 abbrev pub Spells : Meanings → Output → KeyTarget → Meaning → List ℕ → Type 0
-Spells m out targets.OpenSsh meaning text = text ≡ text_of_secret m out targets.OpenSsh meaning.key meaning.comment
+Spells m out (targets.OpenSsh rounds) meaning text = text ≡ text_of_secret m out (targets.OpenSsh rounds) meaning.key meaning.comment
 Spells m out (targets.Ppk version config layout) meaning text =
     text ≡ text_of_secret m out (targets.Ppk version config layout) meaning.key meaning.comment
 Spells m out targets.OpenSshPublic meaning text = text ≡ line_of (public_key meaning)
@@ -45,7 +45,7 @@ Spells m out targets.PuttyPublic meaning text =
 
 -- the same, as a function
 abbrev pub text_for : Meanings → Output → KeyTarget → Meaning → List ℕ
-text_for m out targets.OpenSsh meaning = text_of_secret m out targets.OpenSsh meaning.key meaning.comment
+text_for m out (targets.OpenSsh rounds) meaning = text_of_secret m out (targets.OpenSsh rounds) meaning.key meaning.comment
 text_for m out (targets.Ppk version config layout) meaning =
     text_of_secret m out (targets.Ppk version config layout) meaning.key meaning.comment
 text_for m out targets.OpenSshPublic meaning = line_of (public_key meaning)

@@ -19,7 +19,7 @@ written m out target meaning = and_then (judged_meaning out target meaning) (λ 
 
 -- the target keeps the secret; what it writes is sealed where there is a passphrase
 abbrev pub keeps_secret : KeyTarget → Bool
-keeps_secret targets.OpenSsh = true
+keeps_secret (targets.OpenSsh rounds) = true
 keeps_secret (targets.Ppk version config layout) = true
 keeps_secret targets.OpenSshPublic = false
 keeps_secret targets.PuttyPublic = false
@@ -33,5 +33,5 @@ writing_asks out target meaning = target_is_sealed out target && is_ok (judged_m
 
 -- the suite's fault, in the words of the target; public targets ask none
 abbrev pub target_fault : KeyTarget → ConvertError
-target_fault targets.OpenSsh = errors.Private private.SuiteFault
+target_fault (targets.OpenSsh rounds) = errors.Private private.SuiteFault
 target_fault target = errors.Putty putty.SuiteFault

@@ -15,7 +15,7 @@ pub fn carries_comment(target: KeyTarget, comment: &str) -> bool
     ensures { result ≡ carries_comment_of target comment.now }
 {
     match target {
-        KeyTarget::OpenSsh => is_trimmed(comment),
+        KeyTarget::OpenSsh(_) => is_trimmed(comment),
         KeyTarget::Ppk(PpkVersion::V2, _, _) => !has_lf(comment),
         KeyTarget::Ppk(PpkVersion::V3, _, _) => !has_lf(comment) && !ends_in_cr(comment),
         KeyTarget::OpenSshPublic => !has_line_end(comment) && is_trimmed(comment),

@@ -7,6 +7,7 @@ ghost use Rattle.picky_wire.specs.Count.{Rose};
 ghost use Rattle.picky_wire_base.specs.Gives.{Gives};
 ghost use Rattle.picky_sshkey.specs.Made.{made_option};
 ghost use Rattle.picky_sshkey.specs.Written.{text_writing_asks};
+ghost use Rattle.picky_target.specs.Drafts.{with_rounds as with_rounds_of};
 ghost use Rattle.picky_target.specs.inner.Envelope.{salt_judged, envelope_output_refusal};
 ghost use Rattle.picky_target.specs.inner.Envelope.{made as made_of, envelope_drafted as drafted_of};
 ghost use Rattle.picky_target.specs.inner.Envelope.{text_of_key as text_of_key_of, envelope_written, envelope_asks};
@@ -22,30 +23,28 @@ use std::alloc::Global;
 /// How many fresh bytes a salt takes.
 const SALT_LEN: usize = 16;
 
-/// How often bcrypt is run.
-const ROUNDS: u32 = 16;
-
 /// OpenSSH's text of a key and a comment, sealed where there is a passphrase.
 /// Refuses as `write_text` for `OpenSsh` and a private key.
 #[tactic(auto, using(crate::proofs::EnvelopeLemmas::drafted_no_fault))]
 pub fn write_envelope<S: Suite>(
     alloc: Global,
     suite: &mut S,
+    rounds: u32,
     key: SshBasePrivateKey,
     comment: &str,
     pass: Option<&str>,
     fresh: &[u8],
 ) -> Result<Text, ConvertError>
     ensures gives { GivesAsked ConvertError.NoMemory (ConvertError.Private SshPrivateKeyError.SuiteFault) (λ text. text) result
-        (envelope_written (S.meanings suite.old) (record { pass = option_copied pass.entry; fresh = fresh.now }) key comment.now)
-        (envelope_asks (record { pass = option_copied pass.entry; fresh = fresh.now }) key comment.now)
+        (envelope_written (S.meanings suite.old) (record { pass = option_copied pass.entry; fresh = fresh.now }) rounds key comment.now)
+        (envelope_asks (record { pass = option_copied pass.entry; fresh = fresh.now }) rounds key comment.now)
         (Rose (S.faults suite.old) (S.faults suite.new)) }
     ensures suite { LeavesSuite S.meanings S.faults (ConvertError.Private SshPrivateKeyError.SuiteFault)
-        (envelope_asks (record { pass = option_copied pass.entry; fresh = fresh.now }) key comment.now) result
+        (envelope_asks (record { pass = option_copied pass.entry; fresh = fresh.now }) rounds key comment.now) result
         suite.old suite.new }
     ensures asked { IsAskedAtMost 2 S.calls suite.old suite.new }
 {
-    match drafted(alloc, key, comment, pass, fresh) {
+    match drafted(alloc, rounds, key, comment, pass, fresh) {
         Ok(key) => {
             let text = text_of_key(alloc, suite, &key);
             drop(key);
@@ -59,20 +58,21 @@ pub fn write_envelope<S: Suite>(
 /// `FreshTooShort`; `TooLong`.
 fn drafted(
     alloc: Global,
+    rounds: u32,
     key: SshBasePrivateKey,
     comment: &str,
     pass: Option<&str>,
     fresh: &[u8],
 ) -> Result<SshPrivateKey, ConvertError>
     ensures { Gives ConvertError.NoMemory (λ key. key) result
-        (drafted_of (record { pass = option_copied pass.entry; fresh = fresh.now }) key comment.now) }
+        (drafted_of (record { pass = option_copied pass.entry; fresh = fresh.now }) rounds key comment.now) }
 {
-    if !carries_comment(KeyTarget::OpenSsh, comment) {
+    if !carries_comment(KeyTarget::OpenSsh(rounds), comment) {
         drop(key);
         return Err(ConvertError::CommentNotCarried);
     }
-    match salt_under(pass, fresh) {
-        Ok(salt) => made(alloc, key, comment, pass, &salt),
+    match salt_under(rounds, pass, fresh) {
+        Ok(salt) => made(alloc, rounds, key, comment, pass, &salt),
         Err(e) => {
             drop(key);
             Err(e)
@@ -82,15 +82,15 @@ fn drafted(
 
 /// The salt of an envelope; one that isn't sealed has none, whatever it is given. Refuses, in order: `Private(HashingError)`,
 /// `FreshTooShort`.
-fn salt_under(pass: Option<&str>, fresh: &[u8]) -> Result<[u8; SALT_LEN], ConvertError>
-    ensures ok { IfOk result (λ salt. (salt_judged (option_copied pass.entry) fresh.now ≡ Ok tt)
+fn salt_under(rounds: u32, pass: Option<&str>, fresh: &[u8]) -> Result<[u8; SALT_LEN], ConvertError>
+    ensures ok { IfOk result (λ salt. (salt_judged rounds (option_copied pass.entry) fresh.now ≡ Ok tt)
         × (made_option (option_copied pass.entry) salt ≡ made_option (option_copied pass.entry) (take 16 fresh.now))) }
-    ensures err { IfErr result (λ e. salt_judged (option_copied pass.entry) fresh.now ≡ Err e) }
+    ensures err { IfErr result (λ e. salt_judged rounds (option_copied pass.entry) fresh.now ≡ Err e) }
 {
     let mut salt = [0; SALT_LEN];
     match pass {
         Some(pass) => {
-            if !bcrypt_ok(pass.len(), SALT_LEN, ROUNDS) {
+            if !bcrypt_ok(pass.len(), SALT_LEN, rounds) {
                 return Err(ConvertError::Private(SshPrivateKeyError::HashingError));
             }
             if fresh.len() < SALT_LEN {
@@ -107,18 +107,28 @@ fn salt_under(pass: Option<&str>, fresh: &[u8]) -> Result<[u8; SALT_LEN], Conver
 /// The key of these parts. Refuses, in order: `TooLong`.
 fn made(
     alloc: Global,
+    rounds: u32,
     key: SshBasePrivateKey,
     comment: &str,
     pass: Option<&str>,
     salt: &[u8; SALT_LEN],
 ) -> Result<SshPrivateKey, ConvertError>
     ensures { Gives ConvertError.NoMemory (λ key. key) result
-        (made_of (option_copied pass.entry) key comment.now salt.now) }
+        (made_of rounds (option_copied pass.entry) key comment.now salt.now) }
 {
     match SshPrivateKey::from_base(alloc, key, pass, comment, salt) {
-        Ok(key) => Ok(key),
+        Ok(key) => Ok(with_rounds(key, rounds)),
         Err(e) => Err(envelope_refusal(e)),
     }
+}
+
+/// The key with these rounds.
+fn with_rounds(key: SshPrivateKey, rounds: u32) -> SshPrivateKey
+    ensures { result ≡ with_rounds_of rounds key }
+{
+    let mut key = key;
+    key.kdf.option.rounds = rounds;
+    key
 }
 
 /// The text of a key, sealed where it has a passphrase.

@@ -15,5 +15,5 @@ mod writing;
 
 pub use comment::carries_comment;
 pub use error::ConvertError;
-pub use target::KeyTarget;
+pub use target::{DEFAULT_ROUNDS, KeyTarget};
 pub use writing::write_text;

@@ -21,8 +21,8 @@ use std::alloc::Global;
 /// `OpenSsh` and `Ppk` are sealed where there is a passphrase, an empty one too, with the first of the fresh bytes: a salt of
 /// 16 for `OpenSsh`; for `Ppk` in version 3 a salt as long as the configuration says, and then in both versions a padding of
 /// 0 to 15, as what the layout has lacks. Refuses, in order: `NoPrivateKey`; `Putty(NotSupported)`, where PuTTY has no such key; `CommentNotCarried`;
-/// where it is sealed `Private(HashingError)` for a passphrase that bcrypt can't be run with, `Putty(Argon2)` where Argon2
-/// can't, and `FreshTooShort`; `TooLong`; `TooManyLines`, where a block of a `Ppk` has more than 3,145,680 bytes; where it is
+/// where it is sealed `Private(HashingError)` for a passphrase or rounds that bcrypt can't be run with, `Putty(Argon2)` where
+/// Argon2 can't, and `FreshTooShort`; `TooLong`; `TooManyLines`, where a block of a `Ppk` has more than 3,145,680 bytes; where it is
 /// sealed `Private(SuiteFault)` or `Putty(SuiteFault)`.
 pub fn write_text<S: Suite>(
     alloc: Global,
@@ -41,11 +41,11 @@ pub fn write_text<S: Suite>(
     ensures asked { IsAskedAtMost 2 S.calls suite.old suite.new }
 {
     match target {
-        KeyTarget::OpenSsh => {
+        KeyTarget::OpenSsh(rounds) => {
             let Meaning { key, comment } = meaning;
             match key {
                 Key::Private(key) => {
-                    write_envelope(alloc, suite, key, comment.as_str(), pass, fresh)
+                    write_envelope(alloc, suite, rounds, key, comment.as_str(), pass, fresh)
                 }
                 Key::Public(key) => {
                     drop(key);

@@ -9,8 +9,8 @@ use Rattle.picky_target.proofs.envelope.drafted.Goals as goal
 
 pub returns-in-Ok : goal.returns-in-Ok
 returns-in-Ok c =
-    let carries : carries_comment targets.OpenSsh c.args.comment.now ≡ true = cc (c.if-not-carries_comment.ensures) in
+    let carries : carries_comment (targets.OpenSsh c.args.rounds) c.args.comment.now ≡ true = cc (c.if-not-carries_comment.ensures) in
     subst (Gives errors.NoMemory (λ key. key) c.made.result)
-    (drafted_is (record { pass = option_copied c.args.pass; fresh = c.args.fresh.now }) c.args.key c.args.comment.now c.in-Ok.salt carries
+    (drafted_is (record { pass = option_copied c.args.pass; fresh = c.args.fresh.now }) c.args.rounds c.args.key c.args.comment.now c.in-Ok.salt carries
     c.in-Ok.ensures.ok.0 c.in-Ok.ensures.ok.1)
     c.made.ensures

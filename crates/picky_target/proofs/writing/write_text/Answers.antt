@@ -8,18 +8,18 @@ use Rattle.picky_target.proofs.writing.write_text.Goals as goal
 
 pub returns-in-Private-clause-gives : goal.returns-in-Private-clause-gives
 returns-in-Private-clause-gives g c =
-    let is = written_openssh (g.S.Suite.meanings c.args.suite.now) (option_copied c.args.pass) c.args.fresh.now c.args.target c.args.meaning
-    c.in-Private.key c.as_str.result.now c.in-OpenSsh.is c.in-Private.is c.as_str.ensures.bytes in
+    let is = written_openssh (g.S.Suite.meanings c.args.suite.now) (option_copied c.args.pass) c.args.fresh.now c.args.target c.in-OpenSsh.rounds
+    c.args.meaning c.in-Private.key c.as_str.result.now c.in-OpenSsh.is c.in-Private.is c.as_str.ensures.bytes in
     gives_as _ _ _ _ _ _ _ errors.NoMemory (λ text. text) c.write_envelope.result _ is c.write_envelope.ensures.gives
 
 pub returns-in-Private-clause-suite : goal.returns-in-Private-clause-suite
 returns-in-Private-clause-suite g c =
-    let is = written_openssh (g.S.Suite.meanings c.args.suite.now) (option_copied c.args.pass) c.args.fresh.now c.args.target c.args.meaning
-    c.in-Private.key c.as_str.result.now c.in-OpenSsh.is c.in-Private.is c.as_str.ensures.bytes in
+    let is = written_openssh (g.S.Suite.meanings c.args.suite.now) (option_copied c.args.pass) c.args.fresh.now c.args.target c.in-OpenSsh.rounds
+    c.args.meaning c.in-Private.key c.as_str.result.now c.in-OpenSsh.is c.in-Private.is c.as_str.ensures.bytes in
     leaves_as _ _ _ _ _ _ _ _ _ c.write_envelope.result _ _ is c.write_envelope.ensures.suite
 
 pub returns-in-OpenSsh-clause-gives : goal.returns-in-OpenSsh-clause-gives
-returns-in-OpenSsh-clause-gives g c = inr (inr (openssh_wants_private _ _ _ _ c.in-Public.key c.in-OpenSsh.is c.in-Public.is))
+returns-in-OpenSsh-clause-gives g c = inr (inr (openssh_wants_private _ _ _ c.in-OpenSsh.rounds _ c.in-Public.key c.in-OpenSsh.is c.in-Public.is))
 
 pub returns-in-Private-key-clause-gives : goal.returns-in-Private-key-clause-gives
 returns-in-Private-key-clause-gives g c =
