@@ -46,7 +46,7 @@ pub input_fault_is : (input : List ℕ) → IsReadFault (input_fault input)
 input_fault_is input = form_fault (form_of input)
 
 pub output_fault_is : (target : KeyTarget) → IsFault (target_fault target)
-output_fault_is targets.OpenSsh = refl
+output_fault_is (targets.OpenSsh rounds) = refl
 output_fault_is (targets.Ppk version config layout) = refl
 output_fault_is targets.OpenSshPublic = refl
 output_fault_is targets.PuttyPublic = refl

@@ -29,7 +29,7 @@ place_is_own : (to : KeyTarget) (place : Place) → IsOwnConvert (place_refusal 
 place_is_own to PrivateKey = (λ want. cc want, λ fault. fault, λ fault. fault)
 place_is_own to Kind = (neither (λ is. cc is) (λ is. cc is), λ is. cc is, λ fault. fault)
 place_is_own to Comment = (λ want. cc want, λ fault. fault, λ fault. fault)
-place_is_own targets.OpenSsh Derivation = (neither (λ is. cc is) (λ is. cc is), λ is. cc is, λ fault. fault)
+place_is_own (targets.OpenSsh rounds) Derivation = (neither (λ is. cc is) (λ is. cc is), λ is. cc is, λ fault. fault)
 place_is_own (targets.Ppk version config layout) Derivation = (neither (λ is. cc is) (λ is. cc is), λ is. cc is, λ fault. fault)
 place_is_own targets.OpenSshPublic Derivation = (neither (λ is. cc is) (λ is. cc is), λ is. cc is, λ fault. fault)
 place_is_own targets.PuttyPublic Derivation = (neither (λ is. cc is) (λ is. cc is), λ is. cc is, λ fault. fault)

@@ -77,13 +77,13 @@ public_meaning_is_kept : (m : Meaning) → IsKeptMeaning m → IsKeptMeaning (pu
 public_meaning_is_kept m is = record { key = key_is_kept m.key is.key; comment = is.comment }
 
 kept_is_kept : (to : KeyTarget) (m : Meaning) → IsKeptMeaning m → IsKeptMeaning (kept to m)
-kept_is_kept targets.OpenSsh m is = is
+kept_is_kept (targets.OpenSsh rounds) m is = is
 kept_is_kept (targets.Ppk version config layout) m is = is
 kept_is_kept targets.OpenSshPublic m is = public_meaning_is_kept m is
 kept_is_kept targets.PuttyPublic m is = public_meaning_is_kept m is
 
 kept_is_public : (to : KeyTarget) (m : Meaning) → public_key (kept to m) ≡ public_key m
-kept_is_public targets.OpenSsh m = refl
+kept_is_public (targets.OpenSsh rounds) m = refl
 kept_is_public (targets.Ppk version config layout) m = refl
 kept_is_public targets.OpenSshPublic m = refl
 kept_is_public targets.PuttyPublic m = refl
@@ -132,7 +132,7 @@ steps_keep signs o (step ∷ more) from to key before (next, wrote, after) =
     (record { pass_in = tt; pass = step.pass; fresh = step.fresh }) step.fits before wrote) after
 
 kept_alike : (to : KeyTarget) (m n : Meaning) → keeps_secret to ≡ false → public_key m ≡ public_key n → kept to m ≡ kept to n
-kept_alike targets.OpenSsh m n public same = cc public
+kept_alike (targets.OpenSsh rounds) m n public same = cc public
 kept_alike (targets.Ppk version config layout) m n public same = cc public
 kept_alike targets.OpenSshPublic m n public same = ap public_meaning same
 kept_alike targets.PuttyPublic m n public same = ap public_meaning same

@@ -39,7 +39,7 @@ no_need_of_public (Some pass) (keys.Public key) = refl
 
 pub judged_kept : (out : Output) (to : KeyTarget) (meaning : Meaning) → judged_meaning out to (kept to meaning) ≡ judged_meaning out to meaning
 unfolding judged_meaning
-judged_kept out targets.OpenSsh meaning = refl
+judged_kept out (targets.OpenSsh rounds) meaning = refl
 judged_kept out (targets.Ppk version config layout) meaning = refl
 judged_kept out targets.OpenSshPublic meaning =
     rw (no_need_of_line out.pass (keys.Public (public_part meaning.key)), no_need_of_line out.pass meaning.key) refl
@@ -48,7 +48,7 @@ judged_kept out targets.PuttyPublic meaning =
 
 pub text_kept : (m : Meanings) (out : Output) (to : KeyTarget) (meaning : Meaning)
     → text_for m out to (kept to meaning) ≡ text_for m out to meaning
-text_kept m out targets.OpenSsh meaning = refl
+text_kept m out (targets.OpenSsh rounds) meaning = refl
 text_kept m out (targets.Ppk version config layout) meaning = refl
 text_kept m out targets.OpenSshPublic meaning = refl
 text_kept m out targets.PuttyPublic meaning = refl
@@ -78,7 +78,7 @@ text_is_kept o to input text given fits utf8 done =
 -- ---- a list of conversions
 
 keeps_all : (to : KeyTarget) (meaning : Meaning) → keeps_secret to ≡ true → kept to meaning ≡ meaning
-keeps_all targets.OpenSsh meaning private = refl
+keeps_all (targets.OpenSsh rounds) meaning private = refl
 keeps_all (targets.Ppk version config layout) meaning private = refl
 keeps_all targets.OpenSshPublic meaning private = cc private
 keeps_all targets.PuttyPublic meaning private = cc private

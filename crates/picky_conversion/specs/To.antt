@@ -9,6 +9,7 @@ use Rattle.picky_target.specs.declared.error.ConvertError.{ConvertError}
 use Rattle.picky_target.specs.declared.target.KeyTarget.{KeyTarget}
 use Rattle.picky_target.specs.declared.target.KeyTarget.TheVariants as keys
 use Rattle.picky_target.specs.Carried.{Carries}
+use Rattle.picky_target.specs.Drafts.{default_rounds}
 use Rattle.picky_target.specs.ReadBack.{IsTarget}
 use Rattle.picky_conversion.specs.declared.request.CertRequest.{CertRequest}
 use Rattle.picky_conversion.specs.Certified.{SignRelation}
@@ -25,9 +26,9 @@ pub data Way : Type 0 where
   Written : KeyTarget → Way
   Certified : CertRequest → Way
 
--- a file for PuTTY has an Ed25519 secret as a number
+-- OpenSSH's private key is sealed with 16 rounds, and a file for PuTTY has an Ed25519 secret as a number
 abbrev pub way_to : Target → Way
-way_to targets.OpenSsh = Written keys.OpenSsh
+way_to targets.OpenSsh = Written (keys.OpenSsh default_rounds)
 way_to (targets.Ppk version config) = Written (keys.Ppk version config layouts.Number)
 way_to targets.OpenSshPublic = Written keys.OpenSshPublic
 way_to targets.PuttyPublic = Written keys.PuttyPublic

@@ -29,7 +29,7 @@ use crate::target::Target;
 use picky_key_text::{ReadError, read_text};
 use picky_ppk::{PpkEncryptionConfig, PpkLayout};
 use picky_suite::{Signer, Suite};
-use picky_target::{ConvertError, KeyTarget, write_text};
+use picky_target::{ConvertError, DEFAULT_ROUNDS, KeyTarget, write_text};
 use picky_wire::{Bytes, NoMemory, Text, TryClone};
 use std::alloc::Global;
 
@@ -112,7 +112,15 @@ pub fn convert_owned<S: Suite, G: Signer>(
     ensures signer_asked { IsAskedAtMost 1 G.calls signer.old signer.new }
 {
     match target {
-        Target::OpenSsh => convert_key(alloc, suite, input, KeyTarget::OpenSsh, given),
+        Target::OpenSsh => {
+            convert_key(
+                alloc,
+                suite,
+                input,
+                KeyTarget::OpenSsh(DEFAULT_ROUNDS),
+                given,
+            )
+        }
         Target::Ppk(version, config) => {
             convert_key(
                 alloc,
@@ -128,7 +136,8 @@ pub fn convert_owned<S: Suite, G: Signer>(
     }
 }
 
-/// The text of a target that no device signs for the key and the comment that a text means: a file for PuTTY in either layout.
+/// The text of a target that no device signs for the key and the comment that a text means: OpenSSH's private key with any rounds,
+/// and a file for PuTTY in either layout.
 ///
 /// Refuses, in order: as `convert` for a target without a request.
 pub fn convert_key_text<S: Suite>(
@@ -284,8 +293,11 @@ fn is_key_target(target: KeyTarget)
     ensures { IsTarget target }
 {
     match target {
+        KeyTarget::OpenSsh(rounds) => {
+            let _ = rounds;
+        }
         KeyTarget::Ppk(_, config, _) => is_config(config),
-        KeyTarget::OpenSsh | KeyTarget::OpenSshPublic | KeyTarget::PuttyPublic => {}
+        KeyTarget::OpenSshPublic | KeyTarget::PuttyPublic => {}
     }
 }
 

@@ -20,5 +20,6 @@ pub use conversion::{
 pub use drafting::write_signed_bytes;
 pub use given::ConversionGiven;
 pub use issuing::{issue, print_signed};
+pub use picky_target::{DEFAULT_ROUNDS, KeyTarget};
 pub use request::CertRequest;
 pub use target::Target;

@@ -8,7 +8,7 @@ use std::alloc::Global;
 /// What a key text is converted to.
 #[derive(Drop)]
 pub enum Target {
-    /// OpenSSH's private key.
+    /// OpenSSH's private key, with 16 of bcrypt's rounds where it is sealed (`picky_target::DEFAULT_ROUNDS`).
     OpenSsh,
     /// PuTTY's private key file, with an Ed25519 secret as a number (`picky_ppk::PpkLayout`), and what Argon2 is run with
     /// where one of version 3 is sealed.

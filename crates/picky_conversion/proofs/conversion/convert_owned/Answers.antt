@@ -3,6 +3,7 @@ use Rattle.std.proofs.Common.{ap}
 use Rattle.picky_wire.specs.Count.{Rose}
 use Rattle.picky_ppk.specs.declared.layout.PpkLayout.TheVariants as layouts
 use Rattle.picky_target.specs.declared.target.KeyTarget.TheVariants as keys
+use Rattle.picky_target.specs.Drafts.{default_rounds}
 use Rattle.picky_conversion.specs.To.{way_to}
 use Rattle.picky_conversion.specs.Outside.{outside}
 use Rattle.picky_conversion.proofs.ToLemmas.{key_converted}
@@ -11,7 +12,7 @@ use Rattle.picky_conversion.proofs.conversion.convert_owned.Goals as goal
 pub returns-in-OpenSsh-clause-gives : goal.returns-in-OpenSsh-clause-gives
 returns-in-OpenSsh-clause-gives g c =
     let o = outside (g.S.Suite.meanings c.args.suite.now) c.args.given in
-    key_converted (g.G.Signer.signs c.args.signer.now) o c.args.target keys.OpenSsh c.args.input.now
+    key_converted (g.G.Signer.signs c.args.signer.now) o c.args.target (keys.OpenSsh default_rounds) c.args.input.now
     (Rose (g.S.Suite.faults c.args.suite.now) (g.S.Suite.faults c.convert_key.new.suite)) _ c.convert_key.result (ap way_to c.in-OpenSsh.is)
     c.convert_key.ensures.gives
 
