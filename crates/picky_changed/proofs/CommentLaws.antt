@@ -53,6 +53,7 @@ use Rattle.picky_key_text.specs.declared.form.Form.TheVariants as forms
 use Rattle.picky_key_text.specs.declared.meaning.Meaning.{Meaning}
 use Rattle.picky_key_text.proofs.KeptLaws.{meaning_is_kept}
 use Rattle.picky_key_text.proofs.PpkLemmas.{taken_file}
+use Rattle.picky_target.specs.Drafts.{default_rounds}
 use Rattle.picky_target.specs.Judged.{carries_comment}
 use Rattle.picky_target.specs.declared.error.ConvertError.TheVariants as errors
 use Rattle.picky_target.specs.declared.target.KeyTarget.TheVariants as targets
@@ -86,7 +87,7 @@ envelope_back : (m : Meanings) (comment text out : List ℕ) → IsBytes text �
 envelope_back m comment text out bytes wire form is =
     let step = and_then_ok (map_err of_private (text_key m None text)) (key_commented m comment) out is in
     let found : text_key m None text ≡ Ok step.0 = map_err_ok of_private (text_key m None text) step.0 step.1 in
-    let carried = chosen (carries_comment targets.OpenSsh comment) _ errors.CommentNotCarried out step.2 in
+    let carried = chosen (carries_comment (targets.OpenSsh default_rounds) comment) _ errors.CommentNotCarried out step.2 in
     let short = chosen (is_short comment) _ errors.TooLong out carried.1 in
     let has : key_text m (record step.0 { comment = comment }) ≡ Ok out =
     map_err_ok private_refusal (key_text m (record step.0 { comment = comment })) out short.1 in
@@ -103,7 +104,7 @@ envelope_back m comment text out bytes wire form is =
     let again : text_key m None out ≡ Ok (read_again (record step.0 { comment = comment })) =
     subst (λ p. text_key m p out ≡ Ok (read_again (record step.0 { comment = comment }))) bare
     (subst (λ t. text_key m step.0.passphrase t ≡ Ok (read_again (record step.0 { comment = comment }))) (append-nil out) back) in
-    let trimmed : trim_end comment ≡ comment = comment_holds targets.OpenSsh comment carried.0 in
+    let trimmed : trim_end comment ≡ comment = comment_holds (targets.OpenSsh default_rounds) comment carried.0 in
     record {
       meaning = envelope_meaning step.0;
       before = read_as m forms.Envelope text (envelope_meaning step.0) form

@@ -29,6 +29,7 @@ use Rattle.picky_key_text.specs.declared.error.ReadError.TheVariants as read
 use Rattle.picky_key_text.specs.declared.form.Form.{Form}
 use Rattle.picky_key_text.specs.declared.form.Form.TheVariants as forms
 use Rattle.picky_key_text.specs.declared.meaning.Meaning.{Meaning}
+use Rattle.picky_target.specs.Drafts.{default_rounds}
 use Rattle.picky_target.specs.Judged.{carries_comment}
 use Rattle.picky_target.specs.declared.error.ConvertError.{ConvertError}
 use Rattle.picky_target.specs.declared.error.ConvertError.TheVariants as errors
@@ -65,7 +66,7 @@ line_refusal e = errors.NoMemory
 -- OpenSSH's private key: its check number stays, too
 abbrev pub key_commented : Meanings → List ℕ → SshPrivateKey → Result (List ℕ) ConvertError
 key_commented m comment key =
-    if carries_comment targets.OpenSsh comment
+    if carries_comment (targets.OpenSsh default_rounds) comment
     then (if is_short comment then map_err private_refusal (key_text m (record key { comment = comment })) else Err errors.TooLong)
     else Err errors.CommentNotCarried
 

@@ -24,7 +24,7 @@ use picky_keys::{SshPublicKey, SshPublicKeyError};
 use picky_ppk::{Ppk, PpkEncryptionConfig, PpkLayout, PuttyError, PuttyPublicKey};
 use picky_sshkey::{SshPrivateKey, SshPrivateKeyError};
 use picky_suite::Suite;
-use picky_target::{ConvertError, KeyTarget, carries_comment};
+use picky_target::{ConvertError, DEFAULT_ROUNDS, KeyTarget, carries_comment};
 use picky_wire::{SizeError, Text};
 use std::alloc::Global;
 use std::mem::replace;
@@ -103,7 +103,7 @@ fn key_with_comment<S: Suite>(
     ensures gives { Gives ConvertError.NoMemory (λ text. text) result (key_commented (S.meanings suite.old) comment.now key) }
     ensures suite { suite.new ≡ suite.old }
 {
-    if !carries_comment(KeyTarget::OpenSsh, comment) {
+    if !carries_comment(KeyTarget::OpenSsh(DEFAULT_ROUNDS), comment) {
         drop(key);
         return Err(ConvertError::CommentNotCarried);
     }

@@ -15,7 +15,7 @@ use Rattle.picky_convert.specs.SampleTexts.{unsealed_output}
 
 pub writing_asks_none : (target : KeyTarget) (meaning : Meaning) → writing_asks unsealed_output target meaning ≡ false
 unfolding writing_asks
-writing_asks_none targets.OpenSsh meaning = refl
+writing_asks_none (targets.OpenSsh rounds) meaning = refl
 writing_asks_none (targets.Ppk version config layout) meaning = refl
 writing_asks_none targets.OpenSshPublic meaning = refl
 writing_asks_none targets.PuttyPublic meaning = refl

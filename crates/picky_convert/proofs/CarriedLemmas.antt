@@ -15,13 +15,13 @@ use Rattle.picky_key_text.specs.Key.{public_key}
 use Rattle.picky_target.specs.declared.target.KeyTarget.TheVariants as targets
 use Rattle.picky_target.specs.Carried.{Carries, HasFileRoom, Holds, Place}
 use Rattle.picky_target.specs.Carried.{PrivateKey, Kind, Comment, Derivation, Fresh, Length, Lines}
-use Rattle.picky_target.specs.Drafts.{key_parts_of}
+use Rattle.picky_target.specs.Drafts.{default_rounds, key_parts_of}
 use Rattle.picky_target.specs.Judged.{mac_len}
 use Rattle.picky_target.specs.ReadBack.{IsConfig}
 use Rattle.picky_target.proofs.FileWritten.{plain_len}
 use Rattle.picky_convert.specs.SampleKeys.{comment_at, key_at, kind_at, meaning_at}
 use Rattle.picky_keys.specs.Key.{is_security_key_kind}
-use Rattle.picky_convert.specs.SampleTexts.{unsealed_output}
+use Rattle.picky_convert.specs.SampleTexts.{openssh, unsealed_output}
 use Rattle.picky_convert.proofs.CommentLemmas.{comment_has_no_cr, comment_has_no_lf, comment_is_trimmed, comment_size}
 use Rattle.picky_convert.proofs.FileSizes.{file_size, line_size, putty_size}
 use Rattle.picky_convert.proofs.KeyLemmas.{key_is_of_kind, key_is_small}
@@ -59,14 +59,14 @@ file_room version config i small =
 
 -- ---- each target, place by place
 
-envelope_holds : (i : ℕ) → i < 2 ^ 16 → (place : Place) → Holds unsealed_output targets.OpenSsh (meaning_at i) place
+envelope_holds : (i : ℕ) → i < 2 ^ 16 → (place : Place) → Holds unsealed_output openssh (meaning_at i) place
 envelope_holds i small PrivateKey = tt
 envelope_holds i small Kind = tt
 envelope_holds i small Comment = comment_is_trimmed i small
 envelope_holds i small Derivation = tt
 envelope_holds i small Fresh = omega arith
 envelope_holds i small Length =
-    λ m. envelope_size m (key_at i) (comment_at i) (key_is_small (kind_at i) (i + 1)) (comment_size i small)
+    λ m. envelope_size m default_rounds (key_at i) (comment_at i) (key_is_small (kind_at i) (i + 1)) (comment_size i small)
 envelope_holds i small Lines = tt
 
 file_holds : (version : PpkVersionKey) (config : PpkEncryptionConfig) (i : ℕ) → i < 2 ^ 16 → is_security_key_kind (kind_at i) ≡ false
@@ -112,7 +112,7 @@ putty_holds i small plain Lines = tt
 
 -- ---- each target
 
-pub envelope_carries : (i : ℕ) → i < 2 ^ 16 → Carries unsealed_output targets.OpenSsh (meaning_at i)
+pub envelope_carries : (i : ℕ) → i < 2 ^ 16 → Carries unsealed_output openssh (meaning_at i)
 envelope_carries i small = record { holds = envelope_holds i small }
 
 pub file_carries : (version : PpkVersionKey) (config : PpkEncryptionConfig) (i : ℕ) → i < 2 ^ 16 → is_security_key_kind (kind_at i) ≡ false
@@ -126,7 +126,10 @@ pub putty_carries : (i : ℕ) → i < 2 ^ 16 → is_security_key_kind (kind_at i
     → Carries unsealed_output targets.PuttyPublic (meaning_at i)
 putty_carries i small plain = record { holds = putty_holds i small plain }
 
--- ---- the numbers of a configuration
+-- ---- the numbers of a target
+
+pub default_is_rounds : default_rounds < 2 ^ 32
+default_is_rounds = omega arith
 
 pub default_is_config : IsConfig default_config
 default_is_config = record {

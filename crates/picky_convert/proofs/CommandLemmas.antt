@@ -1,10 +1,10 @@
 -- Lemmas on the command of some words, and on what it writes.
-use Rattle.std.proofs.Common.{◌≡◌, ◌⊎◌, inl, inr, subst, Bool, true, false, Option, None, Some, if◌then◌else◌, ℕ, List, [], ◌∷◌}
+use Rattle.std.proofs.Common.{◌≡◌, ◌⊎◌, ◌<◌, ◌^◌, inl, inr, subst, Bool, true, false, Option, None, Some, if◌then◌else◌, ℕ, List, [], ◌∷◌}
 use Rattle.std.proofs.Common.{Ok, refl, sym, ap, arith}
 use Rattle.std.specs.{Option.{option_map}, Str.{bytes_eq, IsUtf8}}
 use Rattle.picky_wire_base.specs.{carried.Outcome.{and_then_ok, map_err_ok}, Outcome.{map_err, map_ok}}
 use Rattle.picky_ppk_parts.specs.Config.{default_config}
-use Rattle.picky_target.specs.ReadBack.{IsConfig}
+use Rattle.picky_target.specs.{Drafts.{default_rounds}, ReadBack.{IsConfig}}
 use Rattle.picky_conversion.specs.{Certified.{SignRelation}, Certify.{hex_line}, Chain.{IsGiven}}
 use Rattle.picky_conversion.specs.{Issue.{issued, issued_bytes}, Made.{IsMadeText, Made, ToSign, Whole, WritesMade}}
 use Rattle.picky_conversion.specs.{Outside.{Outside, reader}, To.{Written}}
@@ -68,6 +68,9 @@ chosen : (b : Bool) (one command : Command) (more : Option Command) → (if b th
 chosen true one command more is = inl (cc is)
 chosen false one command more is = inr is
 
+rounds_fit : default_rounds < 2 ^ 32
+rounds_fit = omega arith
+
 default_fits : IsConfig default_config
 default_fits = record {
   memory = omega arith;
@@ -86,7 +89,7 @@ chosen_fits b one command more fits later is = elim (chosen b one command more i
 
 word_fits : (word : List ℕ) (command : Command) → command_of_word word ≡ Some command → IsCommand command
 word_fits word command is =
-    chosen_fits (bytes_eq word openssh) _ command _ tt
+    chosen_fits (bytes_eq word openssh) _ command _ rounds_fit
     (chosen_fits (bytes_eq word ppk2) _ command _ default_fits
     (chosen_fits (bytes_eq word ppk3) _ command _ default_fits
     (chosen_fits (bytes_eq word ssh_pub) _ command _ tt

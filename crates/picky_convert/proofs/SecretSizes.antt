@@ -204,10 +204,10 @@ block_size key small comment plain =
       block_fields_size key small comment,
     ))
 
-pub envelope_size : (m : Meanings) (key : SshBasePrivateKey) (comment : List ℕ) → IsSmallSecret key → length comment ≤ 9
-    → length (envelope_text m (openssh_key unsealed_output key comment)) < 2 ^ 32
-envelope_size m key comment small short =
-    let made = openssh_key unsealed_output key comment in
+pub envelope_size : (m : Meanings) (rounds : ℕ) (key : SshBasePrivateKey) (comment : List ℕ) → IsSmallSecret key
+    → length comment ≤ 9 → length (envelope_text m (openssh_key unsealed_output rounds key comment)) < 2 ^ 32
+envelope_size m rounds key comment small short =
+    let made = openssh_key unsealed_output rounds key comment in
     let content = envelope_of made (plain_block made) in
     omega (
       arith,

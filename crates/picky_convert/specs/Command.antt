@@ -18,6 +18,7 @@ use Rattle.picky_key_text.specs.Reads.{Reads}
 use Rattle.picky_target.specs.declared.error.ConvertError.{ConvertError}
 use Rattle.picky_target.specs.declared.error.ConvertError.TheVariants as errors
 use Rattle.picky_target.specs.declared.target.KeyTarget.TheVariants as targets
+use Rattle.picky_target.specs.Drafts.{default_rounds}
 use Rattle.picky_conversion.specs.Certified.{SignRelation}
 use Rattle.picky_convert.specs.declared.command.Command.{Command}
 use Rattle.picky_convert.specs.declared.command.Command.TheVariants as commands
@@ -57,10 +58,10 @@ tbs = codes "tbs"
 unfoldable pub sample : List ℕ
 sample = codes "sample"
 
--- the command of a word alone; PuTTY's files are sealed with the default configuration
+-- the command of a word alone; OpenSSH's key is sealed with 16 rounds, and PuTTY's files with the default configuration
 abbrev pub command_of_word : List ℕ → Option Command
 command_of_word word =
-    if bytes_eq word openssh then Some (commands.Convert targets.OpenSsh)
+    if bytes_eq word openssh then Some (commands.Convert (targets.OpenSsh default_rounds))
     else if bytes_eq word ppk2 then Some (commands.Convert (targets.Ppk V2 default_config layouts.Number))
     else if bytes_eq word ppk3 then Some (commands.Convert (targets.Ppk V3 default_config layouts.Number))
     else if bytes_eq word ssh_pub then Some (commands.Convert targets.OpenSshPublic)

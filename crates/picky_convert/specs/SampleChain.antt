@@ -7,7 +7,7 @@ use Rattle.picky_target.specs.Texts.{Spells}
 use Rattle.picky_conversion.specs.Convert.{conversion}
 use Rattle.picky_conversion.specs.Outside.{Outside}
 use Rattle.picky_convert.specs.SampleKeys.{meaning_at}
-use Rattle.picky_convert.specs.SampleTexts.{ppk2, ppk3, unsealed_output}
+use Rattle.picky_convert.specs.SampleTexts.{openssh, ppk2, ppk3, unsealed_output}
 
 -- no passphrase opens or seals
 abbrev pub without_passphrase : Meanings → Outside
@@ -27,10 +27,10 @@ pub record AreSix (m : Meanings) (i : ℕ) (texts : List (List ℕ)) : Type 0 wh
   pub line : List ℕ
   pub putty : List ℕ
   pub are : texts ≡ envelope ∷ file3 ∷ file2 ∷ again ∷ line ∷ putty ∷ []
-  pub first : Spells m unsealed_output targets.OpenSsh (meaning_at i) envelope
+  pub first : Spells m unsealed_output openssh (meaning_at i) envelope
   pub to_file3 : ConvertsTo m ppk3 envelope file3
   pub to_file2 : ConvertsTo m ppk2 file3 file2
-  pub to_again : ConvertsTo m targets.OpenSsh file2 again
+  pub to_again : ConvertsTo m openssh file2 again
   pub to_line : ConvertsTo m targets.OpenSshPublic again line
   pub to_putty : ConvertsTo m targets.PuttyPublic again putty
 
@@ -39,7 +39,7 @@ pub record AreTwo (m : Meanings) (i : ℕ) (texts : List (List ℕ)) : Type 0 wh
   pub envelope : List ℕ
   pub line : List ℕ
   pub are : texts ≡ envelope ∷ line ∷ []
-  pub first : Spells m unsealed_output targets.OpenSsh (meaning_at i) envelope
+  pub first : Spells m unsealed_output openssh (meaning_at i) envelope
   pub to_line : ConvertsTo m targets.OpenSshPublic envelope line
 
 -- of a key that a device keeps there are two

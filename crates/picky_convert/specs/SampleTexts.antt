@@ -8,6 +8,7 @@ use Rattle.picky_ppk.specs.declared.layout.PpkLayout.TheVariants as layouts
 use Rattle.picky_suite.specs.Meanings.{Meanings}
 use Rattle.picky_target.specs.declared.target.KeyTarget.{KeyTarget}
 use Rattle.picky_target.specs.declared.target.KeyTarget.TheVariants as targets
+use Rattle.picky_target.specs.Drafts.{default_rounds}
 use Rattle.picky_target.specs.Output.{Output}
 use Rattle.picky_target.specs.Texts.{text_for}
 use Rattle.picky_convert.specs.SampleKeys.{kind_at, meaning_at}
@@ -16,7 +17,10 @@ use Rattle.picky_convert.specs.SampleKeys.{kind_at, meaning_at}
 abbrev pub unsealed_output : Output
 unsealed_output = record { pass = None; fresh = [] }
 
--- PuTTY's file in version 3 and in version 2
+-- OpenSSH's private key, and PuTTY's file in version 3 and in version 2
+abbrev pub openssh : KeyTarget
+openssh = targets.OpenSsh default_rounds
+
 abbrev pub ppk3 : KeyTarget
 ppk3 = targets.Ppk V3 default_config layouts.Number
 
@@ -25,13 +29,13 @@ ppk2 = targets.Ppk V2 default_config layouts.Number
 
 -- the targets of a key, in their order; PuTTY has no key whose secret a device keeps
 abbrev pub five_targets : List KeyTarget
-five_targets = ppk3 ∷ ppk2 ∷ targets.OpenSsh ∷ targets.OpenSshPublic ∷ targets.PuttyPublic ∷ []
+five_targets = ppk3 ∷ ppk2 ∷ openssh ∷ targets.OpenSshPublic ∷ targets.PuttyPublic ∷ []
 
 abbrev pub six_targets : List KeyTarget
-six_targets = targets.OpenSsh ∷ five_targets
+six_targets = openssh ∷ five_targets
 
 abbrev pub two_targets : List KeyTarget
-two_targets = targets.OpenSsh ∷ targets.OpenSshPublic ∷ []
+two_targets = openssh ∷ targets.OpenSshPublic ∷ []
 
 abbrev pub targets_of : KeyKind → List KeyTarget
 targets_of kind = if is_security_key_kind kind then two_targets else six_targets

@@ -27,7 +27,7 @@ use picky_key_text::{ReadError, public_key, read_text};
 use picky_ppk::{PpkEncryptionConfig, PpkLayout, PpkVersion, PuttyError};
 use picky_sshkey::SshPrivateKeyError;
 use picky_suite::{Signer, Suite};
-use picky_target::{ConvertError, KeyTarget};
+use picky_target::{ConvertError, DEFAULT_ROUNDS, KeyTarget};
 use picky_wire::{NoMemory, Text};
 use std::alloc::Global;
 
@@ -107,7 +107,7 @@ fn command_of_text(word: &str) -> Option<Command>
     ensures { result ≡ command_of_word word.now }
 {
     if word == OPENSSH {
-        return Some(Command::Convert(KeyTarget::OpenSsh));
+        return Some(Command::Convert(KeyTarget::OpenSsh(DEFAULT_ROUNDS)));
     }
     if word == PPK2 {
         return Some(Command::Convert(file_of(PpkVersion::V2)));

@@ -3,11 +3,10 @@
 ghost use Rattle.std.specs.Prelude.{◌≡◌, ◌≤◌, IfOk, IsOk, OnOk, Ok, false, length, map};
 ghost use Rattle.std.specs.List.{concat};
 ghost use Rattle.picky_keys.specs.Key.{is_security_key_kind};
-ghost use Rattle.picky_target.specs.declared.target.KeyTarget.{KeyTarget as To};
 ghost use Rattle.picky_conversion.specs.Convert.{conversion};
 ghost use Rattle.picky_convert.specs.SampleChain.{without_passphrase};
 ghost use Rattle.picky_convert.specs.SampleKeys.{kind_at};
-ghost use Rattle.picky_convert.specs.SampleTexts.{five_targets, text_at, texts_at};
+ghost use Rattle.picky_convert.specs.SampleTexts.{five_targets, openssh, text_at, texts_at};
 ghost use Rattle.picky_convert.specs.inner.Fed.{Feeds};
 
 use crate::command::file_of;
@@ -15,7 +14,7 @@ use crate::keys::{kind_of, meaning_of};
 use picky_conversion::{ConversionGiven, convert_key_text};
 use picky_ppk::PpkVersion;
 use picky_suite::Suite;
-use picky_target::{ConvertError, KeyTarget, write_text};
+use picky_target::{ConvertError, DEFAULT_ROUNDS, KeyTarget, write_text};
 use picky_wire::{NoMemory, Text};
 use sha2::{Digest, Sha256};
 use std::alloc::Global;
@@ -56,7 +55,7 @@ fn feed_five<S: Suite>(
     number: u16,
     envelope: &Text,
 ) -> Result<(), NoMemory>
-    requires envelope { envelope.now ≡ text_at (S.meanings suite.old) number To.OpenSsh }
+    requires envelope { envelope.now ≡ text_at (S.meanings suite.old) number openssh }
     requires plain { is_security_key_kind (kind_at number) ≡ false }
     ensures fed { OnOk result (Feeds hasher.old hasher.new (concat (map (text_at (S.meanings suite.old) number) five_targets))) }
     ensures suite { suite.new ≡ suite.old }
@@ -70,7 +69,14 @@ fn feed_five<S: Suite>(
         envelope,
     )?;
     let file = next(alloc, suite, hasher, number, file_of(PpkVersion::V2), &file)?;
-    let again = next(alloc, suite, hasher, number, KeyTarget::OpenSsh, &file)?;
+    let again = next(
+        alloc,
+        suite,
+        hasher,
+        number,
+        KeyTarget::OpenSsh(DEFAULT_ROUNDS),
+        &file,
+    )?;
     let _line = next(
         alloc,
         suite,
@@ -90,8 +96,8 @@ fn first<S: Suite>(
     hasher: &mut Sha256,
     number: u16,
 ) -> Result<Text, NoMemory>
-    ensures text { IfOk result (λ text. text ≡ text_at (S.meanings suite.old) number To.OpenSsh) }
-    ensures fed { OnOk result (Feeds hasher.old hasher.new (text_at (S.meanings suite.old) number To.OpenSsh)) }
+    ensures text { IfOk result (λ text. text ≡ text_at (S.meanings suite.old) number openssh) }
+    ensures fed { OnOk result (Feeds hasher.old hasher.new (text_at (S.meanings suite.old) number openssh)) }
     ensures suite { suite.new ≡ suite.old }
 {
     match envelope(alloc, suite, number) {
@@ -135,11 +141,18 @@ fn feed(hasher: &mut Sha256, text: &Text)
 
 /// The envelope of a key.
 fn envelope<S: Suite>(alloc: Global, suite: &mut S, number: u16) -> Result<Text, NoMemory>
-    ensures text { IfOk result (λ text. text ≡ text_at (S.meanings suite.old) number To.OpenSsh) }
+    ensures text { IfOk result (λ text. text ≡ text_at (S.meanings suite.old) number openssh) }
     ensures suite { suite.new ≡ suite.old }
 {
     match meaning_of(alloc, number) {
-        Ok(meaning) => match write_text(alloc, suite, KeyTarget::OpenSsh, meaning, None, &[]) {
+        Ok(meaning) => match write_text(
+            alloc,
+            suite,
+            KeyTarget::OpenSsh(DEFAULT_ROUNDS),
+            meaning,
+            None,
+            &[],
+        ) {
             Ok(text) => Ok(text),
             Err(e) => Err(want_of(e)),
         },

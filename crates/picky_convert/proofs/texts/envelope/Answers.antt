@@ -1,7 +1,7 @@
 -- What is written of the key is its text; nothing is sealed, so the suite isn't asked.
 use Rattle.std.proofs.Common.{arith}
 use Rattle.picky_wire.specs.Count.{Rose}
-use Rattle.picky_target.specs.declared.target.KeyTarget.TheVariants as targets
+use Rattle.picky_convert.specs.SampleTexts.{openssh}
 use Rattle.picky_convert.proofs.AnswerLemmas.{first_is, first_wants}
 use Rattle.picky_convert.proofs.AskedLemmas.{writing_asks_none}
 use Rattle.picky_convert.proofs.texts.envelope.Goals as goal
@@ -18,7 +18,7 @@ returns-in-Ok-write_text-clause-text g c =
     c.in-Ok-write_text.ensures.gives
 
 pub returns-in-Ok-write_text-clause-suite : goal.returns-in-Ok-write_text-clause-suite
-returns-in-Ok-write_text-clause-suite g c = c.write_text.ensures.suite.unasked (writing_asks_none targets.OpenSsh c.in-Ok.meaning)
+returns-in-Ok-write_text-clause-suite g c = c.write_text.ensures.suite.unasked (writing_asks_none openssh c.in-Ok.meaning)
 
 pub returns-in-Err-write_text-clause-suite : goal.returns-in-Err-write_text-clause-suite
-returns-in-Err-write_text-clause-suite g c = c.write_text.ensures.suite.unasked (writing_asks_none targets.OpenSsh c.in-Ok.meaning)
+returns-in-Err-write_text-clause-suite g c = c.write_text.ensures.suite.unasked (writing_asks_none openssh c.in-Ok.meaning)

@@ -4,7 +4,7 @@ use Rattle.std.specs.Prelude.{map}
 use Rattle.std.specs.List.{concat}
 use Rattle.picky_target.specs.declared.target.KeyTarget.TheVariants as targets
 use Rattle.picky_keys.specs.Key.{is_security_key_kind}
-use Rattle.picky_convert.specs.SampleTexts.{five_targets, text_at}
+use Rattle.picky_convert.specs.SampleTexts.{five_targets, openssh, text_at}
 use Rattle.picky_convert.specs.inner.Fed.{Feeds}
 use Rattle.picky_convert.proofs.ChainLemmas.{line_of, texts_are_six, texts_are_two}
 use Rattle.picky_convert.proofs.FedLemmas.{fed_so, feeds_both, feeds_none, made_so}
@@ -15,7 +15,7 @@ next-requires g c =
     let meanings = g.S.Suite.meanings in
     let m = meanings c.args.suite.now in
     let i = c.args.number in
-    made_so m (meanings c.first.new.suite) targets.OpenSshPublic targets.OpenSshPublic i (text_at m i targets.OpenSsh)
+    made_so m (meanings c.first.new.suite) targets.OpenSshPublic targets.OpenSshPublic i (text_at m i openssh)
     c.in_ok-envelope.envelope (ap meanings c.first.ensures.suite) refl c.in_ok-envelope.ensures.text (line_of m i (omega arith))
 
 pub returns-then-is_security_key-clause-fed : goal.returns-then-is_security_key-clause-fed
@@ -27,7 +27,7 @@ returns-then-is_security_key-clause-fed g c =
     let h = c.args.hasher.now in
     let h1 = c.first.new.hasher in
     let h2 = c.next.new.hasher in
-    let a = text_at m i targets.OpenSsh in
+    let a = text_at m i openssh in
     let b = text_at m i targets.OpenSshPublic in
     let line = fed_so h1 h2 m (meanings c.first.new.suite) targets.OpenSshPublic targets.OpenSshPublic i (ap meanings c.first.ensures.suite)
     refl c.in_ok-_line.ensures.fed in
@@ -52,7 +52,7 @@ returns-clause-fed g c =
     let five = subst (λ n. Feeds h1 h2 (concat (map (text_at n i) five_targets))) (ap meanings c.first.ensures.suite)
     c.in_ok-feed_five.ensures.fed in
     subst (λ texts. Feeds h h2 (concat texts)) (sym (texts_are_six m i plain))
-    (feeds_both h h1 h2 (text_at m i targets.OpenSsh) (concat (map (text_at m i) five_targets)) c.in_ok-envelope.ensures.fed five)
+    (feeds_both h h1 h2 (text_at m i openssh) (concat (map (text_at m i) five_targets)) c.in_ok-envelope.ensures.fed five)
 
 pub returns-clause-count : goal.returns-clause-count
 returns-clause-count g c =
