@@ -34,7 +34,7 @@ input_fault_is forms.Certificate = refl
 input_fault_is forms.PublicLine = refl
 
 output_fault_is : (target : KeyTarget) → refusal_of (target_fault target) ≡ calls.NoCipher
-output_fault_is targets.OpenSsh = refl
+output_fault_is (targets.OpenSsh rounds) = refl
 output_fault_is (targets.Ppk version config layout) = refl
 output_fault_is targets.OpenSshPublic = refl
 output_fault_is targets.PuttyPublic = refl

@@ -26,7 +26,7 @@ place_of_key : (to : KeyTarget) (place : Place) → IsOfKey (place_refusal to pl
 place_of_key to PrivateKey = tt
 place_of_key to Kind = tt
 place_of_key to Comment = tt
-place_of_key targets.OpenSsh Derivation = tt
+place_of_key (targets.OpenSsh rounds) Derivation = tt
 place_of_key (targets.Ppk version config layout) Derivation = tt
 place_of_key targets.OpenSshPublic Derivation = tt
 place_of_key targets.PuttyPublic Derivation = tt

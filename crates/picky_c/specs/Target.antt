@@ -5,11 +5,12 @@ use Rattle.picky_ppk_parts.specs.Config.{default_config}
 use Rattle.picky_ppk.specs.declared.layout.PpkLayout.TheVariants.{Number, Putty}
 use Rattle.picky_target.specs.declared.target.KeyTarget.{KeyTarget}
 use Rattle.picky_target.specs.declared.target.KeyTarget.TheVariants as targets
+use Rattle.picky_target.specs.Drafts.{default_rounds}
 
--- PuTTY's files are sealed with the default configuration; those of the last two numbers have PuTTY's own layout
+-- OpenSSH's key is sealed with 16 rounds, and PuTTY's files with the default configuration; those of the last two numbers have PuTTY's own layout
 abbrev pub target_numbered : ℕ → Option KeyTarget
 target_numbered number =
-    if number == 1 then Some targets.OpenSsh
+    if number == 1 then Some (targets.OpenSsh default_rounds)
     else if number == 2 then Some (targets.Ppk V2 default_config Number)
     else if number == 3 then Some (targets.Ppk V3 default_config Number)
     else if number == 4 then Some targets.OpenSshPublic

@@ -5,14 +5,14 @@ ghost use Rattle.picky_ppk_parts.specs.Config.{default_config};
 ghost use Rattle.picky_c.specs.Target.{target_numbered};
 
 use picky_ppk::{PpkEncryptionConfig, PpkLayout, PpkVersion};
-use picky_target::KeyTarget;
+use picky_target::{DEFAULT_ROUNDS, KeyTarget};
 
-/// The target of a number; PuTTY's files are sealed with the default configuration.
+/// The target of a number; OpenSSH's key is sealed with 16 rounds, and PuTTY's files with the default configuration.
 pub fn target_of(number: u32) -> Option<KeyTarget>
     ensures { result ≡ target_numbered number }
 {
     if number == 1 {
-        return Some(KeyTarget::OpenSsh);
+        return Some(KeyTarget::OpenSsh(DEFAULT_ROUNDS));
     }
     if number == 2 {
         return Some(file_of(PpkVersion::V2, PpkLayout::Number));
