@@ -7,7 +7,7 @@ pub mod laws;
 pub use picky_changed::with_comment;
 pub use picky_key_text::{Form, Key, Meaning, ReadError, form_of, public_key, read_text};
 pub use picky_shown::{Shown, ShownSealing, key_bits, show_text};
-pub use picky_target::{ConvertError, KeyTarget, carries_comment, write_text};
+pub use picky_target::{ConvertError, DEFAULT_ROUNDS, KeyTarget, carries_comment, write_text};
 
 // The conversion, and certificates.
 pub use picky_conversion::{
