@@ -7,7 +7,6 @@ use Rattle.picky_key_text.specs.declared.meaning.Meaning.{Meaning}
 use Rattle.picky_target.specs.declared.error.ConvertError.{ConvertError}
 use Rattle.picky_target.specs.declared.error.ConvertError.TheVariants as errors
 use Rattle.picky_target.specs.declared.target.KeyTarget.{KeyTarget}
-use Rattle.picky_target.specs.declared.target.KeyTarget.TheVariants as targets
 use Rattle.picky_target.specs.Written.{target_fault, writing_asks, written}
 use Rattle.picky_conversion.specs.Convert.{AnswersKeyText, conversion}
 use Rattle.picky_convert.specs.SampleChain.{without_passphrase}
