@@ -33,8 +33,6 @@ place_of q (e ∷ more) = if same_question q e.question then 0 else place_of q m
 abbrev pub in_turn : Question → (used : ℕ) → List Entry → Result (List ℕ) Missing → Result (List ℕ) Missing
 in_turn q used entries says = if nat_lt used (place_of q entries) then Err missings.Misplaced else says
 
--- ---- what is made of an answer
-
 -- what is made of an answer; where the table has none, the question is asked
 abbrev pub judged : Question → (List ℕ → Result (List ℕ) Missing) → Option (List ℕ) → Result (List ℕ) Missing
 judged q judge None = Err (missings.Asked q)
