@@ -21,20 +21,6 @@ answer_to q (e ∷ more) = if same_question q e.question then Some e.answer else
 abbrev pub question : Head → (text : List ℕ) → Question
 question h text = record { head = h; text = text }
 
--- ---- the order in which a suite uses its table
-
--- the place of the first entry that answers the question; the table's length, where there is none
-unfoldable pub place_of : Question → List Entry → ℕ
-place_of q [] = 0
-place_of q (e ∷ more) = if same_question q e.question then 0 else place_of q more + 1
-
--- what a call says that comes after so many entries were used: where the next one stands before the place of its question, the
--- answer is out of its turn
-abbrev pub in_turn : Question → (used : ℕ) → List Entry → Result (List ℕ) Missing → Result (List ℕ) Missing
-in_turn q used entries says = if nat_lt used (place_of q entries) then Err missings.Misplaced else says
-
--- ---- what is made of an answer
-
 -- what is made of an answer; where the table has none, the question is asked
 abbrev pub judged : Question → (List ℕ → Result (List ℕ) Missing) → Option (List ℕ) → Result (List ℕ) Missing
 judged q judge None = Err (missings.Asked q)
@@ -106,3 +92,15 @@ paired mode key iv text entries answer =
 
 abbrev pub exchange : Mode → (key iv : List ℕ) → Question → List Entry → Result (List ℕ) Missing
 exchange mode key iv q entries = judged q (paired mode key iv q.text entries) (answer_to q entries)
+
+-- ---- the order in which a suite uses its table
+
+-- the place of the first entry that answers the question; the table's length, where there is none
+unfoldable pub place_of : Question → List Entry → ℕ
+place_of q [] = 0
+place_of q (e ∷ more) = if same_question q e.question then 0 else place_of q more + 1
+
+-- what a call says that comes after so many entries were used: where the next one stands before the place of its question, the
+-- answer is out of its turn
+abbrev pub in_turn : Question → (used : ℕ) → List Entry → Result (List ℕ) Missing → Result (List ℕ) Missing
+in_turn q used entries says = if nat_lt used (place_of q entries) then Err missings.Misplaced else says

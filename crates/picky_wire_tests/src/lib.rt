@@ -1,7 +1,9 @@
-//! The tests of fields, lists, lines and suites: what no clause says. Values of other programs and of the standards, each
-//! call with an allocator where memory is ample, and streams that fail in mid-stream.
+//! The tests of fields, lists, lines, suites and tables of answers: what no clause says. Values of other programs and of the
+//! standards, each call with an allocator where memory is ample, and streams that fail in mid-stream.
 #![tactic(auto)]
 
+#[cfg(test)]
+mod ask;
 #[cfg(test)]
 mod base64_text_and_rows;
 #[cfg(test)]
