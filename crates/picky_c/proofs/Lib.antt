@@ -3,3 +3,5 @@ pub mod CallLemmas
 pub mod LawLemmas
 pub mod NamedLemmas
 pub mod GivenLemmas
+pub mod ShownLemmas
+pub mod CommentLemmas

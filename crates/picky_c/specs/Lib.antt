@@ -6,3 +6,5 @@ pub mod Given
 pub mod Target
 pub mod Part
 pub mod Calls
+pub mod Shown
+pub mod Comment

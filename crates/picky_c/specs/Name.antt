@@ -7,7 +7,8 @@ abbrev pub own_names : List (List ℕ)
 own_names =
     codes "Ok" ∷ codes "BufferTooSmall" ∷ codes "NoMemory" ∷ codes "TextNotUtf8" ∷ codes "PassNotUtf8" ∷
     codes "NoSuchTarget" ∷ codes "NoSuchPart" ∷ codes "NoCipher" ∷ codes "NoPrivateKey" ∷
-    codes "CommentNotCarried" ∷ codes "FreshTooShort" ∷ codes "TooLong" ∷ codes "TooManyLines" ∷ []
+    codes "CommentNotCarried" ∷ codes "FreshTooShort" ∷ codes "TooLong" ∷ codes "TooManyLines" ∷
+    codes "Asked" ∷ codes "CommentNotUtf8" ∷ codes "NoSuchSealing" ∷ []
 
 -- the names of an OpenSSH private key, by number
 abbrev pub private_names : List (List ℕ)

@@ -119,6 +119,7 @@ error_number calls.PassNotUtf8 = 4
 error_number calls.NoSuchTarget = 5
 error_number calls.NoSuchPart = 6
 error_number calls.NoCipher = 7
+error_number calls.CommentNotUtf8 = 14
 error_number (calls.Refused e) = refused_number e
 
 -- a refusal of no issuer and of no request

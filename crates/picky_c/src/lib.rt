@@ -4,6 +4,7 @@
 #![tactic(auto)]
 
 mod answer;
+mod comment;
 mod conversion;
 mod error;
 mod exports;
@@ -13,4 +14,6 @@ mod name;
 mod number;
 mod part;
 mod public;
+mod shown;
+mod shown_part;
 mod target;

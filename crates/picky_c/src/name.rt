@@ -10,7 +10,7 @@ const NAME_LEN: usize = 48;
 const VERSION: &str = "0.1.0";
 
 /// The names of a call itself, by number.
-const OWN: [&str; 13] = [
+const OWN: [&str; 16] = [
     "Ok",
     "BufferTooSmall",
     "NoMemory",
@@ -24,6 +24,9 @@ const OWN: [&str; 13] = [
     "FreshTooShort",
     "TooLong",
     "TooManyLines",
+    "Asked",
+    "CommentNotUtf8",
+    "NoSuchSealing",
 ];
 
 /// The names of an OpenSSH private key, by number.

@@ -28,6 +28,7 @@ pub fn number_of(e: &PickyError) -> u32
         PickyError::NoSuchTarget => 5,
         PickyError::NoSuchPart => 6,
         PickyError::NoCipher => 7,
+        PickyError::CommentNotUtf8 => 14,
         PickyError::Refused(e) => convert_number(e),
     }
 }
