@@ -5,3 +5,4 @@ pub mod NamedLemmas
 pub mod GivenLemmas
 pub mod ShownLemmas
 pub mod CommentLemmas
+pub mod RefusedLemmas
