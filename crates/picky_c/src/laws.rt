@@ -23,7 +23,8 @@ pub fn names_are_the_programs()
     ensures { (e : Refusal) → IsAnswered e → codes "refused: " ++ error_name (error_number (errors.Refused e)) ≡ path e ++ name e }
 {}
 
-/// What is refused is answered as a refusal, also of a text that is shown or has another comment: the numbers of no memory and of no cipher come for nothing else.
+/// What is refused is answered as a refusal, also of a text that is shown or is to have another comment: the numbers of no memory
+/// and of no cipher come for nothing else.
 pub fn refusals_are_answered()
     ensures conversion { (o : Outside) (to : To) (input : List ℕ) (e : Refusal) → conversion o to input ≡ Err e → IsAnswered e }
     ensures reading { (r : Reader) (text : List ℕ) (e : ReadRefusal) → reading r text ≡ Err e → IsAnswered (refusals.Input e) }
