@@ -17,10 +17,17 @@ static const struct {
     uint32_t part;
     const char *before, *after;
 } shown[] = {
-    {PICKY_SHOWN_BITS, "", " "},         {PICKY_SHOWN_FINGERPRINT, "", " "}, {PICKY_SHOWN_COMMENT, "", " "},
-    {PICKY_SHOWN_TYPE_NAME, "(", ")"},   {PICKY_SHOWN_CIPHER, ", cipher ", ""}, {PICKY_SHOWN_DERIVATION, ", derivation ", ""},
-    {PICKY_SHOWN_ROUNDS, " of ", " rounds"}, {PICKY_SHOWN_MEMORY, " of ", " KiB"},  {PICKY_SHOWN_PASSES, ", ", " passes"},
-    {PICKY_SHOWN_LANES, " and ", " lanes"}, {PICKY_SHOWN_SALT_LEN, ", salt of ", " bytes"},
+    {PICKY_SHOWN_BITS, "", " "},
+    {PICKY_SHOWN_FINGERPRINT, "", " "},
+    {PICKY_SHOWN_COMMENT, "", " "},
+    {PICKY_SHOWN_TYPE_NAME, "(", ")"},
+    {PICKY_SHOWN_CIPHER, ", cipher ", ""},
+    {PICKY_SHOWN_DERIVATION, ", derivation ", ""},
+    {PICKY_SHOWN_ROUNDS, " of ", " rounds"},
+    {PICKY_SHOWN_MEMORY, " of ", " KiB"},
+    {PICKY_SHOWN_PASSES, ", ", " passes"},
+    {PICKY_SHOWN_LANES, " and ", " lanes"},
+    {PICKY_SHOWN_SALT_LEN, ", salt of ", " bytes"},
 };
 
 /* Prints each part that the text has. A comment that is longer than SEVERAL bytes isn't printed. */
