@@ -33,7 +33,7 @@ envelope_short : (m : Meanings) (comment text out : List ℕ) → commented_as f
     → is_short comment ≡ true
 envelope_short m comment text out is =
     let key = and_then_ok (map_err of_private (text_key m None text)) (key_commented m comment) out is in
-    let carried = chosen (carries_comment targets.OpenSsh comment) _ errors.CommentNotCarried out key.2 in
+    let carried = chosen _ _ errors.CommentNotCarried out key.2 in
     (chosen (is_short comment) _ errors.TooLong out carried.1).0
 
 file_short : (m : Meanings) (comment text out : List ℕ) → commented_as forms.Ppk m comment text ≡ Ok out → is_short comment ≡ true

@@ -4,7 +4,7 @@ use Rattle.std.specs.Prelude.{if◌then◌else◌}
 use Rattle.std.specs.Fmt.{decimal}
 use Rattle.std.specs.Option.{ok_or, option_map}
 use Rattle.picky_wire_base.specs.Outcome.{and_then, map_err}
-use Rattle.picky_kv_words.specs.Choices.{flavour_literal}
+use Rattle.picky_kv.specs.Choices.{flavour_literal}
 use Rattle.picky_suite.specs.Meanings.{plain}
 use Rattle.picky_keys.specs.Line.{line_of}
 use Rattle.picky_keys.specs.LineRefusal.{is_short}

@@ -136,7 +136,7 @@ fn cipher_name(sealing: &ShownSealing) -> &str
     }
 }
 
-#[tactic(auto, unfolding(picky_kv_words::specs::ChoiceFields::flavour_field))]
+#[tactic(auto, unfolding(picky_kv::specs::ChoiceFields::flavour_field))]
 fn derivation_name(sealing: &ShownSealing) -> &str
     ensures { result.now ≡ derivation_of sealing.now }
 {
