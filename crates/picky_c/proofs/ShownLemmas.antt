@@ -1,22 +1,17 @@
 -- What a text shows, against what it means to whom reads it.
-use Rattle.std.proofs.Common.{◌≡◌, ◌⊎◌, ◌∙◌, Bool, true, ℕ, List, Option, None, Some, Result, Ok, Err, ap, inl, inr, refl, subst, sym}
-use Rattle.std.specs.Str.{IsUtf8, is_utf8}
+use Rattle.std.proofs.Common.{◌≡◌, ◌∙◌, true, ℕ, List, Option, None, Some, Result, Ok, Err, ap, subst, sym}
+use Rattle.std.specs.Str.{is_utf8}
 use Rattle.std.proofs.lemmas.Str.{IsUtf8-from_is_utf8}
-use Rattle.picky_wire_base.specs.Outcome.{and_then, map_err, map_ok}
+use Rattle.picky_wire_base.specs.Outcome.{and_then, map_ok}
 use Rattle.picky_wire_base.specs.carried.Outcome.{and_then_ok}
 use Rattle.picky_suite.specs.Meanings.{Meanings, plain}
 use Rattle.picky_key_text.specs.{Order.{reading}, Reader.{Reader}, Reads.{Reads}, declared.meaning.Meaning.{Meaning}}
 use Rattle.picky_key_text.specs.declared.error.ReadError.{ReadError}
-use Rattle.picky_key_text.specs.declared.error.ReadError.TheVariants as input
 use Rattle.picky_key_text.proofs.ReadingLaws.{reading_says}
 use Rattle.picky_shown.specs.Shown.{IsShownOf, is_encrypted, meaning_shown, open_shows, sealed_shows, shown_else, shows}
 use Rattle.picky_shown.specs.declared.{sealing.ShownSealing.TheVariants.{Unsealed}, showing.Shown.{Shown}}
 use Rattle.picky_shown.proofs.ShownLaws.{read_is_shown, unsealed_is_read}
-use Rattle.picky_conversion.specs.Refusal.{input_refusal}
-use Rattle.picky_target.specs.declared.error.ConvertError.{ConvertError}
-use Rattle.picky_c.specs.{Given.{plain_reader}, Refusal.{refusal_of}, Shown.{IsShownBy, shown_of}}
-use Rattle.picky_c.specs.declared.error.PickyError.{PickyError}
-use Rattle.picky_c.specs.declared.error.PickyError.TheVariants as calls
+use Rattle.picky_c.specs.{Given.{plain_reader}, Shown.{IsShownBy}}
 
 -- ---- an encrypted text shows the same whatever the suite
 
@@ -68,25 +63,3 @@ pub text_is_shown : (m : Meanings) (bytes text : List ℕ) (shown : Shown) → m
     → shows m text ≡ Ok shown → IsShownBy bytes shown
 text_is_shown m bytes text shown means same utf8 is =
     is_shown bytes shown utf8 (subst (λ t. shows plain t ≡ Ok shown) same (subst (λ n. shows n text ≡ Ok shown) means is))
-
-utf8_shown : (text : List ℕ) → is_utf8 text ≡ true
-    → shown_of text ≡ map_err (λ e. refusal_of (input_refusal e)) (shows plain text)
-utf8_shown text utf8 = rw utf8 refl
-
-refused : (text : List ℕ) (e : ReadError) → (e ≡ input.NoMemory) ⊎ (shows plain text ≡ Err e)
-    → (refusal_of (input_refusal e) ≡ calls.NoMemory)
-    ⊎ (map_err (λ e. refusal_of (input_refusal e)) (shows plain text) ≡ Err (refusal_of (input_refusal e)))
-refused text e (inl want) = inl (ap (λ e. refusal_of (input_refusal e)) want)
-refused text e (inr is) = inr (ap (map_err (λ e. refusal_of (input_refusal e))) is)
-
--- how showing refuses
-abbrev Refuses : Meanings → (text : List ℕ) → ReadError → Type 0
-Refuses m text e = (e ≡ input.NoMemory) ⊎ (shows m text ≡ Err e)
-
-pub shown_refusal : (m : Meanings) (bytes text : List ℕ) (e : ReadError) (f : ConvertError) (g : PickyError) → m ≡ plain
-    → text ≡ bytes → is_utf8 bytes ≡ true → f ≡ input_refusal e → g ≡ refusal_of f → Refuses m text e
-    → (g ≡ calls.NoMemory) ⊎ (shown_of bytes ≡ Err g)
-shown_refusal m bytes text e f g means same utf8 is_f is_g refuses =
-    let here = subst (λ t. Refuses plain t e) same (subst (λ n. Refuses n text e) means refuses) in
-    let is : g ≡ refusal_of (input_refusal e) = is_g ∙ ap refusal_of is_f in
-    rw (utf8_shown bytes utf8, is) (refused bytes e here)

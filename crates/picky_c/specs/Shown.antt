@@ -82,6 +82,18 @@ argon2_in (OpenSsh cipher kdf rounds) = None
 argon2_in PpkV2 = None
 argon2_in (PpkV3 config) = Some config
 
+abbrev pub memory_in : ShownSealing → Option ℕ
+memory_in s = option_map (λ (c : PpkEncryptionConfig). c.argon2_memory) (argon2_in s)
+
+abbrev pub passes_in : ShownSealing → Option ℕ
+passes_in s = option_map (λ (c : PpkEncryptionConfig). c.argon2_passes) (argon2_in s)
+
+abbrev pub lanes_in : ShownSealing → Option ℕ
+lanes_in s = option_map (λ (c : PpkEncryptionConfig). c.argon2_parallelism) (argon2_in s)
+
+abbrev pub salt_len_in : ShownSealing → Option ℕ
+salt_len_in s = option_map (λ (c : PpkEncryptionConfig). c.argon2_salt_size) (argon2_in s)
+
 -- ---- a part, as bytes
 
 -- a number in decimal; no bytes where there is none
@@ -110,10 +122,10 @@ part_shown parts.Encrypted s = Ok (flag_text (is_encrypted s.sealing))
 part_shown parts.Cipher s = Ok (cipher_name s.sealing)
 part_shown parts.Derivation s = Ok (derivation_name s.sealing)
 part_shown parts.Rounds s = Ok (number_text (rounds_in s.sealing))
-part_shown parts.Memory s = Ok (number_text (option_map (λ (c : PpkEncryptionConfig). c.argon2_memory) (argon2_in s.sealing)))
-part_shown parts.Passes s = Ok (number_text (option_map (λ (c : PpkEncryptionConfig). c.argon2_passes) (argon2_in s.sealing)))
-part_shown parts.Lanes s = Ok (number_text (option_map (λ (c : PpkEncryptionConfig). c.argon2_parallelism) (argon2_in s.sealing)))
-part_shown parts.SaltLen s = Ok (number_text (option_map (λ (c : PpkEncryptionConfig). c.argon2_salt_size) (argon2_in s.sealing)))
+part_shown parts.Memory s = Ok (number_text (memory_in s.sealing))
+part_shown parts.Passes s = Ok (number_text (passes_in s.sealing))
+part_shown parts.Lanes s = Ok (number_text (lanes_in s.sealing))
+part_shown parts.SaltLen s = Ok (number_text (salt_len_in s.sealing))
 
 -- ---- the call
 

@@ -3,10 +3,12 @@
 ghost use Rattle.std.specs.Prelude.{◌≡◌, Ok, IfOk};
 ghost use Rattle.std.specs.Fmt.{decimal};
 ghost use Rattle.picky_wire_base.specs.Gives.{Gives};
+ghost use Rattle.picky_kv.specs.Choices.{flavour_literal};
 ghost use Rattle.picky_c.specs.Calls.{print};
-ghost use Rattle.picky_c.specs.Shown.{IsShownBy, IsShownPart, argon2_in as argon2_of_sealing, cipher_name as cipher_of};
-ghost use Rattle.picky_c.specs.Shown.{derivation_name as derivation_of, flag_text, number_text, part_shown as part_of_shown};
-ghost use Rattle.picky_c.specs.Shown.{rounds_in as rounds_of_sealing, shown_line as line_of_key, shown_of, shown_part_in};
+ghost use Rattle.picky_c.specs.Shown.{IsShownBy, IsShownPart, argon2_in as argon2_of, cipher_name as cipher_of};
+ghost use Rattle.picky_c.specs.Shown.{derivation_name as derivation_of, flag_text, lanes_in as lanes_of, memory_in as memory_of};
+ghost use Rattle.picky_c.specs.Shown.{number_text, part_shown as part_of_shown, passes_in as passes_of, rounds_in as rounds_of};
+ghost use Rattle.picky_c.specs.Shown.{salt_len_in as salt_len_of, shown_line as line_of_key, shown_of, shown_part_in};
 
 use crate::error::{PickyError, refusal};
 use crate::given::as_text;
@@ -15,8 +17,7 @@ use crate::public::print_digest;
 use crate::shown_part::{ShownPart, shown_part_by_number};
 use picky_conversion::input_refusal;
 use picky_keys::{SshPublicKey, SshPublicKeyError};
-use picky_kv::PpkLiteral;
-use picky_ppk::PpkEncryptionConfig;
+use picky_ppk::{Argon2Flavour, PpkEncryptionConfig};
 use picky_shown::{Shown, ShownSealing, key_bits, show_text};
 use picky_suite::PlainSuite;
 use picky_target::{ConvertError, KeyTarget, carries_comment};
@@ -136,7 +137,6 @@ fn cipher_name(sealing: &ShownSealing) -> &str
     }
 }
 
-#[tactic(auto, unfolding(picky_kv::specs::ChoiceFields::flavour_field))]
 fn derivation_name(sealing: &ShownSealing) -> &str
     ensures { result.now ≡ derivation_of sealing.now }
 {
@@ -144,12 +144,22 @@ fn derivation_name(sealing: &ShownSealing) -> &str
         ShownSealing::Unsealed => NONE,
         ShownSealing::OpenSsh { kdf, .. } => kdf.as_str(),
         ShownSealing::PpkV2 => PPK2_DERIVATION,
-        ShownSealing::PpkV3(config) => config.argon2_flavour.as_static_str(),
+        ShownSealing::PpkV3(config) => flavour_name(config.argon2_flavour),
+    }
+}
+
+fn flavour_name(flavour: Argon2Flavour) -> &'static str
+    ensures { result.now ≡ flavour_literal flavour }
+{
+    match flavour {
+        Argon2Flavour::Argon2d => "Argon2d",
+        Argon2Flavour::Argon2i => "Argon2i",
+        Argon2Flavour::Argon2id => "Argon2id",
     }
 }
 
 fn rounds_in(sealing: &ShownSealing) -> Option<u32>
-    ensures { result ≡ rounds_of_sealing sealing.now }
+    ensures { result ≡ rounds_of sealing.now }
 {
     match sealing {
         ShownSealing::OpenSsh { rounds, .. } => *rounds,
@@ -158,7 +168,7 @@ fn rounds_in(sealing: &ShownSealing) -> Option<u32>
 }
 
 fn argon2_in(sealing: &ShownSealing) -> Option<PpkEncryptionConfig>
-    ensures { result ≡ argon2_of_sealing sealing.now }
+    ensures { result ≡ argon2_of sealing.now }
 {
     match sealing {
         ShownSealing::PpkV3(config) => Some(*config),
@@ -167,25 +177,25 @@ fn argon2_in(sealing: &ShownSealing) -> Option<PpkEncryptionConfig>
 }
 
 fn memory_in(sealing: &ShownSealing) -> Option<u32>
-    ensures { result ≡ option_map (λ (c : PpkEncryptionConfig). c.argon2_memory) (argon2_of_sealing sealing.now) }
+    ensures { result ≡ memory_of sealing.now }
 {
     argon2_in(sealing).map(|config| config.argon2_memory)
 }
 
 fn passes_in(sealing: &ShownSealing) -> Option<u32>
-    ensures { result ≡ option_map (λ (c : PpkEncryptionConfig). c.argon2_passes) (argon2_of_sealing sealing.now) }
+    ensures { result ≡ passes_of sealing.now }
 {
     argon2_in(sealing).map(|config| config.argon2_passes)
 }
 
 fn lanes_in(sealing: &ShownSealing) -> Option<u32>
-    ensures { result ≡ option_map (λ (c : PpkEncryptionConfig). c.argon2_parallelism) (argon2_of_sealing sealing.now) }
+    ensures { result ≡ lanes_of sealing.now }
 {
     argon2_in(sealing).map(|config| config.argon2_parallelism)
 }
 
 fn salt_len_in(sealing: &ShownSealing) -> Option<u32>
-    ensures { result ≡ option_map (λ (c : PpkEncryptionConfig). c.argon2_salt_size) (argon2_of_sealing sealing.now) }
+    ensures { result ≡ salt_len_of sealing.now }
 {
     argon2_in(sealing).map(|config| config.argon2_salt_size)
 }
