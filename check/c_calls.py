@@ -7,6 +7,7 @@ import base64
 import ctypes
 import hashlib
 import importlib.util
+import itertools
 import os
 import re
 import shutil
@@ -26,6 +27,8 @@ header = SourceFileLoader("header", str(Path(__file__).with_name("header"))).loa
 
 TARGETS = {"openssh": 1, "ppk2": 2, "ppk3": 3, "ssh-pub": 4, "putty-pub": 5, "ppk2-for-putty": 6, "ppk3-for-putty": 7}
 PARTS = {"type": 1, "blob": 2, "comment": 3}
+SHOWN = {**PARTS, "line": 4, "fingerprint": 5, "bits": 6, "encrypted": 7, "cipher": 8, "derivation": 9, "rounds": 10, "memory": 11,
+         "passes": 12, "lanes": 13, "salt_len": 14}
 FILE_TARGETS = ("ppk2", "ppk3", "ppk2-for-putty", "ppk3-for-putty")
 PRIVATE_TARGETS, PUTTY_TARGETS = ("openssh", *FILE_TARGETS), (*FILE_TARGETS, "putty-pub")
 UNTOUCHED = b"\xa5"
@@ -53,6 +56,14 @@ def part(name, text, word, wanted):
 
 def fingerprint(name, text, wanted):
     return Call(f"{name}, fingerprint", "fingerprint", (text,), wanted)
+
+
+def shown(name, text, word, wanted):
+    return Call(f"{name}, shows {word}", "shown_public", (text, SHOWN.get(word, word)), wanted)
+
+
+def with_comment(name, text, comment, wanted):
+    return Call(f"{name}, with the comment {comment!r}", "with_comment", (text, comment), wanted)
 
 
 # ---- the library, by examples/python
@@ -121,8 +132,8 @@ def complaint(picky, numbers, call):
 
 def wrong_numbers(picky, text):
     """A line for each number of which the header's text, the library and examples/python say different things."""
-    declared = [list(map(int, it.values())) for it in header.numbers(text)[:2]]
-    for theirs, ours, numbers in zip((picky.TARGETS, picky.PARTS), (TARGETS, PARTS), declared):
+    declared = [list(map(int, it.values())) for it in header.numbers(text)[:3]]
+    for theirs, ours, numbers in zip((picky.TARGETS, picky.PARTS, picky.SHOWN), (TARGETS, PARTS, SHOWN), declared):
         if theirs != ours or list(ours.values()) != numbers:
             yield f"examples/python has {theirs}, check/c_calls.py {ours}, and the header {numbers}"
     names = header.error_names()
@@ -140,13 +151,37 @@ def wrong_version(picky, text):
 
 # ---- what other programs wrote
 
+def print_of(blob):
+    return b"SHA256:" + base64.b64encode(hashlib.sha256(blob).digest()).rstrip(b"=")
+
+
+def bits_of(blob):
+    """How many bits a key has (RFC 4253, section 6.6; RFC 5656): of RSA those of n, and else those of the curve."""
+    kind, rest = string_at(blob, 0)
+    if kind == RSA:
+        _, rest = string_at(blob, rest)
+        return int.from_bytes(string_at(blob, rest)[0], "big").bit_length()
+    return {b"ecdsa-sha2-nistp384": 384, b"ecdsa-sha2-nistp521": 521}.get(kind, 256)
+
+
+def shown_calls(name, text, line, *sealed):
+    """What a text shows whose public part has this line; the words of what it is encrypted by come behind, where it is."""
+    kind, body, comment = (line.split(b" ", 2) + [b""])[:3]
+    blob = base64.b64decode(body)
+    line = b" ".join((kind, body, comment)) + b"\r\n"
+    key = (kind, blob, comment, line, print_of(blob), b"%d" % bits_of(blob), b"1" if sealed else b"0")
+    words = (*key, *(sealed or (b"none", b"none")))
+    yield from (shown(name, text, word, wanted) for word, wanted in itertools.zip_longest(SHOWN, words, fillvalue=b""))
+
+
 def read_calls(name, text, line):
     """What doesn't depend on the secret, of a text that means the key and the comment of a line."""
     kind, body, comment = (line.split(b" ", 2) + [b""])[:3]
     blob = base64.b64decode(body)
-    yield fingerprint(name, text, b"SHA256:" + base64.b64encode(hashlib.sha256(blob).digest()).rstrip(b"="))
+    yield fingerprint(name, text, print_of(blob))
     yield from (part(name, text, word, wanted) for word, wanted in zip(PARTS, (kind, blob, comment)))
     yield convert(name, "ssh-pub", text, b" ".join((kind, body, comment)) + b"\r\n")
+    yield from shown_calls(name, text, line)
     if kind.startswith(b"sk-"):
         yield convert(name, "putty-pub", text, "output.putty.NotSupported")
 
@@ -312,6 +347,10 @@ def putty_faults():
     }
 
 
+# What is refused for these reasons shows what stands open in it all the same.
+SHOWS = {"input.private.MissingPassphrase", "input.private.UnsupportedCipher", "input.private.UnsupportedKdf", "input.putty.Encrypted"}
+
+
 def of_texts_that_mean_no_key():
     faults = [(f"input.private.{name}", *it) for name, it in private_faults().items()]
     faults += [(f"input.public.{name}", it, b"") for name, it in public_faults().items()]
@@ -325,6 +364,54 @@ def of_texts_that_mean_no_key():
         if not passphrase:
             yield fingerprint(wanted, text, wanted)
             yield from (part(wanted, text, word, wanted) for word in PARTS)
+            yield with_comment(wanted, text, b"l", wanted)
+        if not passphrase and wanted not in SHOWS:
+            yield from (shown(wanted, text, word, wanted) for word in SHOWN)
+
+
+def of_what_encrypted_texts_show():
+    """Each word that stands open in an encrypted text, and the public key in front of it."""
+    for kind, key in KEYS.items():
+        line = line_text(kind, key.public, b"", b"")
+        for cipher in (b"aes128-cbc", b"aes192-ctr", b"aes256-gcm@openssh.com", b"none", b"", "\u00e9".encode()):
+            for derivation, rounds, wanted in ((b"bcrypt", 24, b"24"), (b"bcrypt", 0, b"0"), (b"bcrypt", 2**32 - 1, b"4294967295"), (b"scrypt", 16, b"")):
+                text = sealed_envelope(key, cipher, derivation, rounds=rounds)
+                yield from shown_calls(f"{kind}, {cipher}, {derivation}, {rounds} rounds", text, line, cipher, derivation, wanted)
+        yield shown(f"{kind}, a public key that is none", sealed_envelope(key._replace(public=[[b"ssh-dss"]])), "type", "input.public.UnknownKeyType")
+        if not key.secret:
+            continue
+        line = line_text(kind, key.public, b"a comment", b"")
+        yield from shown_calls(f"{kind}, version 2", sealed_ppk(2, key, b"a comment"), line, b"aes256-cbc", b"SHA-1")
+        for name, *numbers in ((b"Argon2d", 8, 1, 1, 0), (b"Argon2i", 4294967295, 4294967295, 4294967295, 1), (b"Argon2id", 8192, 34, 1, 16)):
+            told = [b"%d" % it for it in numbers]
+            text = sealed_ppk(3, key, b"a comment", Key_Derivation=name, Argon2_Memory=told[0], Argon2_Passes=told[1],
+                              Argon2_Parallelism=told[2], Argon2_Salt=b"00" * numbers[3])
+            yield from shown_calls(f"{kind}, version 3, {name}", text, line, b"aes256-cbc", name, b"", *told)
+
+
+def of_comments():
+    """Each form of each kind of key with another comment: the very text that the standards have for the key and that comment."""
+    for kind, key in KEYS.items():
+        old, new = dict(texts_of(key, b"k")), dict(texts_of(key, "a longer \u00e9".encode()))
+        for form, text in old.items():
+            name = f"{kind.decode()}, {form}"
+            wanted = "CommentNotCarried" if form.startswith("certificate") else new[form]
+            if form == "line":
+                wanted = wanted[:-1] + b"\r\n"
+            yield with_comment(name, text, "a longer \u00e9".encode(), wanted)
+            yield with_comment(name, text, b"\xff", "CommentNotUtf8")
+            yield with_comment(f"{name}, not UTF-8", text + b"\xff", b"\xff", "TextNotUtf8")
+            # Which form holds which comment: an end of a line, white space at the end, CR at the end.
+            for comment, holds in ((b"a\nb", ("envelope",)), (b"a\rb", ("envelope", "PPK 2", "PPK 3", "PuTTY public")), (b"a ", ("PPK 2", "PPK 3", "PuTTY public")),
+                                   (b"a\r", ("PPK 2", "PuTTY public"))):
+                wanted = dict(texts_of(key, comment))[form] if form in holds else "CommentNotCarried"
+                yield with_comment(name, text, comment, wanted)
+        checked = [envelope_text(envelope_nodes(key, it, check=b"\1\2\3\4")) for it in (b"k", b"")]
+        yield with_comment(f"{kind.decode()}, a check number", checked[0], b"", checked[1])
+        yield with_comment(f"{kind.decode()}, encrypted", sealed_envelope(key), b"l", "input.private.MissingPassphrase")
+        for version in (2, 3):
+            if key.secret:
+                yield with_comment(f"{kind.decode()}, encrypted", sealed_ppk(version, key, b"k"), b"l", "input.putty.Encrypted")
 
 
 def of_passphrases():
@@ -354,12 +441,17 @@ def of_the_order():
         yield convert("bytes that aren't UTF-8", target, b"\xff", "NoSuchTarget", b"\xff", b"\xff")
     for number in (0, 4, 256, 2**32 - 1):
         yield part("bytes that aren't UTF-8", b"\xff", number, "NoSuchPart")
+    for number in (0, 15, 256, 2**32 - 1):
+        yield shown("bytes that aren't UTF-8", b"\xff", number, "NoSuchPart")
     yield convert("bytes and a passphrase that aren't UTF-8", "ppk3", b"\xff", "TextNotUtf8", b"\xff", b"\xff")
     yield convert("no key, a passphrase that isn't UTF-8", "ppk3", b"", "PassNotUtf8", b"p", b"\xff")
     yield convert("no key, to be encrypted", "ppk3", b"", "input.public.UnknownKeyType", b"p", b"p")
     broken = putty_public(render(KEYS[ED25519].public), b"a\rb")
     yield convert("a public key and a comment with CR", "ppk3", broken, "NoPrivateKey", b"", b"p")
     yield convert("a comment with CR", "ssh-pub", broken, "CommentNotCarried")
+    yield shown("a comment with CR", broken, "line", "CommentNotCarried")
+    yield shown("a comment with CR, encrypted", sealed_ppk(2, KEY, b"a\rb"), "line", "CommentNotCarried")
+    yield shown("a comment with CR, encrypted", sealed_ppk(2, KEY, b"a\rb"), "comment", b"a\rb")
     token = next(key for kind, key in KEYS.items() if kind.startswith(b"sk-"))
     text = envelope_text(envelope_nodes(token, b"a\nb"))
     yield convert("a key of a device and a comment with LF", "ppk3", text, "output.putty.NotSupported", b"", b"p")
@@ -367,6 +459,10 @@ def of_the_order():
     yield convert("a comment with LF, to be encrypted", "ppk3", text, "CommentNotCarried", b"", b"p")
     yield fingerprint("bytes that aren't UTF-8", b"ssh-ed25519 \xff\n", "TextNotUtf8")
     yield part("bytes that aren't UTF-8", b"ssh-ed25519 \xff\n", "type", "TextNotUtf8")
+    yield shown("bytes that aren't UTF-8", b"ssh-ed25519 \xff\n", "type", "TextNotUtf8")
+    yield with_comment("bytes that aren't UTF-8", b"\xff", b"\xff", "TextNotUtf8")
+    yield with_comment("no key, a comment that isn't UTF-8", b"", b"\xff", "CommentNotUtf8")
+    yield with_comment("no key, a comment with LF", b"", b"\n", "input.public.UnknownKeyType")
 
 
 def of_long_keys():
@@ -381,4 +477,5 @@ def of_long_keys():
             yield convert(f"a public blob of {size} bytes", f"ppk{version}", text, wanted)
 
 
-GROUPS = (of_other_programs, of_the_formats, of_keyconv, of_texts_that_mean_no_key, of_passphrases, of_the_order, of_long_keys)
+GROUPS = (of_other_programs, of_the_formats, of_keyconv, of_texts_that_mean_no_key, of_what_encrypted_texts_show, of_comments, of_passphrases,
+          of_the_order, of_long_keys)

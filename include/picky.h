@@ -109,6 +109,26 @@ enum {
     PICKY_COMMENT = 3    /* the comment beside it; it may be empty */
 };
 
+/* The parts of what a key text shows without a passphrase. Numbers are written in decimal, as "256". */
+enum {
+    PICKY_SHOWN_TYPE_NAME = 1,   /* PICKY_TYPE_NAME of the public key */
+    PICKY_SHOWN_BLOB = 2,        /* its PICKY_BLOB */
+    PICKY_SHOWN_COMMENT = 3,     /* the comment; no bytes of an encrypted OpenSSH private key, which has it encrypted, too */
+    PICKY_SHOWN_LINE = 4,        /* the public key line, as of PICKY_OPENSSH_PUBLIC, with that comment */
+    PICKY_SHOWN_FINGERPRINT = 5, /* the fingerprint, as of picky_fingerprint */
+    PICKY_SHOWN_BITS = 6,        /* how many bits the key has, as `ssh-keygen -l` prints it: that of RSA's n, else the curve's */
+    PICKY_SHOWN_ENCRYPTED = 7,   /* "1" where the text is encrypted, else "0" */
+    PICKY_SHOWN_CIPHER = 8,      /* its cipher: as an OpenSSH private key names it, known here or not; "aes256-cbc" of PuTTY's
+                                    files; "none" where the text isn't encrypted */
+    PICKY_SHOWN_DERIVATION = 9,  /* the key derivation: as an OpenSSH private key names it; "Argon2d", "Argon2i" or "Argon2id" of
+                                    PuTTY's files of version 3, and "SHA-1" of version 2; "none" where the text isn't encrypted */
+    PICKY_SHOWN_ROUNDS = 10,     /* the rounds of bcrypt; no bytes of another derivation. So in what follows, but of Argon2: */
+    PICKY_SHOWN_MEMORY = 11,     /* its memory in KiB */
+    PICKY_SHOWN_PASSES = 12,     /* its passes */
+    PICKY_SHOWN_LANES = 13,      /* its lanes */
+    PICKY_SHOWN_SALT_LEN = 14    /* how many bytes its salt has */
+};
+
 /*
  * The key and the comment that a text means, as the text of a target: the one text that spells them (of a public target: the
  * public part), which means them again when it is read. Of a certificate they are the subject's key, unverified, and the comment.
@@ -219,6 +239,31 @@ picky_answer picky_fingerprint(picky_bytes text, void *out, size_t out_len);
  * Reasons, in order: PICKY_NO_SUCH_PART; PICKY_TEXT_NOT_UTF8; PICKY_INPUT_..; PICKY_BUFFER_TOO_SMALL.
  */
 picky_answer picky_read_public(picky_bytes text, uint32_t part, void *out, size_t out_len);
+
+/*
+ * A part of what a key text shows without a passphrase. A text that isn't encrypted shows what it means: its parts are those of
+ * picky_read_public. An encrypted one shows what stands open in it: the public key, PuTTY's comment, and by what it is encrypted.
+ * That the public key is the private key's is known only when the text is opened: until then it is what the file says, and who
+ * wrote the file may have put another's public key in front. Once it is read under a passphrase, its key has this public part.
+ *
+ * Where a text has no such part, no bytes are handed out: PICKY_OK, and `len` is 0.
+ *
+ * Reasons, in order: PICKY_NO_SUCH_PART; PICKY_TEXT_NOT_UTF8; PICKY_INPUT_.., which is PICKY_INPUT_PUBLIC for the public key in an
+ * encrypted OpenSSH private key; of PICKY_SHOWN_LINE also PICKY_COMMENT_NOT_CARRIED and PICKY_TOO_LONG; PICKY_BUFFER_TOO_SMALL.
+ */
+picky_answer picky_shown_public(picky_bytes text, uint32_t part, void *out, size_t out_len);
+
+/*
+ * The key text with another comment, in its form: of an OpenSSH private key or a PuTTY private key file that isn't encrypted, of a
+ * public key line or of PuTTY's public key. What is handed out means the same key, with this comment. An OpenSSH private key keeps
+ * its check number, and PuTTY's file its version and how its private bytes are spelled. A line is written in its one spelling, with
+ * CR LF. What follows the first key isn't handed out.
+ *
+ * Reasons, in order: PICKY_TEXT_NOT_UTF8; PICKY_COMMENT_NOT_UTF8; PICKY_INPUT_.., also PICKY_PRIVATE_MISSING_PASSPHRASE and
+ * PICKY_PUTTY_ENCRYPTED of what is encrypted; PICKY_COMMENT_NOT_CARRIED, where this form can't hold the comment, and of each
+ * certificate, whose signature is of its bytes as they stand; PICKY_TOO_LONG; PICKY_TOO_MANY_LINES; PICKY_BUFFER_TOO_SMALL.
+ */
+picky_answer picky_with_comment(picky_bytes text, picky_bytes comment, void *out, size_t out_len);
 
 /*
  * The name of an error, as "BufferTooSmall" or "input.putty.MacValidation"; of a number that isn't listed here, "". A refusal

@@ -14,13 +14,16 @@
 #include <stdlib.h>
 #include <string.h>
 
-enum { SMALL = 300, STACK = 64 * 1024, UNTOUCHED = 0xA5 };
+enum { CALLS = 41, SMALL = 300, STACK = 64 * 1024, UNTOUCHED = 0xA5 };
 
 static const picky_bytes none = {"", 0};
 static const picky_bytes pass = {"pass", 4};
 static unsigned long calls, handed;
 
-/* One of 22 calls: targets and parts, two numbers of each that name none, targets under passphrases, and the fingerprint. */
+/*
+ * One of CALLS: targets and parts, two numbers of each that name none, targets under passphrases, the fingerprint, parts of what is
+ * shown, two numbers that name none, and other comments.
+ */
 static picky_answer call(int which, picky_bytes text, void *out, size_t out_len) {
     if (which < 9)
         return picky_convert(text, (uint32_t)which, none, none, none, out, out_len);
@@ -28,7 +31,11 @@ static picky_answer call(int which, picky_bytes text, void *out, size_t out_len)
         return picky_read_public(text, (uint32_t)(which - 9), out, out_len);
     if (which < 21)
         return picky_convert(text, (uint32_t)(which - 13), pass, pass, text, out, out_len);
-    return picky_fingerprint(text, out, out_len);
+    if (which < 22)
+        return picky_fingerprint(text, out, out_len);
+    if (which < 38)
+        return picky_shown_public(text, (uint32_t)(which - 22), out, out_len);
+    return picky_with_comment(text, which == 38 ? pass : which == 39 ? none : text, out, out_len);
 }
 
 static void fail(int which, size_t out_len, picky_answer answer, const char *why) {
@@ -71,7 +78,7 @@ static picky_answer attempt(int which, picky_bytes text, size_t out_len, const u
 }
 
 static void try_text(picky_bytes text) {
-    for (int which = 0; which < 22; which++) {
+    for (int which = 0; which < CALLS; which++) {
         picky_answer first = call(which, text, NULL, 0);
         calls++;
         if (first.error != PICKY_BUFFER_TOO_SMALL) {

@@ -21,6 +21,10 @@ Data = Union[bytes, bytearray, memoryview]
 
 TARGETS = {"openssh": 1, "ppk2": 2, "ppk3": 3, "ssh-pub": 4, "putty-pub": 5, "ppk2-for-putty": 6, "ppk3-for-putty": 7}
 PARTS = {"type": 1, "blob": 2, "comment": 3}
+SHOWN = {
+    **PARTS, "line": 4, "fingerprint": 5, "bits": 6, "encrypted": 7, "cipher": 8, "derivation": 9, "rounds": 10, "memory": 11,
+    "passes": 12, "lanes": 13, "salt_len": 14,
+}
 OK, BUFFER_TOO_SMALL = 0, 1
 
 
@@ -66,6 +70,8 @@ def load(path: str = library_file()) -> ctypes.CDLL:
         "picky_convert": [Bytes, ctypes.c_uint32, Bytes, Bytes, Bytes],
         "picky_fingerprint": [Bytes],
         "picky_read_public": [Bytes, ctypes.c_uint32],
+        "picky_shown_public": [Bytes, ctypes.c_uint32],
+        "picky_with_comment": [Bytes, Bytes],
     }
     for name, given in taken.items():
         call = getattr(library, name)
@@ -117,6 +123,16 @@ def fingerprint(text: Data) -> str:
 def read_public(text: Data, part: str) -> bytes:
     """A part, one of PARTS, of the public key that a text means. Another is refused: NoSuchPart."""
     return handed_out(library.picky_read_public, Bytes(text), PARTS.get(part, 0))
+
+
+def shown_public(text: Data, part: str) -> bytes:
+    """A part, one of SHOWN, of what a text shows without a passphrase; b"" where it has none. Another is refused: NoSuchPart."""
+    return handed_out(library.picky_shown_public, Bytes(text), SHOWN.get(part, 0))
+
+
+def with_comment(text: Data, comment: Data) -> bytes:
+    """The text with another comment."""
+    return handed_out(library.picky_with_comment, Bytes(text), Bytes(comment))
 
 
 def main(words: Sequence[str]) -> int:

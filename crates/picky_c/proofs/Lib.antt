@@ -4,3 +4,6 @@ pub mod LawLemmas
 pub mod RoundLemmas
 pub mod NamedLemmas
 pub mod GivenLemmas
+pub mod ShownLemmas
+pub mod CommentLemmas
+pub mod RefusedLemmas

@@ -8,3 +8,5 @@ pub mod Part
 pub mod Sealing
 pub mod Calls
 pub mod Round
+pub mod Shown
+pub mod Comment

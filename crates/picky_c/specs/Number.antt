@@ -132,6 +132,7 @@ error_number calls.NoSuchTarget = 5
 error_number calls.NoSuchPart = 6
 error_number calls.NoCipher = 7
 error_number calls.Asked = 13
+error_number calls.CommentNotUtf8 = 14
 error_number calls.NoSuchSealing = 15
 error_number (calls.Answers e) = 700 + answers_number e
 error_number (calls.Refused e) = refused_number e

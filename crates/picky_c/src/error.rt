@@ -21,6 +21,8 @@ pub enum PickyError {
     TextNotUtf8,
     /// A passphrase isn't UTF-8.
     PassNotUtf8,
+    /// The comment isn't UTF-8.
+    CommentNotUtf8,
     /// The number names no target.
     NoSuchTarget,
     /// The number names no part.

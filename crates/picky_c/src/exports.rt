@@ -3,15 +3,19 @@
 //! A slice is a pointer and a length to C, and a `Global` is nothing. What holds of them here a caller in C has to see to.
 
 ghost use Rattle.std.specs.Prelude.{[], false};
-ghost use Rattle.picky_suite.specs.Meanings.{Meanings};
+ghost use Rattle.picky_suite.specs.Meanings.{Meanings, plain};
 ghost use Rattle.picky_c.specs.Answer.{AnswersCall};
 ghost use Rattle.picky_c.specs.Calls.{IsConverted, IsFingerprint, IsPart, converted as converted_of, converting_is_asked};
 ghost use Rattle.picky_c.specs.Calls.{fingerprint as fingerprint_of, numbered_target, public_part_in, sealed_target};
 ghost use Rattle.picky_c.specs.Given.{given};
+ghost use Rattle.picky_changed.specs.Comment.{IsCommented};
+ghost use Rattle.picky_c.specs.Comment.{commented as commented_of};
+ghost use Rattle.picky_c.specs.Shown.{IsShownPart, shown_part_in};
 ghost use Rattle.picky_c.specs.Name.{IsNamed, error_name, version};
 ghost use Rattle.picky_c.specs.Round.{AnswersRound};
 
 use crate::answer::{PickyAnswer, hand};
+use crate::comment::commented;
 use crate::conversion::converted;
 use crate::given::{Given, PickyBytes};
 use crate::name::{PickyName, name_of, version_name};
@@ -19,6 +23,7 @@ use crate::public::{fingerprint, part as part_of_text};
 use crate::round::{converted_by, hand_round};
 use crate::sealing::{PickySealing, target_of_sealing};
 use crate::target::target_of;
+use crate::shown::shown_part;
 use std::alloc::Global;
 
 /// The text of the target with a number for what a key text means.
@@ -144,6 +149,40 @@ pub extern "C" fn picky_read_public(
     ensures { AnswersCall (public_part_in text.entry.bytes.now part) false (IsPart text.entry.bytes.now part) result out.old out.new }
 {
     let outcome = part_of_text(alloc, text.bytes, part);
+    hand(outcome, out)
+}
+
+/// The part with a number of what a key text shows without a passphrase; no bytes where it has no such thing.
+///
+/// Refuses, in order: `NoSuchPart`, `TextNotUtf8`, as `picky_shown::show_text`, and `BufferTooSmall`; of the public key line
+/// `CommentNotCarried` and `TooLong` before that.
+#[unsafe(no_mangle)]
+pub extern "C" fn picky_shown_public(
+    alloc: Global,
+    text: PickyBytes<'_>,
+    part: u32,
+    out: &mut [u8],
+) -> PickyAnswer
+    ensures { AnswersCall (shown_part_in text.entry.bytes.now part) false (IsShownPart text.entry.bytes.now part) result out.old out.new }
+{
+    let outcome = shown_part(alloc, text.bytes, part);
+    hand(outcome, out)
+}
+
+/// The key text with another comment, which means the same key.
+///
+/// Refuses, in order: `TextNotUtf8`, `CommentNotUtf8`, as `picky_changed::with_comment`, and `BufferTooSmall`.
+#[unsafe(no_mangle)]
+pub extern "C" fn picky_with_comment(
+    alloc: Global,
+    text: PickyBytes<'_>,
+    comment: PickyBytes<'_>,
+    out: &mut [u8],
+) -> PickyAnswer
+    ensures { AnswersCall (commented_of text.entry.bytes.now comment.entry.bytes.now) false
+        (IsCommented plain comment.entry.bytes.now text.entry.bytes.now) result out.old out.new }
+{
+    let outcome = commented(alloc, text.bytes, comment.bytes);
     hand(outcome, out)
 }
 

@@ -4,6 +4,7 @@
 #![tactic(auto)]
 
 mod answer;
+mod comment;
 mod conversion;
 mod error;
 mod exports;
@@ -15,4 +16,6 @@ mod part;
 mod public;
 mod round;
 mod sealing;
+mod shown;
+mod shown_part;
 mod target;

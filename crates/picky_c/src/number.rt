@@ -30,6 +30,7 @@ pub fn number_of(e: &PickyError) -> u32
         PickyError::NoSuchPart => 6,
         PickyError::NoCipher => 7,
         PickyError::Asked => 13,
+        PickyError::CommentNotUtf8 => 14,
         PickyError::NoSuchSealing => 15,
         PickyError::Answers(e) => 700 + answers_number(e),
         PickyError::Refused(e) => convert_number(e),

@@ -51,7 +51,7 @@ pub fn part_of(alloc: Global, part: Part, key: &SshPublicKey) -> Result<Vec<u8>,
 }
 
 /// A copy of the bytes. Refuses: `NoMemory`.
-fn copy_of(alloc: Global, bytes: &[u8]) -> Result<Vec<u8>, PickyError>
+pub fn copy_of(alloc: Global, bytes: &[u8]) -> Result<Vec<u8>, PickyError>
     ensures { Gives PickyError.NoMemory (λ copy. copy.items) result (Ok bytes.now) }
 {
     match Vec::from_slice(alloc, bytes) {

@@ -38,7 +38,7 @@ pub fn fingerprint(alloc: Global, text: &[u8]) -> Result<Vec<u8>, PickyError>
 }
 
 /// A SHA-256 digest in base64 without padding, behind its name.
-fn print_digest(alloc: Global, digest: [u8; 32]) -> Result<String, AllocError>
+pub fn print_digest(alloc: Global, digest: [u8; 32]) -> Result<String, AllocError>
     ensures { IfOk result (λ text. string_bytes text ≡ codes "SHA256:" ++ encode_of standard_no_pad digest) }
 {
     let mut text = String::from_str(alloc, "SHA256:")?;
