@@ -28,7 +28,7 @@ use Rattle.picky_ask.specs.declared.question.Entry.{Entry}
 use Rattle.picky_ask.specs.OperationNumber.{operation_number, flavour_number}
 use Rattle.picky_ask.specs.AlgorithmNumber.{hash_number, kind_number, algorithm_kind, algorithm_hash}
 use Rattle.picky_ask.specs.Operation.{operations, flavours}
-use Rattle.picky_ask.specs.Algorithm.{kinds, hashes, kind, hash, no_hash, rsa_hash, ecdsa_hash, ed_hash, algorithm}
+use Rattle.picky_ask.specs.Algorithm.{kinds, hashes, kind, hash, no_hash, kind_hash, algorithm}
 use Rattle.picky_ask.specs.Head.{operation, flavour, bcrypt_fields, argon2_fields, cipher_fields, sign_fields, head, head_of, IsHead}
 use Rattle.picky_ask.specs.Lookup.{question}
 use Rattle.picky_ask.specs.Question.{question_of, entry_of, IsQuestion, IsEntry}
@@ -73,7 +73,7 @@ hash_spells h = (hash_number h, byte_spells (hash_number h) (hash_small h), refl
 
 algorithm_spells : (a : SignatureAlgorithm)
     → algorithm.piece a (to_be_bytes w8 (kind_number (algorithm_kind a)) ++ to_be_bytes w8 (algorithm_hash a))
-unfolding algorithm kind kinds rsa_hash ecdsa_hash ed_hash no_hash
+unfolding algorithm kind kinds kind_hash no_hash
 algorithm_spells (algorithms.RsaPkcs1v15 h) = (
   variants.Rsa,
   _,

@@ -34,25 +34,16 @@ unfoldable pub no_hash : Grammar Reason ℕ
 no_hash = narrow (at 2 byte) (is_number (λ n. (2, Number n)) 0)
 
 -- the digest of each kind
-unfoldable pub rsa_hash : Grammar Reason SignatureAlgorithm
-rsa_hash = do
+unfoldable pub kind_hash : AlgorithmKind → Grammar Reason SignatureAlgorithm
+kind_hash variants.Rsa = do
   digest ← hash
   done (RsaPkcs1v15 digest)
-
-unfoldable pub ecdsa_hash : Grammar Reason SignatureAlgorithm
-ecdsa_hash = do
+kind_hash variants.Ecdsa = do
   digest ← hash
   done (Ecdsa digest)
-
-unfoldable pub ed_hash : Grammar Reason SignatureAlgorithm
-ed_hash = do
+kind_hash variants.Ed25519 = do
   zero ← no_hash
   done Ed25519
-
-abbrev pub kind_hash : AlgorithmKind → Grammar Reason SignatureAlgorithm
-kind_hash variants.Rsa = rsa_hash
-kind_hash variants.Ecdsa = ecdsa_hash
-kind_hash variants.Ed25519 = ed_hash
 
 -- byte kind
 -- byte digest

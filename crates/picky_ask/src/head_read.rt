@@ -140,7 +140,7 @@ fn sign_at<'a>(blob: &'a [u8], from: usize) -> Result<(HeadView<'a>, usize), Stu
     Ok((HeadView::Sign { algorithm, key }, next))
 }
 
-#[tactic(auto, unfolding(crate::specs::Algorithm::algorithm, crate::specs::Algorithm::kind, crate::specs::Algorithm::rsa_hash, crate::specs::Algorithm::ecdsa_hash, crate::specs::Algorithm::ed_hash, crate::specs::Algorithm::no_hash))]
+#[tactic(auto, unfolding(crate::specs::Algorithm::algorithm, crate::specs::Algorithm::kind, crate::specs::Algorithm::kind_hash, crate::specs::Algorithm::no_hash))]
 fn algorithm_at<'a>(blob: &'a [u8], from: usize) -> Result<(SignatureAlgorithm, usize), Stuck<'a>>
     ensures { Sees (λ by. by) why_in algorithm blob.now from result }
 {

@@ -3,7 +3,7 @@
 //! A call runs over a table of answers. Where the table has none, the device fails, and keeps the question aside: the caller
 //! answers it, and calls again with one entry more. Whatever the table, the suite keeps a suite's laws.
 //!
-//! Read first: `specs/Head.antt`, `specs/Lookup.antt` and `specs/Known.antt`; then `src/laws.rt`.
+//! Read first: `specs/Head.antt`, `specs/Lookup.antt`, `specs/State.antt` and `specs/Known.antt`; then `src/laws.rt`.
 #![tactic(auto)]
 
 mod head_read;
