@@ -216,8 +216,8 @@ enum {
  * The same to a private key's text, encrypted as the caller chooses where `pass_out` is one: a key file gets another passphrase,
  * other rounds or another form, or none.
  *
- * Reasons, in order: PICKY_NO_SUCH_SEALING, where `target` is no private key's or `flavour` no kind of Argon2; as
- * picky_convert_by. Numbers out of range are refused where there is a passphrase: rounds of 0 by PICKY_OUTPUT_PRIVATE +
+ * Reasons, in order: PICKY_NO_SUCH_SEALING, where `target` is no private key's, or is PuTTY's and `flavour` no kind of Argon2;
+ * as picky_convert_by. Numbers out of range are refused where there is a passphrase: rounds of 0 by PICKY_OUTPUT_PRIVATE +
  * PICKY_PRIVATE_HASHING_ERROR, Argon2's by PICKY_OUTPUT_PUTTY + PICKY_PUTTY_ARGON2.
  */
 picky_answer picky_seal_by(picky_bytes text, const picky_sealing *sealing, picky_bytes pass_in, picky_bytes pass_out,
@@ -300,7 +300,7 @@ enum {
     PICKY_TOO_MANY_LINES = 12,     /* a block of PuTTY's file has 65,536 lines or more */
     PICKY_ASKED = 13,              /* `out` has a question, which the answers lack */
     PICKY_COMMENT_NOT_UTF8 = 14,   /* the comment isn't UTF-8 */
-    PICKY_NO_SUCH_SEALING = 15,    /* the numbers name no private key's text, or no kind of Argon2 */
+    PICKY_NO_SUCH_SEALING = 15,    /* the numbers name no private key's text, or of PuTTY's no kind of Argon2 */
 
     /* The hundreds of errors. A number in one of them is the sum of the hundred and of an error of its kind, below. */
     PICKY_INPUT_PRIVATE = 100,  /* read as an OpenSSH private key, the text means no key; plus PICKY_PRIVATE_.. */

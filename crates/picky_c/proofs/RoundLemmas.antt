@@ -206,6 +206,7 @@ counted_for_a_reason told entries old new missing begins is same rose none =
 pub leaves_only : (entries : List Entry) (old new : State) (missing : Option Missing) → old ≡ fresh entries
     → IsState (Some entries) new → missing ≡ new.missing → IsAskedAtMost 4 calls_made old new → LeavesOnly entries missing
 leaves_only entries old new missing begins is same asked q left =
-    let there : new.missing ≡ Some (missings.Asked q) = sym same ∙ left in
-    (subst (λ es. answer_to q es ≡ None) (is.table entries refl) (is.unlisted q there),
-    enough_answers 4 entries q new is (subst (λ s. IsAskedAtMost 4 calls_made s new) begins asked) there)
+    let there : new.missing ≡ Some (missings.Asked q) = sym same ∙ left in (
+      subst (λ es. answer_to q es ≡ None) (is.table entries refl) (is.unlisted q there),
+      enough_answers 4 entries q new is (subst (λ s. IsAskedAtMost 4 calls_made s new) begins asked) there,
+    )

@@ -22,8 +22,8 @@ use crate::name::{PickyName, name_of, version_name};
 use crate::public::{fingerprint, part as part_of_text};
 use crate::round::{converted_by, hand_round};
 use crate::sealing::{PickySealing, target_of_sealing};
-use crate::target::target_of;
 use crate::shown::shown_part;
+use crate::target::target_of;
 use std::alloc::Global;
 
 /// The text of the target with a number for what a key text means.

@@ -122,11 +122,7 @@ fn round_of_text<K: Known>(
 }
 
 /// What a refusal comes to, by why the device has no answer.
-fn unanswered(
-    alloc: Global,
-    e: PickyError,
-    missing: Option<Missing>,
-) -> Result<Round, PickyError>
+fn unanswered(alloc: Global, e: PickyError, missing: Option<Missing>) -> Result<Round, PickyError>
     ensures is { IsUnanswered e missing result }
     ensures no_text { IfText result (λ bytes. ⊥) }
 {

@@ -6,7 +6,6 @@ ghost use Rattle.picky_c.specs.Sealing.{flavour_numbered, sealing_config as conf
 
 use crate::error::PickyError;
 use picky_ppk::{Argon2Flavour, PpkEncryptionConfig, PpkLayout, PpkVersion};
-
 use picky_target::KeyTarget;
 
 /// A private key's text, and what it is sealed under where there is a passphrase.

@@ -6,5 +6,5 @@ use Rattle.picky_c.proofs.laws.a_conversion_is_a_round_by_no_answers.Goals as go
 
 pub returns : goal.returns
 returns c = λ m to g round result numbered none gives is.
-    conversion_gives (λ bytes. bytes) m to g round result numbered none gives 
+    conversion_gives (λ bytes. bytes) m to g round result numbered none gives
     (subst (IsWithoutAnswers round) (sym (seen_as_it_is result)) is)
