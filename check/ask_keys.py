@@ -7,7 +7,12 @@ import sys
 from pathlib import Path
 from typing import NamedTuple
 
-from ask_reference import Plain, read_plain
+from cryptography.hazmat.primitives.asymmetric.ec import SECP256R1, generate_private_key
+from cryptography.hazmat.primitives.asymmetric.ed25519 import Ed25519PrivateKey
+from cryptography.hazmat.primitives.serialization import Encoding, PublicFormat
+
+from ask_device import string, uint32
+from ask_reference import Envelope, Plain, padded, read_plain, write_envelope
 
 SECONDS = 120
 KINDS = {
@@ -63,6 +68,19 @@ class Tools:
         self.done("ssh-keygen", "-q", "-t", *KINDS[kind].split(), "-N", "", "-C", comment, "-f", name)
         text, line = path.read_bytes(), path.with_name(f"{name}.pub").read_bytes()
         return Key(name, kind, text, tuple(line.split()[:2]), read_plain(text))
+
+    def security_key(self, name: str, comment: str) -> Key:
+        """A security key, which no device made: its handle is any bytes (PROTOCOL.u2f)."""
+        ecdsa = name.startswith("sk-ecdsa")
+        if ecdsa:
+            point = generate_private_key(SECP256R1()).public_key().public_bytes(Encoding.X962, PublicFormat.UncompressedPoint)
+            front = string(b"sk-ecdsa-sha2-nistp256@openssh.com") + string(b"nistp256") + string(point) + string(b"ssh:")
+        else:
+            point = Ed25519PrivateKey.generate().public_key().public_bytes(Encoding.Raw, PublicFormat.Raw)
+            front = string(b"sk-ssh-ed25519@openssh.com") + string(point) + string(b"ssh:")
+        block = uint32(7) * 2 + front + b"\1" + string(os.urandom(70)) + string(b"") + string(comment.encode())
+        text = write_envelope(Envelope(b"none", b"none", b"", front, padded(block, 8)))
+        return Key(name, "sk", text, self.public_of(text, b""), read_plain(text))
 
     def by_ssh_keygen(self, key: Key, cipher: str, rounds: int, pass_: bytes) -> bytes:
         """The key, sealed by ssh-keygen."""

@@ -84,11 +84,16 @@ def open_envelope(text: bytes, pass_: bytes, ask: Ask) -> bytes:
     return write_envelope(Envelope(b"none", b"none", b"", envelope.public, block))
 
 
+# What follows the name in each private key: strings, and a byte of flags.
+LAYOUTS = {b"ssh-rsa": "ssssss", b"ssh-ed25519": "ss", b"ecdsa-sha2-nistp256": "sss", b"ecdsa-sha2-nistp384": "sss",
+           b"ecdsa-sha2-nistp521": "sss", b"sk-ssh-ed25519@openssh.com": "ssbss", b"sk-ecdsa-sha2-nistp256@openssh.com": "sssbss"}
+
+
 class Plain(NamedTuple):
-    """What a text says that isn't sealed: the public key's blob, the fields of the private key with its name, and the comment."""
+    """What a text says that isn't sealed: the public key's blob, the fields of the private key as bytes, and the comment."""
 
     public: bytes
-    private: tuple[bytes, ...]
+    private: bytes
     comment: bytes
 
 
@@ -97,9 +102,10 @@ def read_plain(text: bytes) -> Plain:
     block = Fields(envelope.block)
     if envelope.cipher != b"none" or block.uint32() != block.uint32():
         raise ValueError("this isn't the block of a key that isn't sealed")
-    name = block.string()
-    counts = {b"ssh-rsa": 6, b"ssh-ed25519": 2}
-    private = (name, *(block.string() for _ in range(counts.get(name, 3))))
+    private = block.left
+    for kind in LAYOUTS[block.string()]:
+        block.string() if kind == "s" else block.byte()
+    private = private[: len(private) - len(block.left)]
     return Plain(envelope.public, private, block.string())
 
 
@@ -111,7 +117,7 @@ def padded(block: bytes, size: int) -> bytes:
 def seal_envelope(text: bytes, pass_: bytes, fresh: bytes, count: int, ask: Ask) -> bytes:
     """The key of a text that isn't sealed, with check numbers of 0, under this passphrase and so many rounds."""
     it, salt = read_plain(text), fresh[:16]
-    block = padded(uint32(0) * 2 + b"".join(map(string, (*it.private, it.comment))), 16)
+    block = padded(uint32(0) * 2 + it.private + string(it.comment), 16)
     sealed_block = run_cipher(b"aes256-ctr", pass_, salt, count, block, ask)
     return write_envelope(Envelope(b"aes256-ctr", b"bcrypt", string(salt) + uint32(count), it.public, sealed_block))
 
