@@ -206,7 +206,8 @@ class Library:
             "convert": [bytes_, number, bytes_, bytes_, bytes_],
             "convert_by": [bytes_, number, bytes_, bytes_, bytes_, bytes_],
             "seal_by": [bytes_, sealing, bytes_, bytes_, bytes_, bytes_],
-            "fingerprint": [bytes_],
+            "shown_public": [bytes_, number],
+            "with_comment": [bytes_, bytes_],
         }
         for name, given in taken.items():
             call = getattr(self.library, f"picky_{name}", None)
@@ -259,8 +260,11 @@ class Library:
         given = _Bytes(it.text), _Sealing(*sealing), _Bytes(it.pass_in), _Bytes(it.pass_out), _Bytes(it.fresh)
         return self._handed("seal_by", *given, _Bytes(answers))
 
-    def fingerprint(self, text: bytes) -> Outcome:
-        return self._handed("fingerprint", _Bytes(text))
+    def shown_public(self, text: bytes, part: int) -> Outcome:
+        return self._handed("shown_public", _Bytes(text), part)
+
+    def with_comment(self, text: bytes, comment: bytes) -> Outcome:
+        return self._handed("with_comment", _Bytes(text), _Bytes(comment))
 
 
 # ---- rounds

@@ -96,6 +96,14 @@ class Tools:
         self.done("puttygen", "source", "-O", "private", "-o", "made", "--ppk-param", params, "--new-passphrase", "pass")
         return (self.folder / "made").read_bytes()
 
+    def commented_by_puttygen(self, text: bytes, comment: str) -> bytes:
+        """The file with another comment."""
+        self.put("source", text)
+        (self.folder / "made").unlink(missing_ok=True)
+        version = text[20:21].decode()
+        self.done("puttygen", "source", "-C", comment, "-O", "private", "-o", "made", "--ppk-param", f"version={version}", "--new-passphrase", os.devnull)
+        return (self.folder / "made").read_bytes()
+
     # ---- what is read
 
     def public_of(self, text: bytes, pass_: bytes) -> tuple[bytes, ...]:
@@ -110,9 +118,11 @@ class Tools:
         ran = self.ran("puttygen", "read", "-L")
         return tuple(ran.stdout.split()[:2]) if ran.returncode == 0 else (ran.stderr,)
 
-    def fingerprint_of(self, text: bytes) -> bytes:
+    def listed(self, text: bytes) -> tuple[bytes, bytes]:
+        """The bits and the fingerprint by ssh-keygen -lf, which opens nothing."""
         self.put("read", text)
-        return self.done("ssh-keygen", "-lf", "read").split()[1]
+        bits, fingerprint = self.done("ssh-keygen", "-lf", "read").split()[:2]
+        return bits, fingerprint
 
     def opened_by_ssh_keygen(self, text: bytes, pass_: bytes) -> Plain | bytes:
         """What ssh-keygen opens; what it says where it refuses."""
