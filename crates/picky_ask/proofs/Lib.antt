@@ -7,3 +7,4 @@ pub mod QuestionLaws
 pub mod TableLaws
 pub mod SignLemmas
 pub mod RefusalLaws
+pub mod CauseLemmas

@@ -1,6 +1,6 @@
 -- A table's entries are used in their order: places, turns, and how often a suite was asked.
-use Rattle.std.proofs.Common.{◌≡◌, ◌∙◌, ◌<◌, ◌≤◌, ◌+◌, ◌^◌, ◌++◌, ℕ, zero, suc, Bool, true, false, List, [], ◌∷◌, length, get_or, take, refl, sym, ap, subst, inl, inr, arith, add-one}
-use Rattle.std.specs.Prelude.{◌⊎◌, ◌==◌, nat_lt, max, if◌then◌else◌, Option, None, Some, Result, Ok, Err}
+use Rattle.std.proofs.Common.{◌≡◌, ◌∙◌, ◌<◌, ◌≤◌, ◌+◌, ◌++◌, ℕ, zero, suc, Bool, true, false, List, [], ◌∷◌, length, get_or, take, refl, sym, ap, subst, inl, inr, arith, add-one}
+use Rattle.std.specs.Prelude.{◌==◌, nat_lt, max, if◌then◌else◌, Option, None, Some, Result, Ok, Err}
 use Rattle.std.specs.Cmp.{unsigned_Decides}
 use Rattle.std.proofs.lemmas.Bool.{lt-ltb, le-ltb}
 use Rattle.picky_suite.specs.Asked.{IsAskedAtMost}
@@ -84,7 +84,7 @@ within_test : (b : Bool) (e : Entry) (more : List Entry) (n : ℕ) → n ≤ len
 within_test true e more n fits = omega arith
 within_test false e more n fits = omega arith
 
-place_within : (q : Question) (entries : List Entry) → place_of q entries ≤ length entries
+pub place_within : (q : Question) (entries : List Entry) → place_of q entries ≤ length entries
 unfolding place_of
 place_within q [] = omega arith
 place_within q (e ∷ more) = within_test (same_question q e.question) e more (place_of q more) (place_within q more)
@@ -151,19 +151,6 @@ asked_reason q judge missings.TooLong old new come none is fails =
 asked_reason q judge missings.WrongLength old new come none is fails = absurd is
 asked_reason q judge missings.Contradiction old new come none is fails = absurd is
 asked_reason q judge missings.Misplaced old new come none is fails = absurd is
-
-asked_same : (q r : Question) (reason : Missing) → IsAskedFor q reason → reason ≡ missings.Asked r → r ≡ q
-asked_same q r (missings.Asked x) is asked = let same : x ≡ r = cc asked in sym same ∙ is
-asked_same q r missings.NoMemory is asked = cc asked
-asked_same q r missings.TooLong is asked = cc asked
-asked_same q r missings.WrongLength is asked = cc asked
-asked_same q r missings.Contradiction is asked = cc asked
-asked_same q r missings.Misplaced is asked = cc asked
-
-pub asked_unlisted : (q r : Question) (reason : Missing) (entries : List Entry) → answer_to q entries ≡ None
-    → IsAskedFor q reason → reason ≡ missings.Asked r → answer_to r entries ≡ None
-asked_unlisted q r reason entries none is asked =
-    ap (λ (x : Question). answer_to x entries) (asked_same q r reason is asked) ∙ none
 
 -- ---- an answer in its turn
 

@@ -8,6 +8,7 @@ pub mod Whole
 pub mod Table
 pub mod Same
 pub mod Lookup
+pub mod Cause
 pub mod Completion
 pub mod Answered
 pub mod Known

@@ -7,7 +7,8 @@ use Rattle.picky_ask.specs.declared.missing.Missing.TheVariants as missings
 use Rattle.picky_ask.specs.declared.question.Question.{Question}
 use Rattle.picky_ask.specs.declared.question.Entry.{Entry}
 use Rattle.picky_ask.specs.Head.{IsHead}
-use Rattle.picky_ask.specs.Lookup.{answer_to, place_of}
+use Rattle.picky_ask.specs.Cause.{HasCause}
+use Rattle.picky_ask.specs.Lookup.{place_of}
 
 -- its table, how many of the entries were used, why the last call that failed has no answer, and how many calls failed
 pub record State : Type 0 where
@@ -29,12 +30,12 @@ one_if (Some missing) = 1
 abbrev pub calls_made : State → ℕ
 calls_made s = s.used + one_if s.missing
 
--- what every such suite keeps: the table is its caller's, where that is told; no more entries were used than there are; what
--- is asked isn't in the table, and is asked behind its last entry; and while nothing is missing, no call has failed
+-- what every such suite keeps: the table is its caller's, where that is told; no more entries were used than there are; the table
+-- has the cause of the reason, and a question is asked behind its last entry; and while nothing is missing, no call has failed
 pub record IsState (told : Option (List Entry)) (s : State) : Type 0 where
   pub table : (entries : List Entry) → told ≡ Some entries → s.entries ≡ entries
   pub within : s.used ≤ length s.entries
-  pub unlisted : (q : Question) → s.missing ≡ Some (missings.Asked q) → answer_to q s.entries ≡ None
+  pub cause : (reason : Missing) → s.missing ≡ Some reason → HasCause reason s.entries
   pub last : (q : Question) → s.missing ≡ Some (missings.Asked q) → s.used ≡ length s.entries
   pub calm : s.missing ≡ None → s.faults ≡ 0
 

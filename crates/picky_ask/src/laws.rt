@@ -1,6 +1,6 @@
 //! The laws of this crate, each as the contract of a function that does nothing.
 
-ghost use Rattle.std.specs.Prelude.{◌≡◌, ◌≢◌, ◌↔◌, ◌<◌, ◌+◌, ◌++◌, ◌∷◌, ℕ, List, true, None, Some, Ok, Err, All, OnOk, length, take};
+ghost use Rattle.std.specs.Prelude.{◌≡◌, ◌≢◌, ◌↔◌, ◌<◌, ◌+◌, ◌++◌, ◌∷◌, ℕ, List, true, None, Some, Ok, Err, All, IfErr, OnOk, length, take};
 ghost use Rattle.std.specs.List.{flat_map};
 ghost use Rattle.picky_wire_base.specs.Equality.{IsEquality};
 ghost use Rattle.picky_wire_base.specs.Row.{Row};
@@ -8,9 +8,11 @@ ghost use Rattle.picky_suite.specs.Asked.{IsAskedAtMost};
 ghost use Rattle.picky_suite.specs.Meanings.{Meanings};
 ghost use Rattle.picky_suite.specs.Ranges.{IsCipherKey, IsWhole};
 ghost use Rattle.picky_ask.specs.declared.lookup.Mode.{Mode as AMode};
+ghost use Rattle.picky_ask.specs.declared.missing.Missing.{Missing as AMissing};
 ghost use Rattle.picky_ask.specs.declared.missing.Missing.TheVariants as missings;
 ghost use Rattle.picky_ask.specs.declared.question.Entry.{Entry as AnEntry};
 ghost use Rattle.picky_ask.specs.declared.question.Question.{Question as AQuestion};
+ghost use Rattle.picky_ask.specs.Cause.{HasCause};
 ghost use Rattle.picky_ask.specs.Known.{Agrees, agrees, meant, with_hmac};
 ghost use Rattle.picky_ask.specs.Lookup.{answer_to, derivation, exchange, first_side, place_of};
 ghost use Rattle.picky_ask.specs.Question.{IsEntry, IsQuestion, entry_of, question_of};
@@ -118,6 +120,7 @@ pub fn what_answers_seal_is_what_was_answered(
     requires key { IsCipherKey key.now }
     requires whole { IsWhole block.old }
     ensures sealed { Agrees m table.now → OnOk result (block.new ≡ m.cbc_seal key.now iv.now block.old) }
+    ensures refused { IfErr result (λ why. (reason : AMissing) × (why ≡ Some reason) × HasCause reason table.now) }
     ensures enough { (q : AQuestion) → result ≡ Err (Some (missings.Asked q)) → length table.now < 1 }
 {
     seal_by::<Brand>(alloc, table, key, iv, block)
@@ -135,6 +138,7 @@ fn seal_by<K: Known>(
     requires key { IsCipherKey key.now }
     requires whole { IsWhole block.old }
     ensures sealed { OnOk result (block.new ≡ (meant K.known table.now).cbc_seal key.now iv.now block.old) }
+    ensures refused { IfErr result (λ why. (reason : AMissing) × (why ≡ Some reason) × HasCause reason table.now) }
     ensures enough { (q : AQuestion) → result ≡ Err (Some (missings.Asked q)) → length table.now < 1 }
 {
     let mut suite: AnsweredSuite<'_, K> = AnsweredSuite::new(alloc, table);

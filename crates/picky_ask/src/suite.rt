@@ -1,6 +1,6 @@
 //! The suite whose answers the caller gives.
 
-ghost use Rattle.std.specs.Prelude.{◌≡◌, ◌+◌, ◌<◌, ◌-◌, ◌^◌, ℕ, List, None, Some, Err, Result, length, min, max, IfOk, OnErr, OnOk};
+ghost use Rattle.std.specs.Prelude.{◌≡◌, ◌+◌, ◌<◌, ◌-◌, ◌^◌, ℕ, List, true, None, Some, Err, Result, length, min, max, IfOk, OnErr, OnOk};
 ghost use Rattle.std.proofs.Common.{arith};
 ghost use Rattle.picky_wire_base.specs.Numbers.{IsBytes};
 ghost use Rattle.picky_suite.specs.Ranges.{IsBcryptLen};
@@ -10,7 +10,8 @@ ghost use Rattle.picky_ask.specs.declared.question.Head.TheVariants as heads;
 ghost use Rattle.picky_ask.specs.declared.question.Question.{Question as AQuestion};
 ghost use Rattle.picky_ask.specs.declared.question.Entry.{Entry as AnEntry};
 ghost use Rattle.picky_ask.specs.Known.{meant};
-ghost use Rattle.picky_ask.specs.Lookup.{answer_to, derivation, exchange, in_turn, question as asked_question};
+ghost use Rattle.picky_ask.specs.Cause.{HasCause, IsOfSuite, Wants};
+ghost use Rattle.picky_ask.specs.Lookup.{asks_cipher, derivation, exchange, in_turn, question as asked_question};
 ghost use Rattle.picky_ask.specs.State.{FailsFor, HasReason, IsState, LooksUp, calls_made, fresh as fresh_state};
 ghost use Rattle.picky_ask.specs.inner.HeadView.{head_seen, two_head};
 ghost use Rattle.picky_ask.specs.inner.Turn.{IsAskedFor, IsFound, turned};
@@ -107,7 +108,7 @@ impl<'t, K: Known> AnsweredSuite<'t, K> {
         parallelism: u32,
         pass: &[u8],
         salt: &[u8],
-        out: &mut [u8],
+        out: &mut [u8; 80],
     ) -> Result<(), Failed>
         ensures looks { let q = asked_question (heads.Argon2 flavour memory passes parallelism salt.now) pass.now in
             LooksUp q (in_turn q self.old.used self.old.entries (derivation q (length out.old) self.old.entries))
@@ -126,6 +127,7 @@ impl<'t, K: Known> AnsweredSuite<'t, K> {
     }
 
     /// Seals by AES in CBC mode, as the table says. Refuses: `Failed`.
+    #[tactic(auto, using(crate::proofs::CauseLemmas::own_ciphers))]
     pub fn ask_seal(&mut self, key: &[u8], iv: &[u8; 16], block: &mut [u8]) -> Result<(), Failed>
         ensures looks { let q = asked_question (heads.CbcSeal key.now iv.now) block.old in
             LooksUp q (in_turn q self.old.used self.old.entries (exchange modes.Cbc key.now iv.now q self.old.entries))
@@ -137,6 +139,7 @@ impl<'t, K: Known> AnsweredSuite<'t, K> {
     }
 
     /// Opens by AES in CBC mode, as the table says. Refuses: `Failed`.
+    #[tactic(auto, using(crate::proofs::CauseLemmas::own_ciphers))]
     pub fn ask_open(&mut self, key: &[u8], iv: &[u8; 16], block: &mut [u8]) -> Result<(), Failed>
         ensures looks { let q = asked_question (heads.CbcOpen key.now iv.now) block.old in
             LooksUp q (in_turn q self.old.used self.old.entries (exchange modes.Cbc key.now iv.now q self.old.entries))
@@ -148,6 +151,7 @@ impl<'t, K: Known> AnsweredSuite<'t, K> {
     }
 
     /// Seals or opens by AES in CTR mode, as the table says. Refuses: `Failed`.
+    #[tactic(auto, using(crate::proofs::CauseLemmas::own_ciphers))]
     pub fn ask_ctr(&mut self, key: &[u8], iv: &[u8; 16], block: &mut [u8]) -> Result<(), Failed>
         ensures looks { let q = asked_question (heads.Ctr key.now iv.now) block.old in
             LooksUp q (in_turn q self.old.used self.old.entries (exchange modes.Ctr key.now iv.now q self.old.entries))
@@ -160,6 +164,7 @@ impl<'t, K: Known> AnsweredSuite<'t, K> {
 
     // Fills the buffer with the answer to a question, of its length.
     fn derive(&mut self, head: &HeadView<'_>, text: &[u8], out: &mut [u8]) -> Result<(), Failed>
+        requires { Wants (asked_question (head_seen head.now) text.now) (length out.old) }
         ensures looks { let q = asked_question (head_seen head.now) text.now in
             LooksUp q (in_turn q self.old.used self.old.entries (derivation q (length out.old) self.old.entries))
             result out.new self.old self.new }
@@ -185,6 +190,7 @@ impl<'t, K: Known> AnsweredSuite<'t, K> {
         iv: &[u8],
         block: &mut [u8],
     ) -> Result<(), Failed>
+        requires { asks_cipher mode key.now iv.now (two_head of key.now iv.now) ≡ true }
         ensures looks { let q = asked_question (two_head of key.now iv.now) block.old in
             LooksUp q (in_turn q self.old.used self.old.entries (exchange mode key.now iv.now q self.old.entries))
             result block.new self.old self.new }
@@ -211,6 +217,7 @@ impl<'t, K: Known> AnsweredSuite<'t, K> {
 
     // The answer to the question, and its place, where its turn has come; else the call fails.
     fn find(&mut self, head: &HeadView<'_>, text: &[u8]) -> Result<(usize, &'t [u8]), Failed>
+        requires { IsOfSuite (asked_question (head_seen head.now) text.now) }
         ensures found { IfOk result (λ found. IsFound (asked_question (head_seen head.now) text.now) found.0 found.1.now self.old) }
         ensures kept { OnOk result (self.new ≡ self.old) }
         ensures failed { OnErr result ((judge : List ℕ → Result (List ℕ) AMissing)
@@ -238,7 +245,7 @@ impl<'t, K: Known> AnsweredSuite<'t, K> {
 
     // The call fails for this reason, and is counted.
     fn fail(&mut self, missing: Missing) -> Failed
-        requires unlisted { (q : AQuestion) → missing ≡ Missing.Asked q → answer_to q self.old.entries ≡ None }
+        requires cause { HasCause missing self.old.entries }
         requires last { (q : AQuestion) → missing ≡ Missing.Asked q → self.old.used ≡ length self.old.entries }
         ensures { FailsFor missing self.old self.new }
     {

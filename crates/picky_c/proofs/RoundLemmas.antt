@@ -7,7 +7,7 @@ use Rattle.picky_wire_base.specs.{Outcome.{and_then, map_err, map_ok}, Row.{read
 use Rattle.picky_suite.specs.{Asked.{GivesAsked, IsAskedAtMost}, Meanings.{Meanings}}
 use Rattle.picky_wire.specs.Count.{Rose, count_one}
 use Rattle.picky_ask.proofs.TurnLemmas.{enough_answers}
-use Rattle.picky_ask.specs.{Lookup.{answer_to}, State.{IsState, State, calls_made, fresh}, Table.{table_of}}
+use Rattle.picky_ask.specs.{Cause.{HasCause}, State.{IsState, State, calls_made, fresh}, Table.{table_of}}
 use Rattle.picky_ask.specs.declared.{missing.Missing.{Missing}, question.Entry.{Entry}, question.Question.{Question}}
 use Rattle.picky_ask.specs.declared.missing.Missing.TheVariants as missings
 use Rattle.picky_key_text.specs.Form.{form_of}
@@ -28,13 +28,13 @@ use Rattle.picky_c.proofs.LawLemmas.{conversion_answered, refusal_kept}
 
 -- ---- the suite's fault, by what it left
 
--- what the device says of a question that it left
-abbrev pub LeavesOnly : List Entry → Option Missing → Type 0
-LeavesOnly entries missing =
-    (q : Question) → missing ≡ Some (missings.Asked q) → (answer_to q entries ≡ None) × (length entries < 4)
+-- what the device says of the reason that it left
+pub record LeavesOnly (entries : List Entry) (missing : Option Missing) : Type 0 where
+  pub cause : (reason : Missing) → missing ≡ Some reason → HasCause reason entries
+  pub few : (q : Question) → missing ≡ Some (missings.Asked q) → length entries < 4
 
 refused_round : (says : Result (List ℕ) PickyError) (asked : Bool) (entries : List Entry) (reason : AnswersError) (round : Result Round PickyError)
-    → asked ≡ true → IsOfAnswer reason → round ≡ Err (errors.Answers reason) → GivesRound says asked entries round
+    → asked ≡ true → IsOfAnswer entries reason → round ≡ Err (errors.Answers reason) → GivesRound says asked entries round
 refused_round says asked entries reason round is_asked of is =
     subst (GivesRound says asked entries) (sym is) (inr (inl (is_asked, (reason, refl, of))))
 
@@ -44,16 +44,16 @@ fault_round : (says : Result (List ℕ) PickyError) (asked : Bool) (entries : Li
 fault_round says asked entries None round is_asked some left is = absurd (some refl)
 fault_round says asked entries (Some (missings.Asked q)) (Ok (rounds.Text bytes)) is_asked some left is = absurd is
 fault_round says asked entries (Some (missings.Asked q)) (Ok (rounds.Question bytes)) is_asked some left is =
-    (q, is, record { is_asked = is_asked; unanswered = (left q refl).0; few = (left q refl).1 })
+    (q, is, record { is_asked = is_asked; lacked = left.cause (missings.Asked q) refl; few = left.few q refl })
 fault_round says asked entries (Some (missings.Asked q)) (Err e) is_asked some left (inl want) = inl want
 fault_round says asked entries (Some (missings.Asked q)) (Err e) is_asked some left (inr long) =
     inr (inl (is_asked, (answers.TooLong, long, tt)))
 fault_round says asked entries (Some missings.WrongLength) round is_asked some left is =
-    refused_round says asked entries answers.WrongLength round is_asked tt is
+    refused_round says asked entries answers.WrongLength round is_asked (left.cause missings.WrongLength refl) is
 fault_round says asked entries (Some missings.Contradiction) round is_asked some left is =
-    refused_round says asked entries answers.Contradiction round is_asked tt is
+    refused_round says asked entries answers.Contradiction round is_asked (left.cause missings.Contradiction refl) is
 fault_round says asked entries (Some missings.Misplaced) round is_asked some left is =
-    refused_round says asked entries answers.Misplaced round is_asked tt is
+    refused_round says asked entries answers.Misplaced round is_asked (left.cause missings.Misplaced refl) is
 fault_round says asked entries (Some missings.TooLong) round is_asked some left is =
     refused_round says asked entries answers.TooLong round is_asked tt is
 fault_round says asked entries (Some missings.NoMemory) round is_asked some left is =
@@ -205,8 +205,8 @@ counted_for_a_reason told entries old new missing begins is same rose none =
 -- what it left isn't in the table, which has fewer entries than the conversion asks questions
 pub leaves_only : (entries : List Entry) (old new : State) (missing : Option Missing) → old ≡ fresh entries
     → IsState (Some entries) new → missing ≡ new.missing → IsAskedAtMost 4 calls_made old new → LeavesOnly entries missing
-leaves_only entries old new missing begins is same asked q left =
-    let there : new.missing ≡ Some (missings.Asked q) = sym same ∙ left in (
-      subst (λ es. answer_to q es ≡ None) (is.table entries refl) (is.unlisted q there),
-      enough_answers 4 entries q new is (subst (λ s. IsAskedAtMost 4 calls_made s new) begins asked) there,
-    )
+leaves_only entries old new missing begins is same asked = record {
+  cause = λ reason left. subst (HasCause reason) (is.table entries refl) (is.cause reason (sym same ∙ left));
+  few = λ q left.
+      enough_answers 4 entries q new is (subst (λ s. IsAskedAtMost 4 calls_made s new) begins asked) (sym same ∙ left);
+}

@@ -1,7 +1,7 @@
 -- What a round of a call comes to: a text, or the question that its answers lack.
 use Rattle.std.specs.Prelude.{◌≡◌, ◌⊎◌, ◌<◌, List, ℕ, Bool, true, Option, None, Some, Result, Ok, Err, length}
 use Rattle.picky_suite.specs.Meanings.{Meanings}
-use Rattle.picky_ask.specs.Lookup.{answer_to}
+use Rattle.picky_ask.specs.Cause.{HasOtherLength, IsContradicted, IsLacked}
 use Rattle.picky_ask.specs.Question.{question_of}
 use Rattle.picky_ask.specs.declared.missing.Missing.{Missing}
 use Rattle.picky_ask.specs.declared.missing.Missing.TheVariants as missings
@@ -27,31 +27,31 @@ use Rattle.picky_c.specs.declared.round.Round.TheVariants as rounds
 
 -- ---- what is left
 
--- the question is left: something is to be opened or sealed, no answer is one to it, and there are fewer than four
+-- the question is left: something is to be opened or sealed, it is a suite's, no answer is one to it, and there are fewer than four
 pub record IsLeft (asked : Bool) (entries : List Entry) (q : Question) : Type 0 where
   pub is_asked : asked ≡ true
-  pub unanswered : answer_to q entries ≡ None
+  pub lacked : IsLacked entries q
   pub few : length entries < 4
 
--- a reason of one of the answers, or of the question that is asked, and not of what the table is
-abbrev pub IsOfAnswer : AnswersError → Type 0
-IsOfAnswer answers.EndsInEntry = ⊥
-IsOfAnswer answers.LengthPastEnd = ⊥
-IsOfAnswer answers.NoQuestion = ⊥
-IsOfAnswer answers.WrongLength = Unit {0}
-IsOfAnswer answers.Contradiction = Unit {0}
-IsOfAnswer answers.Misplaced = Unit {0}
-IsOfAnswer answers.TooLong = Unit {0}
+-- a reason of the answers or of the question that is asked, and not of what the table is
+abbrev pub IsOfAnswer : List Entry → AnswersError → Type 0
+IsOfAnswer entries answers.EndsInEntry = ⊥
+IsOfAnswer entries answers.LengthPastEnd = ⊥
+IsOfAnswer entries answers.NoQuestion = ⊥
+IsOfAnswer entries answers.WrongLength = HasOtherLength entries
+IsOfAnswer entries answers.Contradiction = IsContradicted entries
+IsOfAnswer entries answers.Misplaced = 0 < length entries
+IsOfAnswer entries answers.TooLong = Unit {0}
 
-abbrev pub RefusesAnswer : PickyError → Type 0
-RefusesAnswer e = (reason : AnswersError) × (e ≡ errors.Answers reason) × IsOfAnswer reason
+abbrev pub RefusesAnswer : List Entry → PickyError → Type 0
+RefusesAnswer entries e = (reason : AnswersError) × (e ≡ errors.Answers reason) × IsOfAnswer entries reason
 
 -- a round comes to what the definition says; in its place a question may be left, the answers be refused where one is asked for,
 -- or memory run out
 abbrev pub GivesRound : (says : Result (List ℕ) PickyError) → (asked : Bool) → List Entry → Result Round PickyError → Type 0
 GivesRound says asked entries (Ok (rounds.Text bytes)) = says ≡ Ok bytes.items
 GivesRound says asked entries (Ok (rounds.Question bytes)) = (q : Question) × (bytes.items ≡ question_of q) × IsLeft asked entries q
-GivesRound says asked entries (Err e) = (e ≡ errors.NoMemory) ⊎ ((asked ≡ true) × RefusesAnswer e) ⊎ (says ≡ Err e)
+GivesRound says asked entries (Err e) = (e ≡ errors.NoMemory) ⊎ ((asked ≡ true) × RefusesAnswer entries e) ⊎ (says ≡ Err e)
 
 -- this holds of the text, where there is one
 abbrev pub IfText : Result Round PickyError → (List ℕ → Type 0) → Type 0

@@ -26,11 +26,11 @@ pub fn converted(
     fresh: &[u8],
 ) -> Result<Vec<u8>, PickyError>
     ghost m: { Meanings }
-    ensures gives { GivesAsked PickyError.NoMemory PickyError.NoCipher (λ bytes. bytes.items) result
-        (converted_of m (numbered_target target) (given text.now pass_in.now pass_out.now fresh.now []))
-        (converting_is_asked m (numbered_target target) (given text.now pass_in.now pass_out.now fresh.now [])) (Unit {0}) }
-    ensures means { IfOk result (λ bytes. IsConverted m (numbered_target target)
-        (given text.now pass_in.now pass_out.now fresh.now []) bytes.items) }
+    ensures gives { let all = given text.now pass_in.now pass_out.now fresh.now [] in
+        GivesAsked PickyError.NoMemory PickyError.NoCipher (λ bytes. bytes.items) result
+        (converted_of m (numbered_target target) all) (converting_is_asked m (numbered_target target) all) (Unit {0}) }
+    ensures means { let all = given text.now pass_in.now pass_out.now fresh.now [] in
+        IfOk result (λ bytes. IsConverted m (numbered_target target) all bytes.items) }
 {
     let given = Given {
         text,

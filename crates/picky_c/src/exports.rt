@@ -41,14 +41,9 @@ pub extern "C" fn picky_convert(
     out: &mut [u8],
 ) -> PickyAnswer
     ghost m: { Meanings }
-    ensures { AnswersCall
-        (converted_of m (numbered_target target)
-        (given text.entry.bytes.now pass_in.entry.bytes.now pass_out.entry.bytes.now fresh.entry.bytes.now []))
-        (converting_is_asked m (numbered_target target)
-        (given text.entry.bytes.now pass_in.entry.bytes.now pass_out.entry.bytes.now fresh.entry.bytes.now []))
-        (IsConverted m (numbered_target target)
-        (given text.entry.bytes.now pass_in.entry.bytes.now pass_out.entry.bytes.now fresh.entry.bytes.now []))
-        result out.old out.new }
+    ensures { let all = given text.entry.bytes.now pass_in.entry.bytes.now pass_out.entry.bytes.now fresh.entry.bytes.now [] in
+        AnswersCall (converted_of m (numbered_target target) all) (converting_is_asked m (numbered_target target) all)
+        (IsConverted m (numbered_target target) all) result out.old out.new }
 {
     let outcome = converted(
         alloc,

@@ -1,10 +1,25 @@
-use Rattle.std.proofs.Common.{◌≡◌, ◌∙◌, ap, sym, false, true}
+use Rattle.std.proofs.Common.{◌≡◌, ◌∙◌, ap, length, subst, sym, false, true}
 use Rattle.picky_ask.specs.declared.missing.Missing.TheVariants as missings
 use Rattle.picky_ask.specs.Lookup.{question, are_paired}
+use Rattle.picky_ask.specs.Cause.{HasCause}
 use Rattle.picky_ask.specs.State.{State}
 use Rattle.picky_ask.specs.inner.HeadView.{two_head}
+use Rattle.picky_ask.proofs.CauseLemmas.{cipher_wants, other_length, wanted_is_asked}
 use Rattle.picky_ask.proofs.TurnLemmas.{exchange_by, exchange_long, fails_looks, passes_looks}
 use Rattle.picky_ask.proofs.suite.AnsweredSuite.exchange.Goals as goal
+
+pub find-requires : goal.find-requires
+find-requires g c =
+    wanted_is_asked (question (two_head c.args.of c.args.key.now c.args.iv.now) c.args.block.now) (length c.args.block.now)
+    (cipher_wants c.args.mode c.args.key.now c.args.iv.now (two_head c.args.of c.args.key.now c.args.iv.now) c.args.block.now c.requires)
+
+pub fail-requires-clause-cause : goal.fail-requires-clause-cause
+fail-requires-clause-cause g c =
+    let h = two_head c.args.of c.args.key.now c.args.iv.now in
+    subst (λ (s : State). HasCause missings.WrongLength s.entries) (sym c.in_ok-place.ensures.kept)
+    (other_length c.args.self.now.entries (question h c.args.block.now) (length c.args.block.now) c.in_ok-place.answer.now
+    (cipher_wants c.args.mode c.args.key.now c.args.iv.now h c.args.block.now c.requires) c.in_ok-place.ensures.found.listed
+    c.if-answer-block.true)
 
 pub returns-then-answer-block-clause-looks : goal.returns-then-answer-block-clause-looks
 returns-then-answer-block-clause-looks g c =

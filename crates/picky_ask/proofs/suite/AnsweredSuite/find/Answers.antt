@@ -1,10 +1,13 @@
-use Rattle.std.proofs.Common.{◌≡◌, ◌∙◌, ◌≤◌, ap, sym, subst, arith}
+use Rattle.std.proofs.Common.{◌≡◌, ◌∙◌, ◌<◌, ◌≤◌, ap, sym, subst, arith}
 use Rattle.std.specs.Prelude.{None, Some}
 use Rattle.picky_ask.specs.Lookup.{answer_to, place_of, question}
+use Rattle.picky_ask.specs.declared.missing.Missing.TheVariants as missings
 use Rattle.picky_ask.specs.State.{State}
 use Rattle.picky_ask.specs.inner.HeadView.{head_seen}
 use Rattle.picky_ask.specs.inner.Turn.{IsFound}
-use Rattle.picky_ask.proofs.TurnLemmas.{answer_here, answer_past, asked_reason, asked_unlisted}
+use Rattle.picky_ask.specs.Cause.{HasCause}
+use Rattle.picky_ask.proofs.CauseLemmas.{asked_for, misplaced}
+use Rattle.picky_ask.proofs.TurnLemmas.{answer_here, answer_past, asked_reason}
 use Rattle.picky_ask.proofs.suite.AnsweredSuite.find.Goals as goal
 
 pub returns-then-place-self-clause-found : goal.returns-then-place-self-clause-found
@@ -18,12 +21,18 @@ returns-then-place-self-clause-found g c =
           c.if-place-self.true ∙ ap Some (sym c.as_slice.ensures.bytes);
     })
 
-pub fail-requires-2-clause-unlisted : goal.fail-requires-2-clause-unlisted
-fail-requires-2-clause-unlisted g c = λ r is.
+pub fail-requires-clause-cause : goal.fail-requires-clause-cause
+fail-requires-clause-cause g c =
+    let q = question (head_seen c.args.head.now) c.args.text.now in
+    let early : c.self.inside.used < place_of q c.self.inside.entries.now = omega (arith, c.place_in-place.ensures, c.if-self-place.true) in
+    subst (λ (s : State). HasCause missings.Misplaced s.entries) c.self.view_is (misplaced c.self.inside.entries.now q c.self.inside.used early)
+
+pub fail-requires-2-clause-cause : goal.fail-requires-2-clause-cause
+fail-requires-2-clause-cause g c =
     let q = question (head_seen c.args.head.now) c.args.text.now in
     let none = answer_past q c.self.inside.entries.now (omega (arith, c.place_in-place.ensures, c.if-place-self.false)) in
-    ap (λ (s : State). answer_to r s.entries) (sym c.self.view_is)
-    ∙ asked_unlisted q r c.missing_answer-missing.result c.self.inside.entries.now none c.missing_answer-missing.ensures is
+    subst (λ (s : State). HasCause c.missing_answer-missing.result s.entries) c.self.view_is
+    (asked_for q c.missing_answer-missing.result c.self.inside.entries.now c.requires none c.missing_answer-missing.ensures)
 
 pub returns-clause-failed : goal.returns-clause-failed
 returns-clause-failed g c = λ judge.
