@@ -1,11 +1,11 @@
 -- What the calls below answer, as what a call here answers.
-use Rattle.std.proofs.Common.{◌≡◌, ◌⊎◌, ◌∙◌, true, ℕ, List, Option, None, Result, Ok, Err, ap, sym, subst, inl}
+use Rattle.std.proofs.Common.{◌≡◌, ◌⊎◌, ◌∙◌, true, ℕ, List, None, Result, Ok, Err, ap, sym, subst, inl}
 use Rattle.std.proofs.Common.{inr, refl}
 use Rattle.std.specs.Str.{is_utf8}
 use Rattle.picky_wire_base.specs.Outcome.{and_then, map_err}
 use Rattle.picky_suite.specs.{Failures.{IsAskedFault}, Meanings.{Meanings, plain}}
 use Rattle.picky_keys.specs.declared.key.SshPublicKey.{SshPublicKey}
-use Rattle.picky_key_text.specs.{Key.{public_key as public_key_of}, Form.{form_of}}
+use Rattle.picky_key_text.specs.{Key.{public_key as public_key_of}}
 use Rattle.picky_key_text.specs.Order.{asks, fault_as, fault_of as input_fault, reading}
 use Rattle.picky_key_text.specs.{declared.error.ReadError.{ReadError}, declared.form.Form.{Form}}
 use Rattle.picky_key_text.specs.declared.meaning.Meaning.{Meaning}
@@ -15,9 +15,7 @@ use Rattle.picky_target.specs.{Written.{target_fault}, declared.error.ConvertErr
 use Rattle.picky_target.specs.declared.target.KeyTarget.{KeyTarget}
 use Rattle.picky_target.specs.declared.error.ConvertError.TheVariants as errors
 use Rattle.picky_target.specs.declared.target.KeyTarget.TheVariants as targets
-use Rattle.picky_conversion.specs.{Convert.{AnswersKeyText, conversion, converting_asks}, Outside.{Outside}}
 use Rattle.picky_conversion.specs.Refusal.{input_refusal}
-use Rattle.picky_conversion.proofs.AnswerLemmas.{opening_asks, sealing_asks}
 use Rattle.picky_c.specs.{Calls.{public_key}, Given.{plain_reader}, Refusal.{refusal_of}}
 use Rattle.picky_c.specs.declared.error.PickyError.{PickyError}
 use Rattle.picky_c.specs.declared.error.PickyError.TheVariants as calls

@@ -1,12 +1,12 @@
 -- A text with another comment: what is written of it, and why nothing is.
-use Rattle.std.proofs.Common.{◌≡◌, ◌<◌, ◌^◌, ◌⊎◌, ◌∙◌, true, ℕ, List, None, Ok, Err, ap, inl, inr, length, refl, subst, sym}
-use Rattle.std.specs.Str.{IsUtf8, is_utf8}
+use Rattle.std.proofs.Common.{◌≡◌, ◌<◌, ◌^◌, true, ℕ, List, None, Ok, length, subst}
+use Rattle.std.specs.Str.{is_utf8}
 use Rattle.std.proofs.lemmas.Bool.{ltb-true}
 use Rattle.std.proofs.lemmas.Str.{IsUtf8-from_is_utf8}
-use Rattle.picky_wire_base.specs.Outcome.{and_then, map_err}
+use Rattle.picky_wire_base.specs.Outcome.{map_err}
 use Rattle.picky_wire_base.specs.carried.Outcome.{and_then_ok, map_err_ok}
 use Rattle.picky_suite.specs.Meanings.{Meanings, plain}
-use Rattle.picky_keys.specs.{Key.{IsText}, LineRefusal.{is_short, line_meaning}}
+use Rattle.picky_keys.specs.{LineRefusal.{is_short, line_meaning}}
 use Rattle.picky_keys.proofs.{ByteLaws.{utf8_is_bytes}, LineLaws.{chosen}}
 use Rattle.picky_sshkey.specs.PrivateRefusal.{text_key}
 use Rattle.picky_ppk_parts.specs.Config.{default_config}
@@ -17,15 +17,12 @@ use Rattle.picky_ppk.specs.{Changed.{commented, open_file}, Checked.{ppk_meaning
 use Rattle.picky_ppk.specs.declared.layout.PpkLayout.TheVariants.{Number}
 use Rattle.picky_key_text.specs.{Form.{form_of}, Order.{reading}, declared.form.Form.{Form}}
 use Rattle.picky_key_text.specs.declared.form.Form.TheVariants as forms
-use Rattle.picky_target.specs.{Judged.{carries_comment}, declared.error.ConvertError.{ConvertError}}
+use Rattle.picky_target.specs.{Judged.{carries_comment}}
 use Rattle.picky_target.specs.declared.error.ConvertError.TheVariants as errors
 use Rattle.picky_target.specs.declared.target.KeyTarget.TheVariants as targets
 use Rattle.picky_changed.specs.Comment.{IsCommented, commented_as, commented_text, file_commented, key_commented, line_commented}
 use Rattle.picky_changed.specs.Comment.{not_commented, of_line, of_private, of_putty, putty_key_commented, putty_refusal}
 use Rattle.picky_changed.proofs.CommentLaws.{commented_is_read}
-use Rattle.picky_c.specs.{Comment.{commented as commented_of}, Refusal.{refusal_of}}
-use Rattle.picky_c.specs.declared.error.PickyError.{PickyError}
-use Rattle.picky_c.specs.declared.error.PickyError.TheVariants as calls
 
 -- ---- what is written has a comment that a length of the wire can say
 

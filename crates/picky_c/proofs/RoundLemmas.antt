@@ -1,5 +1,5 @@
 -- What a round comes to, from what the conversion answers and why the device has no answer.
-use Rattle.std.proofs.Common.{◌≡◌, ◌⊎◌, ◌∙◌, ◌<◌, true, false, ℕ, Bool, List, [], Option, None, Some, Result, Ok, Err, ap, sym, subst}
+use Rattle.std.proofs.Common.{◌≡◌, ◌∙◌, ◌<◌, true, false, ℕ, Bool, List, [], Option, None, Some, Result, Ok, Err, ap, sym, subst}
 use Rattle.std.proofs.Common.{inl, inr, refl, length}
 use Rattle.std.specs.{Option.{ok_or}, Prelude.{◌-◌, ◌^◌, IfOk, if◌then◌else◌, min}}
 use Rattle.std.specs.Str.{is_utf8}

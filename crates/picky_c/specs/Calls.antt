@@ -1,5 +1,5 @@
 -- What each call comes to: bytes, or the first reason why there are none.
-use Rattle.std.specs.Prelude.{◌≡◌, ◌++◌, ◌&&◌, List, [], ℕ, Bool, false, Option, None, Some, Result, Ok, Err, codes, is_ok}
+use Rattle.std.specs.Prelude.{◌≡◌, ◌++◌, ◌&&◌, List, [], ℕ, Bool, false, Some, Result, Ok, Err, codes, is_ok}
 use Rattle.std.specs.Option.{ok_or}
 use Rattle.std.specs.Str.{is_utf8}
 use Rattle.base64.specs.Engines.{standard_no_pad}

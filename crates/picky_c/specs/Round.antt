@@ -1,5 +1,5 @@
 -- What a round of a call comes to: a text, or the question that its answers lack.
-use Rattle.std.specs.Prelude.{◌≡◌, ◌⊎◌, ◌<◌, List, ℕ, Bool, true, Option, None, Some, Result, Ok, Err, length}
+use Rattle.std.specs.Prelude.{◌≡◌, ◌⊎◌, ◌<◌, List, ℕ, Bool, true, Option, Some, Result, Ok, Err, length}
 use Rattle.picky_suite.specs.Meanings.{Meanings}
 use Rattle.picky_ask.specs.Cause.{HasOtherLength, IsContradicted, IsLacked}
 use Rattle.picky_ask.specs.Question.{question_of}

@@ -1,6 +1,5 @@
 -- What the answers mean is one with what the caller's cryptography means.
 use Rattle.std.proofs.Common.{◌≡◌, ap, subst, sym}
-use Rattle.picky_suite.specs.Meanings.{Meanings}
 use Rattle.picky_c.specs.{Calls.{converted_with, entries_of, meanings_by}, Given.{outside}}
 use Rattle.picky_conversion.specs.Convert.{IsConversion}
 use Rattle.picky_c.proofs.laws.answers_that_agree_mean_the_same.Goals as goal

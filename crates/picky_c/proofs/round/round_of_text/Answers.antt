@@ -1,5 +1,5 @@
 -- What a refusal comes to, by what the device left.
-use Rattle.std.proofs.Common.{◌≡◌, Err, List, Some, subst, ℕ}
+use Rattle.std.proofs.Common.{Err, List, Some, subst, ℕ}
 use Rattle.std.specs.Prelude.{◌-◌, ◌^◌, min}
 use Rattle.picky_wire.specs.Count.{Rose}
 use Rattle.picky_ask.specs.{Known.{meant}, State.{IsState}}
