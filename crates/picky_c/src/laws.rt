@@ -6,6 +6,7 @@ ghost use Rattle.picky_key_text.specs.Reader.{Reader};
 ghost use Rattle.picky_key_text.specs.declared.error.ReadError.{ReadError as ReadRefusal};
 ghost use Rattle.picky_suite.specs.Meanings.{plain};
 ghost use Rattle.picky_shown.specs.Shown.{shows};
+ghost use Rattle.picky_changed.specs.Comment.{commented_text};
 ghost use Rattle.picky_target.specs.declared.error.ConvertError.{ConvertError as Refusal};
 ghost use Rattle.picky_target.specs.declared.error.ConvertError.TheVariants as refusals;
 ghost use Rattle.picky_target.specs.declared.target.KeyTarget.{KeyTarget as To};
@@ -32,12 +33,13 @@ pub fn names_are_the_programs()
     ensures { (e : Refusal) → IsAnswered e → codes "refused: " ++ error_name (error_number (errors.Refused e)) ≡ path e ++ name e }
 {}
 
-/// What is refused is answered as a refusal, also of a text that is shown: the numbers of no memory and of no cipher come for
-/// nothing else.
+/// What is refused is answered as a refusal, also of a text that is shown or is to have another comment: the numbers of no memory
+/// and of no cipher come for nothing else.
 pub fn refusals_are_answered()
     ensures conversion { (o : Outside) (to : To) (input : List ℕ) (e : Refusal) → conversion o to input ≡ Err e → IsAnswered e }
     ensures reading { (r : Reader) (text : List ℕ) (e : ReadRefusal) → reading r text ≡ Err e → IsAnswered (refusals.Input e) }
     ensures shown { (text : List ℕ) (e : ReadRefusal) → shows plain text ≡ Err e → IsAnswered (refusals.Input e) }
+    ensures comment { (comment text : List ℕ) (e : Refusal) → commented_text plain comment text ≡ Err e → IsAnswered e }
     ensures refusal { (e : Refusal) → IsAnswered e → refusal_of e ≡ errors.Refused e }
 {}
 
