@@ -41,7 +41,7 @@ pub record HasOtherLength (entries : List Entry) : Type 0 where
   pub listed : answer_to question entries ≡ Some answer
   pub other : length answer ≡ len → ⊥
 
--- some answer of a cipher isn't met as the other side of its text, or the text not as that of the answer
+-- some answer of a cipher, as long as its text, isn't met as the other side of the text, or the text not as that of the answer
 pub record IsContradicted (entries : List Entry) : Type 0 where
   pub mode : Mode
   pub key : List ℕ
@@ -50,6 +50,7 @@ pub record IsContradicted (entries : List Entry) : Type 0 where
   pub answer : List ℕ
   pub asks : asks_cipher mode key iv question.head ≡ true
   pub listed : answer_to question entries ≡ Some answer
+  pub same : length answer ≡ length question.text
   pub apart : are_paired mode key iv question.text answer entries ≡ false
 
 -- what a reason says of the table

@@ -28,11 +28,27 @@ pub record SignerState : Type 0 where
 abbrev pub fresh_signer : List Entry → SignerState
 fresh_signer entries = record { entries = entries; missing = None; faults = 0 }
 
--- what every such signer keeps: the table is its caller's, where that is told; what is asked isn't in it; and while nothing is
--- missing, no call has failed
+-- a question for a signature that no entry answers
+pub record LacksSignature (entries : List Entry) (q : Question) : Type 0 where
+  pub algorithm : SignatureAlgorithm
+  pub key : List ℕ
+  pub is : q.head ≡ heads.Sign algorithm key
+  pub unlisted : answer_to q entries ≡ None
+
+-- what a signer's reason says of its table: it has these two alone
+abbrev pub HasSignerCause : Missing → List Entry → Type 0
+HasSignerCause (missings.Asked q) entries = LacksSignature entries q
+HasSignerCause missings.TooLong entries = Unit {0}
+HasSignerCause missings.WrongLength entries = ⊥
+HasSignerCause missings.Contradiction entries = ⊥
+HasSignerCause missings.Misplaced entries = ⊥
+HasSignerCause missings.NoMemory entries = ⊥
+
+-- what every such signer keeps: the table is its caller's, where that is told; it has the cause of the reason; and while nothing
+-- is missing, no call has failed
 pub record IsSignerState (told : Option (List Entry)) (s : SignerState) : Type 0 where
   pub table : (entries : List Entry) → told ≡ Some entries → s.entries ≡ entries
-  pub unlisted : (q : Question) → s.missing ≡ Some (missings.Asked q) → answer_to q s.entries ≡ None
+  pub cause : (reason : Missing) → s.missing ≡ Some reason → HasSignerCause reason s.entries
   pub calm : s.missing ≡ None → s.faults ≡ 0
 
 -- the call failed for this reason, which is kept, and counted it; the table stays

@@ -6,11 +6,12 @@ ghost use Rattle.picky_keys.specs.PrivateKey.{issuer_key};
 ghost use Rattle.picky_keys.specs.PublicKey.{key_shown};
 ghost use Rattle.picky_keys.specs.Blob.{blob_of};
 ghost use Rattle.picky_ask.specs.declared.question.Entry.{Entry as AnEntry};
-ghost use Rattle.picky_ask.specs.declared.question.Question.{Question as AQuestion};
-ghost use Rattle.picky_ask.specs.Lookup.{answer_to as answer_in, question};
-ghost use Rattle.picky_ask.specs.Signing.{IsSignerState, LooksUpSignature, SignerFailsFor, SignsByTable, base_key_of, fresh_signer};
+ghost use Rattle.picky_ask.specs.declared.question.Head.TheVariants as heads;
+ghost use Rattle.picky_ask.specs.Lookup.{question};
+ghost use Rattle.picky_suite.specs.Asked.{IsAskedAtMost};
+ghost use Rattle.picky_suite.specs.Signs.{Signs};
+ghost use Rattle.picky_ask.specs.Signing.{HasSignerCause, IsSignerState, LooksUpSignature, SignerFailsFor, SignsByTable, base_key_of, fresh_signer};
 ghost use Rattle.picky_ask.specs.Signing.{sign_question};
-ghost use Rattle.picky_ask.specs.inner.HeadView.{head_seen};
 
 use crate::head_view::{HeadView, copy, is_short, question_copy};
 use crate::known::Known;
@@ -59,7 +60,7 @@ impl<'t, K: Known> AnsweredSigner<'t, K> {
         }
     }
 
-    /// Why the last call that failed has no answer; `None` where no call failed.
+    /// Why the last call that answered `Failed` has no answer; `None` where none did.
     pub fn into_missing(self) -> Option<Missing>
         ensures missing { result ≡ self.entry.missing }
         ensures state { IsSignerState K.table self.entry }
@@ -84,22 +85,20 @@ impl<'t, K: Known> AnsweredSigner<'t, K> {
             Err(SizeError::TooLong) => return Err(self.fail(Missing::TooLong)),
             Err(SizeError::NoMemory) => return Err(SignError::NoMemory),
         };
-        let head = HeadView::Sign {
-            algorithm,
-            key: key.as_slice(),
-        };
-        self.look_up(alloc, &head, message)
+        self.look_up(alloc, algorithm, key.as_slice(), message)
     }
 
-    // The table's answer to the question. Refuses: `Failed`; `NoMemory`, with nothing changed.
+    // The table's signature of the message, under the public key of a blob. Refuses: `Failed`; `NoMemory`, with nothing changed.
     fn look_up(
         &mut self,
         alloc: Global,
-        head: &HeadView<'_>,
+        algorithm: SignatureAlgorithm,
+        key: &[u8],
         text: &[u8],
     ) -> Result<Bytes, SignError>
-        ensures { LooksUpSignature (question (head_seen head.now) text.now) result self.old self.new }
+        ensures { LooksUpSignature (question (heads.Sign algorithm key.now) text.now) result self.old self.new }
     {
+        let head = &HeadView::Sign { algorithm, key };
         if let Some(answer) = answer_to(self.entries, head, text) {
             return match copy(alloc, answer) {
                 Ok(answer) => Ok(answer),
@@ -117,7 +116,7 @@ impl<'t, K: Known> AnsweredSigner<'t, K> {
 
     // The call fails for this reason, and is counted.
     fn fail(&mut self, missing: Missing) -> SignError
-        requires { (q : AQuestion) → missing ≡ Missing.Asked q → answer_in q self.old.entries ≡ None }
+        requires { HasSignerCause missing self.old.entries }
         ensures failed { result ≡ SignError.Failed }
         ensures state { SignerFailsFor missing self.old self.new }
     {
@@ -140,7 +139,15 @@ impl<K: Known> Signer for AnsweredSigner<'_, K> {
         issuer: &Issuer,
         algorithm: SignatureAlgorithm,
         message: &[u8],
-    ) -> Result<Bytes, SignError> {
+    ) -> Result<Bytes, SignError>
+        ensures looks { LooksUpSignature (sign_question (issuer_key issuer.now) algorithm message.now)
+            result self.old self.new }
+
+        // What every signer promises.
+        ensures asked { IsAskedAtMost 1 (λ _. 0) self.old self.new }
+        ensures signs { Signs SignsByTable (λ s. min s.faults (2 ^ 64 - 1)) (issuer_key issuer.now) algorithm message.now
+            result self.old self.new }
+    {
         self.ask_signature(alloc, issuer, algorithm, message)
     }
 }

@@ -3,6 +3,8 @@
 ghost use Rattle.std.specs.Prelude.{◌≡◌, ◌+◌, ◌<◌, ◌-◌, ◌^◌, ℕ, List, true, None, Some, Err, Result, length, min, max, IfOk, OnErr, OnOk};
 ghost use Rattle.std.proofs.Common.{arith};
 ghost use Rattle.picky_wire_base.specs.Numbers.{IsBytes};
+ghost use Rattle.picky_suite.specs.Asked.{IsAskedAtMost};
+ghost use Rattle.picky_suite.specs.Fills.{Fills};
 ghost use Rattle.picky_suite.specs.Ranges.{IsBcryptLen};
 ghost use Rattle.picky_ask.specs.declared.lookup.Mode.TheVariants as modes;
 ghost use Rattle.picky_ask.specs.declared.missing.Missing.{Missing as AMissing};
@@ -278,7 +280,17 @@ impl<K: Known> Suite for AnsweredSuite<'_, K> {
         salt: &[u8],
         rounds: u32,
         out: &mut [u8],
-    ) -> Result<(), Failed> {
+    ) -> Result<(), Failed>
+        requires sized { IsBcryptLen (length out.old) }
+        ensures looks { let q = asked_question (heads.Bcrypt (length out.old) rounds salt.now) pass.now in
+            LooksUp q (in_turn q self.old.used self.old.entries (derivation q (length out.old) self.old.entries))
+            result out.new self.old self.new }
+
+        // What every suite promises.
+        ensures asked { IsAskedAtMost 1 calls_made self.old self.new }
+        ensures fills { Fills (λ s. meant K.known s.entries) (λ s. min s.faults (2 ^ 64 - 1))
+            ((meant K.known self.old.entries).bcrypt pass.now salt.now rounds (length out.old)) result out.old out.new self.old self.new }
+    {
         self.ask_bcrypt(pass, salt, rounds, out)
     }
 
@@ -291,19 +303,55 @@ impl<K: Known> Suite for AnsweredSuite<'_, K> {
         pass: &[u8],
         salt: &[u8],
         out: &mut [u8; 80],
-    ) -> Result<(), Failed> {
+    ) -> Result<(), Failed>
+        ensures looks { let q = asked_question (heads.Argon2 flavour memory passes parallelism salt.now) pass.now in
+            LooksUp q (in_turn q self.old.used self.old.entries (derivation q (length out.old) self.old.entries))
+            result out.new self.old self.new }
+
+        // What every suite promises.
+        ensures asked { IsAskedAtMost 1 calls_made self.old self.new }
+        ensures fills { Fills (λ s. meant K.known s.entries) (λ s. min s.faults (2 ^ 64 - 1))
+            ((meant K.known self.old.entries).argon2 flavour memory passes parallelism pass.now salt.now) result out.old out.new self.old self.new }
+    {
         self.ask_argon2(flavour, memory, passes, parallelism, pass, salt, out)
     }
 
-    fn cbc_seal(&mut self, key: &[u8], iv: &[u8; 16], block: &mut [u8]) -> Result<(), Failed> {
+    fn cbc_seal(&mut self, key: &[u8], iv: &[u8; 16], block: &mut [u8]) -> Result<(), Failed>
+        ensures looks { let q = asked_question (heads.CbcSeal key.now iv.now) block.old in
+            LooksUp q (in_turn q self.old.used self.old.entries (exchange modes.Cbc key.now iv.now q self.old.entries))
+            result block.new self.old self.new }
+
+        // What every suite promises.
+        ensures asked { IsAskedAtMost 1 calls_made self.old self.new }
+        ensures fills { Fills (λ s. meant K.known s.entries) (λ s. min s.faults (2 ^ 64 - 1))
+            ((meant K.known self.old.entries).cbc_seal key.now iv.now block.old) result block.old block.new self.old self.new }
+    {
         self.ask_seal(key, iv, block)
     }
 
-    fn cbc_open(&mut self, key: &[u8], iv: &[u8; 16], block: &mut [u8]) -> Result<(), Failed> {
+    fn cbc_open(&mut self, key: &[u8], iv: &[u8; 16], block: &mut [u8]) -> Result<(), Failed>
+        ensures looks { let q = asked_question (heads.CbcOpen key.now iv.now) block.old in
+            LooksUp q (in_turn q self.old.used self.old.entries (exchange modes.Cbc key.now iv.now q self.old.entries))
+            result block.new self.old self.new }
+
+        // What every suite promises.
+        ensures asked { IsAskedAtMost 1 calls_made self.old self.new }
+        ensures fills { Fills (λ s. meant K.known s.entries) (λ s. min s.faults (2 ^ 64 - 1))
+            ((meant K.known self.old.entries).cbc_open key.now iv.now block.old) result block.old block.new self.old self.new }
+    {
         self.ask_open(key, iv, block)
     }
 
-    fn ctr(&mut self, key: &[u8], iv: &[u8; 16], block: &mut [u8]) -> Result<(), Failed> {
+    fn ctr(&mut self, key: &[u8], iv: &[u8; 16], block: &mut [u8]) -> Result<(), Failed>
+        ensures looks { let q = asked_question (heads.Ctr key.now iv.now) block.old in
+            LooksUp q (in_turn q self.old.used self.old.entries (exchange modes.Ctr key.now iv.now q self.old.entries))
+            result block.new self.old self.new }
+
+        // What every suite promises.
+        ensures asked { IsAskedAtMost 1 calls_made self.old self.new }
+        ensures fills { Fills (λ s. meant K.known s.entries) (λ s. min s.faults (2 ^ 64 - 1))
+            ((meant K.known self.old.entries).ctr key.now iv.now block.old) result block.old block.new self.old self.new }
+    {
         self.ask_ctr(key, iv, block)
     }
 }
