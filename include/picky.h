@@ -176,8 +176,8 @@ picky_answer picky_convert(picky_bytes text, uint32_t target, picky_bytes pass_i
  *
  * Refused is a table that is none (PICKY_ANSWERS + PICKY_ANSWERS_ENDS_IN_ENTRY, .._LENGTH_PAST_END or .._NO_QUESTION), and one of
  * which an answer has another length than its question wants (.._WRONG_LENGTH), or another partner under the same key and iv in a
- * further entry (.._CONTRADICTION), or of which the next entry has another question than is asked (.._MISPLACED). Which question is
- * asked is compared by check/ask, and isn't proved.
+ * further entry (.._CONTRADICTION), or of which the next entry has another question than is asked (.._MISPLACED). Which question
+ * is asked, and so the last of these and PICKY_ANSWERS_TOO_LONG, is compared by check/ask, and isn't proved.
  */
 
 /*
