@@ -11,6 +11,7 @@ import itertools
 import os
 import re
 import shutil
+import struct
 import subprocess
 from importlib.machinery import SourceFileLoader
 from pathlib import Path
@@ -43,6 +44,8 @@ class Call(NamedTuple):
     given: tuple
     # The bytes that are handed out, or the name of the reason why there are none.
     wanted: Union[bytes, str]
+    # Whether these bytes are a question.
+    asked: bool = False
 
 
 def convert(name, target, text, wanted, pass_in=b"", pass_out=b"", fresh=b""):
@@ -64,6 +67,15 @@ def shown(name, text, word, wanted):
 
 def with_comment(name, text, comment, wanted):
     return Call(f"{name}, with the comment {comment!r}", "with_comment", (text, comment), wanted)
+
+
+def convert_by(name, target, text, answers, wanted, pass_in=b"", pass_out=b"", fresh=b""):
+    number = TARGETS.get(target, target)
+    return Call(f"{name}, to {target}", "convert_by", (text, number, pass_in, pass_out, fresh, answers), wanted, isinstance(wanted, bytes))
+
+
+def seal_by(name, numbers, text, wanted):
+    return Call(f"{name}, sealed by {numbers}", "seal_by", (text, ctypes.c_char_p(struct.pack("=7I", *numbers)), b"", b"", b"", b""), wanted)
 
 
 # ---- the library, by examples/python
@@ -111,6 +123,9 @@ def wrong_symbols(library, text):
 def complaint(picky, numbers, call):
     """What is wrong with a call's answers, over buffers that are too short and that have room; none where nothing is."""
     function = getattr(picky.library, f"picky_{call.function}")
+    if call.function in ("convert_by", "seal_by"):
+        chosen = ctypes.c_uint32 if call.function == "convert_by" else ctypes.c_char_p
+        function.argtypes, function.restype = [picky.Bytes, chosen, *[picky.Bytes] * 4, ctypes.c_char_p, ctypes.c_size_t], picky.Answer
     given = [picky.Bytes(it) if isinstance(it, bytes) else it for it in call.given]
     refused = isinstance(call.wanted, str)
     for room in (0, 64) if refused else (0, 1, len(call.wanted), len(call.wanted) + 1, len(call.wanted) + 64):
@@ -121,7 +136,7 @@ def complaint(picky, numbers, call):
         elif room <= len(call.wanted):
             error, length, written = picky.BUFFER_TOO_SMALL, len(call.wanted), b""
         else:
-            error, length, written = picky.OK, len(call.wanted), call.wanted + b"\0"
+            error, length, written = numbers["Asked"] if call.asked else picky.OK, len(call.wanted), call.wanted + b"\0"
         if (answer.error, answer.len) != (error, length):
             names = [picky.error_name(it) for it in (answer.error, error)]
             return f"with {room} bytes of room {names[0]} and {answer.len} bytes, not {names[1]} and {length}"
@@ -435,6 +450,30 @@ def of_passphrases():
     yield convert("a line with fresh bytes that aren't UTF-8", "ssh-pub", LINE, LINE[:-1] + b"\r\n", fresh=b"\xff")
 
 
+def of_answers():
+    """Calls by answers: the question for a file of version 2, whose key PuTTY derives by SHA-1, and answers that are none to it."""
+    text = sealed_ppk(2, KEY, b"k")
+    lines = text.splitlines()
+    at = next(i for i, line in enumerate(lines) if line.startswith(b"Private-Lines: "))
+    private = base64.b64decode(b"".join(lines[at + 1:at + 1 + int(lines[at].split()[1])]))
+    key = b"".join(hashlib.sha1(uint32(i) + b"p").digest() for i in range(2))[:32]
+    question = string(b"\4" + string(key) + string(bytes(16))) + string(private)
+    other = string(b"\4" + string(key) + string(b"\1" * 16)) + string(private)
+    yield convert_by("an encrypted file", "openssh", text, b"", question, pass_in=b"p")
+    for name, answers, wanted in (
+            ("two bytes", bytes(2), "answers.EndsInEntry"), ("a length past the end", uint32(5), "answers.LengthPastEnd"),
+            ("a head of no question", string(b"\x09") + string(b"") + string(b""), "answers.NoQuestion"),
+            ("a short answer", question + string(private[1:]), "answers.WrongLength"),
+            ("another iv", other + string(private), "answers.Misplaced"),
+            ("a false answer", question + string(private), "input.putty.MacValidation")):
+        yield convert_by(f"an encrypted file, {name}", "openssh", text, answers, wanted, pass_in=b"p")
+    yield convert_by("no target, two bytes", 0, text, bytes(2), "NoSuchTarget", pass_in=b"p")
+    yield convert_by("bytes that aren't UTF-8, two bytes", "openssh", b"\xff", bytes(2), "answers.EndsInEntry", pass_in=b"p")
+    for numbers in ((4, 16, 2, 8192, 34, 1, 16), (0, 16, 2, 8192, 34, 1, 16), (3, 16, 3, 8192, 34, 1, 16)):
+        yield seal_by("a key", numbers, ENVELOPE, "NoSuchSealing")
+    yield seal_by("a key", (1, 16, 2, 8192, 34, 1, 16), ENVELOPE, ENVELOPE)
+
+
 def of_the_order():
     """Reasons that stand together: the first in the header's order is answered."""
     for target in (0, 8, 256, 2**32 - 1):
@@ -478,4 +517,4 @@ def of_long_keys():
 
 
 GROUPS = (of_other_programs, of_the_formats, of_keyconv, of_texts_that_mean_no_key, of_what_encrypted_texts_show, of_comments, of_passphrases,
-          of_the_order, of_long_keys)
+          of_answers, of_the_order, of_long_keys)
