@@ -2,6 +2,8 @@
 #![tactic(auto)]
 
 #[cfg(test)]
+mod answered_verifier;
+#[cfg(test)]
 mod calls;
 #[cfg(test)]
 mod decisions;
