@@ -1,2 +1,3 @@
 pub mod QuestionLemmas
 pub mod VerdictLemmas
+pub mod DecisionLemmas

@@ -1,5 +1,5 @@
 -- A signature's bytes are what it has behind its total.
-use Rattle.std.specs.Prelude.{◌≡◌, ◌≤◌, ℕ, suc, List, drop, length}
+use Rattle.std.specs.Prelude.{◌≡◌, ◌≤◌, ℕ, suc, drop, length}
 use Rattle.std.proofs.Common.{arith, refl}
 use Rattle.picky_cert_parts.specs.Signature.{behind_total}
 use Rattle.picky_cert_parts.specs.declared.signature.SshSignature.{SshSignature}

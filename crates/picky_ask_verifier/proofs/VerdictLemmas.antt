@@ -8,7 +8,6 @@ use Rattle.picky_cert_parts.specs.declared.signature.SshSignature.{SshSignature}
 use Rattle.picky_policy.specs.Verifies.{KeepsVerified, Verifies}
 use Rattle.picky_ask.specs.declared.question.Question.{Question}
 use Rattle.picky_ask.specs.declared.question.Entry.{Entry}
-use Rattle.picky_ask.specs.Lookup.{answer_to}
 use Rattle.picky_ask_verifier.specs.Question.{verdict, verify_question}
 use Rattle.picky_ask_verifier.specs.Verdicts.{Agrees, IsGood, LooksUpVerdict, Passes, SaysVerdict, SignatureTest, VerifierState, VerifiesByTable}
 
