@@ -57,6 +57,8 @@
 #include <stddef.h>
 #include <stdint.h>
 
+#include "picky/errors.h"
+
 /* The version of this header, which is that of the programs beside it (`keyconv --version`). CHANGELOG.md has what changed. */
 #define PICKY_VERSION_MAJOR 0
 #define PICKY_VERSION_MINOR 1
@@ -279,117 +281,6 @@ picky_name picky_error_name(uint32_t error);
  * header than the library's. It is handed out by value, as a name is.
  */
 picky_name picky_version(void);
-
-/*
- * Errors. A number has none of the values that an error carries in the library for Rattle: of PICKY_PUTTY_INVALID_INPUT which
- * line it is, what was expected there and what stood there; of others a name, a number or the error inside. A number of 100 or
- * more is a sum, as PICKY_INPUT_PUTTY + PICKY_PUTTY_ENCRYPTED. All stand in one enum, since C++26 doesn't add numbers of two.
- */
-enum {
-    PICKY_OK = 0,
-    PICKY_BUFFER_TOO_SMALL = 1,    /* `out` has no room for `len` bytes and a zero */
-    PICKY_NO_MEMORY = 2,           /* memory ran out */
-    PICKY_TEXT_NOT_UTF8 = 3,       /* the key text isn't UTF-8 */
-    PICKY_PASS_NOT_UTF8 = 4,       /* a passphrase isn't UTF-8 */
-    PICKY_NO_SUCH_TARGET = 5,      /* the number names no target */
-    PICKY_NO_SUCH_PART = 6,        /* the number names no part */
-    PICKY_NO_CIPHER = 7,           /* to read or to write this takes a cipher */
-    PICKY_NO_PRIVATE_KEY = 8,      /* the target keeps the secret, and the key is a public one */
-    PICKY_COMMENT_NOT_CARRIED = 9, /* the target can't hold the comment */
-    PICKY_FRESH_TOO_SHORT = 10,    /* to encrypt takes more fresh bytes */
-    PICKY_TOO_LONG = 11,           /* what is to be written has 2^32 bytes or more */
-    PICKY_TOO_MANY_LINES = 12,     /* a block of PuTTY's file has 65,536 lines or more */
-    PICKY_ASKED = 13,              /* `out` has a question, which the answers lack */
-    PICKY_COMMENT_NOT_UTF8 = 14,   /* the comment isn't UTF-8 */
-    PICKY_NO_SUCH_SEALING = 15,    /* the numbers name no private key's text, or of PuTTY's no kind of Argon2 */
-
-    /* The hundreds of errors. A number in one of them is the sum of the hundred and of an error of its kind, below. */
-    PICKY_INPUT_PRIVATE = 100,  /* read as an OpenSSH private key, the text means no key; plus PICKY_PRIVATE_.. */
-    PICKY_INPUT_PUBLIC = 200,   /* read as a public key line, the text means no key; plus PICKY_PUBLIC_.. */
-    PICKY_INPUT_CERT = 300,     /* read as a certificate's line, the text means no key; plus PICKY_CERT_.. */
-    PICKY_INPUT_PUTTY = 400,    /* read as PuTTY's private or public key, the text means no key; plus PICKY_PUTTY_.. */
-    PICKY_OUTPUT_PRIVATE = 500, /* the key can't be encrypted as an OpenSSH private key; plus PICKY_PRIVATE_.. */
-    PICKY_OUTPUT_PUTTY = 600,   /* PuTTY has no such key, or it can't be encrypted as its file; plus PICKY_PUTTY_.. */
-    PICKY_ANSWERS = 700,        /* the answers are none; plus PICKY_ANSWERS_.. */
-
-    /* Of OpenSSH private keys. */
-    PICKY_PRIVATE_FROM_UTF8_ERROR = 0,           /* a string that must be UTF-8 isn't */
-    PICKY_PRIVATE_IO_ERROR = 1,                  /* the bytes are cut inside a field */
-    PICKY_PRIVATE_UNSUPPORTED_KEY_TYPE = 2,      /* a key type that isn't read here */
-    PICKY_PRIVATE_UNSUPPORTED_CIPHER = 3,        /* a cipher that isn't read here */
-    PICKY_PRIVATE_UNSUPPORTED_KDF = 4,           /* a key derivation that isn't read here */
-    PICKY_PRIVATE_INVALID_AUTH_MAGIC_HEADER = 5, /* the bytes begin with none that mark a private key */
-    PICKY_PRIVATE_INVALID_KEYS_AMOUNT = 6,       /* there isn't one key */
-    PICKY_PRIVATE_INVALID_CHECK_NUMBERS = 7,     /* the two check numbers differ */
-    PICKY_PRIVATE_INVALID_KEY_FORMAT = 8,        /* the parts of the key don't agree, or don't have the form of its kind */
-    PICKY_PRIVATE_DECRYPTION_ERROR = 9,          /* what is encrypted is no multiple of 16 bytes */
-    PICKY_PRIVATE_HASHING_ERROR = 10,            /* no key is derived from the passphrase */
-    PICKY_PRIVATE_MISSING_PASSPHRASE = 11,       /* the key is encrypted, and there is no passphrase */
-    PICKY_PRIVATE_KEY_ERROR = 12,                /* an Ed25519 public key isn't 32 bytes */
-    PICKY_PRIVATE_PEM_ERROR = 13,                /* the text is no PEM */
-    PICKY_PRIVATE_SUITE_FAULT = 14,              /* never: it is PICKY_NO_CIPHER */
-    PICKY_PRIVATE_TOO_LONG = 15,                 /* there are 2^32 bytes or more */
-    PICKY_PRIVATE_NO_MEMORY = 16,                /* never: it is PICKY_NO_MEMORY */
-    PICKY_PRIVATE_PUBLIC_KEY_MISMATCH = 17,      /* the public key before the private one is another */
-
-    /* Of public key lines. */
-    PICKY_PUBLIC_IO_ERROR = 0,            /* the blob is cut inside a field */
-    PICKY_PUBLIC_INVALID_UTF8 = 1,        /* a string that must be UTF-8 isn't */
-    PICKY_PUBLIC_BASE64_DECODE_ERROR = 2, /* the second word is no base64 */
-    PICKY_PUBLIC_UNKNOWN_KEY_TYPE = 3,    /* the first word, or the name in the blob, names no key type that is read here */
-    PICKY_PUBLIC_KEY_ERROR = 4,           /* an Ed25519 key isn't 32 bytes */
-    PICKY_PUBLIC_TOO_LONG = 5,            /* there are 2^32 bytes or more */
-    PICKY_PUBLIC_NO_MEMORY = 6,           /* never: it is PICKY_NO_MEMORY */
-
-    /* Of certificates' lines. */
-    PICKY_CERT_CERTIFICATE_PROCESSING_ERROR = 0, /* the bytes end inside a field */
-    PICKY_CERT_UNSUPPORTED_CERTIFICATE_TYPE = 1, /* a certificate for a DSS key */
-    PICKY_CERT_SSH_CRITICAL_OPTION_ERROR = 2,    /* a critical option is refused */
-    PICKY_CERT_SSH_EXTENSION_ERROR = 3,          /* an extension is refused */
-    PICKY_CERT_INVALID_UTF8 = 4,                 /* a string that must be UTF-8 isn't */
-    PICKY_CERT_BASE64_DECODE_ERROR = 5,          /* the second word is no base64 */
-    PICKY_CERT_INVALID_CERTIFICATE_TYPE = 6,     /* it is neither a user's nor a host's */
-    PICKY_CERT_INVALID_CERTIFICATE_KEY_TYPE = 7, /* the name names no type of certificate */
-    PICKY_CERT_INVALID_PUBLIC_KEY = 8,           /* the issuer's key is refused */
-    PICKY_CERT_KEY_ERROR = 9,                    /* an Ed25519 key isn't 32 bytes */
-    PICKY_CERT_SUBJECT_MISMATCH = 10,            /* never: reading doesn't give it */
-    PICKY_CERT_SSH_SIGNATURE_ERROR = 11,         /* the signature is refused; none is verified */
-    PICKY_CERT_TOO_LONG = 12,                    /* there are 2^32 bytes or more */
-    PICKY_CERT_NO_MEMORY = 13,                   /* never: it is PICKY_NO_MEMORY */
-
-    /* Of PuTTY's files. */
-    PICKY_PUTTY_END_OF_INPUT = 0,                    /* a line is missing */
-    PICKY_PUTTY_INVALID_INPUT = 1,                   /* a line's key or value, a count or a block is none that is known there */
-    PICKY_PUTTY_INVALID_KEY_VALUE_FORMAT = 2,        /* a line has no ": " */
-    PICKY_PUTTY_AES = 3,                             /* an encrypted block is no multiple of 16 bytes */
-    PICKY_PUTTY_ARGON2 = 4,                          /* Argon2 can't be run with these numbers */
-    PICKY_PUTTY_MAC_VALIDATION = 5,                  /* the MAC is another than the one of the fields */
-    PICKY_PUTTY_PUBLIC_AND_PRIVATE_KEY_MISMATCH = 6, /* the public blob is of another kind or curve than the algorithm */
-    PICKY_PUTTY_INVALID_PRIVATE_KEY_DATA = 7,        /* an Ed25519 secret has more than 32 bytes */
-    PICKY_PUTTY_INVALID_PUBLIC_KEY_DATA = 8,         /* the body of a public key is no base64 */
-    PICKY_PUTTY_INVALID_PUBLIC_KEY_CONTAINER = 9,    /* the first line is not the header of a public key */
-    PICKY_PUTTY_INVALID_PUBLIC_KEY_COMMENT = 10,     /* the second line is no comment line of a public key */
-    PICKY_PUTTY_ALREADY_DECRYPTED = 11,              /* never: a file that isn't encrypted is read as it is */
-    PICKY_PUTTY_ALREADY_ENCRYPTED = 12,              /* never: only a plain file is encrypted */
-    PICKY_PUTTY_ENCRYPTED = 13,                      /* the file is encrypted, and there is no passphrase */
-    PICKY_PUTTY_NOT_SUPPORTED = 14,                  /* PuTTY has no such key */
-    PICKY_PUTTY_SSH_PUBLIC_KEY = 15,                 /* the blob holds no public key */
-    PICKY_PUTTY_IO_ERROR = 16,                       /* a blob is cut */
-    PICKY_PUTTY_SUITE_FAULT = 17,                    /* never: it is PICKY_NO_CIPHER */
-    PICKY_PUTTY_TOO_LONG = 18,                       /* there are 2^32 bytes or more */
-    PICKY_PUTTY_TOO_MANY_LINES = 19,                 /* a block has 65,536 lines or more: one that is read is
-                                                        PICKY_PUTTY_INVALID_INPUT, one to write PICKY_TOO_MANY_LINES */
-    PICKY_PUTTY_NO_MEMORY = 20,                      /* never: it is PICKY_NO_MEMORY */
-
-    /* Of answers. */
-    PICKY_ANSWERS_ENDS_IN_ENTRY = 0,   /* they end where a string of an entry should begin, or in the four bytes of its length */
-    PICKY_ANSWERS_LENGTH_PAST_END = 1, /* a length says more bytes than are left */
-    PICKY_ANSWERS_NO_QUESTION = 2,     /* a head is none of a known question */
-    PICKY_ANSWERS_WRONG_LENGTH = 3,    /* an answer has another length than is asked */
-    PICKY_ANSWERS_CONTRADICTION = 4,   /* an answer contradicts another entry */
-    PICKY_ANSWERS_MISPLACED = 5,       /* the next entry answers another question than is asked */
-    PICKY_ANSWERS_TOO_LONG = 6         /* a part of what is asked has 2^32 bytes or more, so no question says it */
-};
 
 #ifdef __cplusplus
 }

@@ -14,10 +14,13 @@ use Rattle.picky_ppk_parts.specs.declared.error.PuttyError.{PuttyError}
 use Rattle.picky_ppk_parts.specs.declared.error.PuttyError.TheVariants as putty
 use Rattle.picky_key_text.specs.declared.error.ReadError.TheVariants as input
 use Rattle.picky_target.specs.declared.error.ConvertError.TheVariants as errors
+use Rattle.picky_cert_builder.specs.RefusalName.{request_name}
+use Rattle.picky_cert_builder.specs.declared.error.SshCertificateGenerationError.{SshCertificateGenerationError}
+use Rattle.picky_cert_builder.specs.declared.error.SshCertificateGenerationError.TheVariants as requests
 use Rattle.picky_convert.specs.Report.{certificate_name, name, path, private_name, public_name, putty_name}
 use Rattle.picky_c.specs.Name.{error_name}
 use Rattle.picky_c.specs.Number.{IsAnswered, certificate_number, error_number, private_number, public_number}
-use Rattle.picky_c.specs.Number.{putty_number}
+use Rattle.picky_c.specs.Number.{putty_number, request_number}
 use Rattle.picky_c.specs.declared.error.PickyError.TheVariants as calls
 
 input_private : (e : SshPrivateKeyError) → codes "refused: " ++ error_name (100 + private_number e) ≡ codes "refused: input.private." ++ private_name e
@@ -137,6 +140,93 @@ output_putty putty.TooLong = refl
 output_putty putty.TooManyLines = refl
 output_putty putty.NoMemory = refl
 
+issuer_private : (e : SshPrivateKeyError) → codes "refused: " ++ error_name (1100 + private_number e) ≡ codes "refused: issuer.private." ++ private_name e
+unfolding error_name
+issuer_private private.FromUtf8Error = refl
+issuer_private (private.IoError kind) = refl
+issuer_private (private.UnsupportedKeyType name) = refl
+issuer_private (private.UnsupportedCipher name) = refl
+issuer_private (private.UnsupportedKdf name) = refl
+issuer_private private.InvalidAuthMagicHeader = refl
+issuer_private (private.InvalidKeysAmount amount) = refl
+issuer_private (private.InvalidCheckNumbers first second) = refl
+issuer_private private.InvalidKeyFormat = refl
+issuer_private private.DecryptionError = refl
+issuer_private private.HashingError = refl
+issuer_private private.MissingPassphrase = refl
+issuer_private private.KeyError = refl
+issuer_private (private.PemError e) = refl
+issuer_private private.SuiteFault = refl
+issuer_private private.TooLong = refl
+issuer_private private.NoMemory = refl
+issuer_private private.PublicKeyMismatch = refl
+
+issuer_public : (e : SshPublicKeyError) → codes "refused: " ++ error_name (1200 + public_number e) ≡ codes "refused: issuer.public." ++ public_name e
+unfolding error_name
+issuer_public (public.IoError kind) = refl
+issuer_public public.InvalidUtf8 = refl
+issuer_public public.Base64DecodeError = refl
+issuer_public public.UnknownKeyType = refl
+issuer_public public.KeyError = refl
+issuer_public public.TooLong = refl
+issuer_public public.NoMemory = refl
+
+issuer_certificate : (e : SshCertificateError) → codes "refused: " ++ error_name (1300 + certificate_number e) ≡ codes "refused: issuer.cert." ++ certificate_name e
+unfolding error_name
+issuer_certificate (certificate.CertificateProcessingError kind) = refl
+issuer_certificate (certificate.UnsupportedCertificateType name) = refl
+issuer_certificate (certificate.SshCriticalOptionError e) = refl
+issuer_certificate (certificate.SshExtensionError e) = refl
+issuer_certificate certificate.InvalidUtf8 = refl
+issuer_certificate certificate.Base64DecodeError = refl
+issuer_certificate (certificate.InvalidCertificateType e) = refl
+issuer_certificate (certificate.InvalidCertificateKeyType name) = refl
+issuer_certificate (certificate.InvalidPublicKey e) = refl
+issuer_certificate certificate.KeyError = refl
+issuer_certificate certificate.SubjectMismatch = refl
+issuer_certificate (certificate.SshSignatureError e) = refl
+issuer_certificate certificate.TooLong = refl
+issuer_certificate certificate.NoMemory = refl
+
+issuer_putty : (e : PuttyError) → codes "refused: " ++ error_name (1400 + putty_number e) ≡ codes "refused: issuer.putty." ++ putty_name e
+unfolding error_name
+issuer_putty putty.EndOfInput = refl
+issuer_putty (putty.InvalidInput context expected actual) = refl
+issuer_putty putty.InvalidKeyValueFormat = refl
+issuer_putty putty.Aes = refl
+issuer_putty putty.Argon2 = refl
+issuer_putty putty.MacValidation = refl
+issuer_putty putty.PublicAndPrivateKeyMismatch = refl
+issuer_putty putty.InvalidPrivateKeyData = refl
+issuer_putty putty.InvalidPublicKeyData = refl
+issuer_putty putty.InvalidPublicKeyContainer = refl
+issuer_putty putty.InvalidPublicKeyComment = refl
+issuer_putty putty.AlreadyDecrypted = refl
+issuer_putty putty.AlreadyEncrypted = refl
+issuer_putty putty.Encrypted = refl
+issuer_putty (putty.NotSupported feature) = refl
+issuer_putty (putty.SshPublicKey e) = refl
+issuer_putty (putty.IoError kind) = refl
+issuer_putty putty.SuiteFault = refl
+issuer_putty putty.TooLong = refl
+issuer_putty putty.TooManyLines = refl
+issuer_putty putty.NoMemory = refl
+
+requested : (e : SshCertificateGenerationError) → codes "refused: " ++ error_name (800 + request_number e) ≡ codes "refused: request." ++ request_name e
+unfolding error_name
+requested (requests.UnsupportedCertificateKeyType t) = refl
+requested requests.IncorrectSignatureAlgorithm = refl
+requested requests.MissingPublicKey = refl
+requested requests.MissingCertificateType = refl
+requested requests.InvalidTime = refl
+requested requests.MissingSignatureKey = refl
+requested requests.HostCertificateExtensions = refl
+requested requests.HostCertificateCriticalOptions = refl
+requested requests.NoKeyType = refl
+requested requests.SignatureError = refl
+requested requests.TooLong = refl
+requested requests.NoMemory = refl
+
 no_read_memory : (e : ReadError) → e ≡ input.NoMemory → WantsMemory (errors.Input e)
 no_read_memory e want = let wants : WantsMemory (errors.Input input.NoMemory) = tt in subst (λ d. WantsMemory (errors.Input d)) (sym want) wants
 
@@ -148,12 +238,24 @@ input_named (input.Certificate e) other = input_certificate e
 input_named (input.Putty e) other = input_putty e
 input_named input.NoMemory other = absurd (other refl)
 
+no_issuer_memory : (e : ReadError) → e ≡ input.NoMemory → WantsMemory (errors.Issuer e)
+no_issuer_memory e want =
+    let wants : WantsMemory (errors.Issuer input.NoMemory) = tt in subst (λ d. WantsMemory (errors.Issuer d)) (sym want) wants
+
+issuer_named : (e : ReadError) → (e ≡ input.NoMemory → ⊥)
+    → codes "refused: " ++ error_name (error_number (calls.Refused (errors.Issuer e))) ≡ path (errors.Issuer e) ++ name (errors.Issuer e)
+issuer_named (input.Private e) other = issuer_private e
+issuer_named (input.Public e) other = issuer_public e
+issuer_named (input.Certificate e) other = issuer_certificate e
+issuer_named (input.Putty e) other = issuer_putty e
+issuer_named input.NoMemory other = absurd (other refl)
+
 pub refusal_named : (e : ConvertError) → IsAnswered e
     → codes "refused: " ++ error_name (error_number (calls.Refused e)) ≡ path e ++ name e
 unfolding error_name
 refusal_named (errors.Input e) is = input_named e (λ want. is.no_memory (no_read_memory e want))
-refusal_named (errors.Issuer e) is = absurd is.of_key
-refusal_named (errors.Request e) is = absurd is.of_key
+refusal_named (errors.Issuer e) is = issuer_named e (λ want. is.no_memory (no_issuer_memory e want))
+refusal_named (errors.Request e) is = requested e
 refusal_named errors.NoPrivateKey is = refl
 refusal_named errors.CommentNotCarried is = refl
 refusal_named (errors.Private e) is = output_private e

@@ -41,24 +41,24 @@ use Rattle.picky_c.proofs.LawLemmas.{reading_answered}
 
 pub shown_answered : (text : List ℕ) (e : ReadError) → shows plain text ≡ Err e → IsAnswered (errors.Input e)
 shown_answered text e is =
-    let own = shows_own plain text e is in record { of_key = tt; no_memory = own.1; no_fault = own.0 }
+    let own = shows_own plain text e is in record { no_memory = own.1; no_fault = own.0 }
 
 -- ---- what is refused of what is written
 
 not_carried : IsAnswered errors.CommentNotCarried
-not_carried = record { of_key = tt; no_memory = λ want. cc want; no_fault = λ fault. fault }
+not_carried = record { no_memory = λ want. cc want; no_fault = λ fault. fault }
 
 too_long : IsAnswered errors.TooLong
-too_long = record { of_key = tt; no_memory = λ want. cc want; no_fault = λ fault. fault }
+too_long = record { no_memory = λ want. cc want; no_fault = λ fault. fault }
 
 too_many_lines : IsAnswered errors.TooManyLines
-too_many_lines = record { of_key = tt; no_memory = λ want. cc want; no_fault = λ fault. fault }
+too_many_lines = record { no_memory = λ want. cc want; no_fault = λ fault. fault }
 
 not_derived : IsAnswered (errors.Private private.HashingError)
-not_derived = record { of_key = tt; no_memory = λ want. elim want [ inl is ↦ cc is | inr is ↦ cc is ]; no_fault = λ fault. cc fault }
+not_derived = record { no_memory = λ want. elim want [ inl is ↦ cc is | inr is ↦ cc is ]; no_fault = λ fault. cc fault }
 
 encrypted : IsAnswered (errors.Putty putty.Encrypted)
-encrypted = record { of_key = tt; no_memory = λ want. elim want [ inl is ↦ cc is | inr is ↦ cc is ]; no_fault = λ fault. cc fault }
+encrypted = record { no_memory = λ want. elim want [ inl is ↦ cc is | inr is ↦ cc is ]; no_fault = λ fault. cc fault }
 
 key_answered : (m : Meanings) (key : SshPrivateKey) → Refuses (λ e. IsAnswered (private_refusal e)) (key_text m key)
 unfolding key_text sealable

@@ -9,4 +9,6 @@ pub mod Sealing
 pub mod Calls
 pub mod Round
 pub mod Shown
+pub mod CertificatePart
+pub mod AuthorizedPart
 pub mod Comment

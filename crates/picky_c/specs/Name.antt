@@ -8,7 +8,7 @@ own_names =
     codes "Ok" ∷ codes "BufferTooSmall" ∷ codes "NoMemory" ∷ codes "TextNotUtf8" ∷ codes "PassNotUtf8" ∷
     codes "NoSuchTarget" ∷ codes "NoSuchPart" ∷ codes "NoCipher" ∷ codes "NoPrivateKey" ∷
     codes "CommentNotCarried" ∷ codes "FreshTooShort" ∷ codes "TooLong" ∷ codes "TooManyLines" ∷ codes "Asked" ∷
-    codes "CommentNotUtf8" ∷ codes "NoSuchSealing" ∷ []
+    codes "CommentNotUtf8" ∷ codes "NoSuchSealing" ∷ codes "NoSuchPlace" ∷ codes "NoSuchOption" ∷ codes "NoKey" ∷ []
 
 -- the names of an OpenSSH private key, by number
 abbrev pub private_names : List (List ℕ)
@@ -44,6 +44,14 @@ putty_names =
     codes "SshPublicKey" ∷ codes "IoError" ∷ codes "SuiteFault" ∷ codes "TooLong" ∷ codes "TooManyLines" ∷
     codes "NoMemory" ∷ []
 
+-- the names of a request, by number
+abbrev pub request_names : List (List ℕ)
+request_names =
+    codes "UnsupportedCertificateKeyType" ∷ codes "IncorrectSignatureAlgorithm" ∷ codes "MissingPublicKey" ∷
+    codes "MissingCertificateType" ∷ codes "InvalidTime" ∷ codes "MissingSignatureKey" ∷
+    codes "HostCertificateExtensions" ∷ codes "HostCertificateCriticalOptions" ∷ codes "NoKeyType" ∷
+    codes "SignatureError" ∷ codes "TooLong" ∷ codes "NoMemory" ∷ []
+
 -- the names of answers, by number
 abbrev pub answers_names : List (List ℕ)
 answers_names =
@@ -61,6 +69,11 @@ names_in group =
     else if group == 5 then private_names
     else if group == 6 then putty_names
     else if group == 7 then answers_names
+    else if group == 8 then request_names
+    else if group == 11 then private_names
+    else if group == 12 then public_names
+    else if group == 13 then certificate_names
+    else if group == 14 then putty_names
     else []
 
 -- the path to them
@@ -73,6 +86,11 @@ path_to group =
     else if group == 5 then codes "output.private."
     else if group == 6 then codes "output.putty."
     else if group == 7 then codes "answers."
+    else if group == 8 then codes "request."
+    else if group == 11 then codes "issuer.private."
+    else if group == 12 then codes "issuer.public."
+    else if group == 13 then codes "issuer.cert."
+    else if group == 14 then codes "issuer.putty."
     else []
 
 -- the name in a hundred; [] where the number has none

@@ -10,6 +10,8 @@ use Rattle.picky_ppk_parts.specs.declared.error.PuttyError.{PuttyError}
 use Rattle.picky_ppk_parts.specs.declared.error.PuttyError.TheVariants as putty
 use Rattle.picky_key_text.specs.declared.error.ReadError.{ReadError}
 use Rattle.picky_key_text.specs.declared.error.ReadError.TheVariants as input
+use Rattle.picky_cert_builder.specs.declared.error.SshCertificateGenerationError.{SshCertificateGenerationError}
+use Rattle.picky_cert_builder.specs.declared.error.SshCertificateGenerationError.TheVariants as requests
 use Rattle.picky_target.specs.declared.error.ConvertError.{ConvertError}
 use Rattle.picky_target.specs.declared.error.ConvertError.TheVariants as errors
 use Rattle.picky_conversion.specs.Want.{IsFault, WantsMemory}
@@ -98,11 +100,34 @@ read_number (input.Certificate e) = 300 + certificate_number e
 read_number (input.Putty e) = 400 + putty_number e
 read_number input.NoMemory = 2
 
--- of a conversion's refusal; 99 of what no call here answers
+-- of an issuer's text that means nothing
+abbrev pub issuer_number : ReadError → ℕ
+issuer_number (input.Private e) = 1100 + private_number e
+issuer_number (input.Public e) = 1200 + public_number e
+issuer_number (input.Certificate e) = 1300 + certificate_number e
+issuer_number (input.Putty e) = 1400 + putty_number e
+issuer_number input.NoMemory = 2
+
+-- the place of a request's refusal in its hundred
+abbrev pub request_number : SshCertificateGenerationError → ℕ
+request_number (requests.UnsupportedCertificateKeyType t) = 0
+request_number requests.IncorrectSignatureAlgorithm = 1
+request_number requests.MissingPublicKey = 2
+request_number requests.MissingCertificateType = 3
+request_number requests.InvalidTime = 4
+request_number requests.MissingSignatureKey = 5
+request_number requests.HostCertificateExtensions = 6
+request_number requests.HostCertificateCriticalOptions = 7
+request_number requests.NoKeyType = 8
+request_number requests.SignatureError = 9
+request_number requests.TooLong = 10
+request_number requests.NoMemory = 11
+
+-- of a conversion's refusal
 abbrev pub refused_number : ConvertError → ℕ
 refused_number (errors.Input e) = read_number e
-refused_number (errors.Issuer e) = 99
-refused_number (errors.Request e) = 99
+refused_number (errors.Issuer e) = issuer_number e
+refused_number (errors.Request e) = 800 + request_number e
 refused_number errors.NoPrivateKey = 8
 refused_number errors.CommentNotCarried = 9
 refused_number (errors.Private e) = 500 + private_number e
@@ -134,17 +159,13 @@ error_number calls.NoCipher = 7
 error_number calls.Asked = 13
 error_number calls.CommentNotUtf8 = 14
 error_number calls.NoSuchSealing = 15
+error_number calls.NoSuchPlace = 16
+error_number calls.NoSuchOption = 17
+error_number calls.NoKey = 18
 error_number (calls.Answers e) = 700 + answers_number e
 error_number (calls.Refused e) = refused_number e
 
--- a refusal of no issuer and of no request
-abbrev pub IsOfKey : ConvertError → Type 0
-IsOfKey (errors.Issuer e) = ⊥
-IsOfKey (errors.Request e) = ⊥
-IsOfKey e = Unit {0}
-
 -- what a call answers as a refusal: no want of memory, and no fault of the suite
 pub record IsAnswered (e : ConvertError) : Type 0 where
-  pub of_key : IsOfKey e
   pub no_memory : WantsMemory e → ⊥
   pub no_fault : IsFault e → ⊥

@@ -33,6 +33,12 @@ pub enum PickyError {
     Asked,
     /// The numbers name no way to seal.
     NoSuchSealing,
+    /// The list ends before the place.
+    NoSuchPlace,
+    /// The key has no option at the place.
+    NoSuchOption,
+    /// The line has no key.
+    NoKey,
     /// The answers are none.
     Answers(AnswersError),
     /// The key text is refused, or has no text for the target.

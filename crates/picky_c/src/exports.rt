@@ -5,6 +5,8 @@
 ghost use Rattle.std.specs.Prelude.{[], false};
 ghost use Rattle.picky_suite.specs.Meanings.{Meanings, plain};
 ghost use Rattle.picky_c.specs.Answer.{AnswersCall};
+ghost use Rattle.picky_c.specs.AuthorizedPart.{authorized_part_in};
+ghost use Rattle.picky_c.specs.CertificatePart.{IsCertificatePart, certificate_part_in};
 ghost use Rattle.picky_c.specs.Calls.{IsConverted, IsFingerprint, IsPart, converted as converted_of, converting_is_asked};
 ghost use Rattle.picky_c.specs.Calls.{fingerprint as fingerprint_of, numbered_target, public_part_in, sealed_target};
 ghost use Rattle.picky_c.specs.Given.{given};
@@ -15,6 +17,8 @@ ghost use Rattle.picky_c.specs.Name.{IsNamed, error_name, version};
 ghost use Rattle.picky_c.specs.Round.{AnswersRound};
 
 use crate::answer::{PickyAnswer, hand};
+use crate::authorized_part::authorized_part;
+use crate::certificate_part::certificate_part;
 use crate::comment::commented;
 use crate::conversion::converted;
 use crate::given::{Given, PickyBytes};
@@ -161,6 +165,44 @@ pub extern "C" fn picky_shown_public(
     ensures { AnswersCall (shown_part_in text.entry.bytes.now part) false (IsShownPart text.entry.bytes.now part) result out.old out.new }
 {
     let outcome = shown_part(alloc, text.bytes, part);
+    hand(outcome, out)
+}
+
+/// The field with a number of the certificate that a line says; `place` counts the items of a list from 0, and is heeded for an
+/// item alone.
+///
+/// Refuses, in order: `NoSuchPart`, `TextNotUtf8`, as `picky_cert::SshCertificate::from_str`, `NoSuchPlace`, and `BufferTooSmall`.
+#[unsafe(no_mangle)]
+pub extern "C" fn picky_certificate_part(
+    alloc: Global,
+    text: PickyBytes<'_>,
+    part: u32,
+    place: usize,
+    out: &mut [u8],
+) -> PickyAnswer
+    ensures { AnswersCall (certificate_part_in text.entry.bytes.now part place) false
+        (IsCertificatePart text.entry.bytes.now part place) result out.old out.new }
+{
+    let outcome = certificate_part(alloc, text.bytes, part, place);
+    hand(outcome, out)
+}
+
+/// The field with a number of authorized keys; `place` counts their lines that aren't blank and no comment from 0, and `option` the
+/// options of one.
+///
+/// Refuses, in order: `NoSuchPart`, `TextNotUtf8`, `TooLong`, `NoSuchPlace`, `NoKey`, `NoSuchOption`, and `BufferTooSmall`.
+#[unsafe(no_mangle)]
+pub extern "C" fn picky_authorized_entry(
+    alloc: Global,
+    text: PickyBytes<'_>,
+    place: usize,
+    part: u32,
+    option: usize,
+    out: &mut [u8],
+) -> PickyAnswer
+    ensures { AnswersCall (authorized_part_in text.entry.bytes.now part place option) false (λ bytes. Unit {0}) result out.old out.new }
+{
+    let outcome = authorized_part(alloc, text.bytes, part, place, option);
     hand(outcome, out)
 }
 

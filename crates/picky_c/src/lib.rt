@@ -4,6 +4,8 @@
 #![tactic(auto)]
 
 mod answer;
+mod authorized_part;
+mod certificate_part;
 mod comment;
 mod conversion;
 mod error;

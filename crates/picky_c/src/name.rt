@@ -10,7 +10,7 @@ const NAME_LEN: usize = 48;
 const VERSION: &str = "0.1.0";
 
 /// The names of a call itself, by number.
-const OWN: [&str; 16] = [
+const OWN: [&str; 19] = [
     "Ok",
     "BufferTooSmall",
     "NoMemory",
@@ -27,6 +27,9 @@ const OWN: [&str; 16] = [
     "Asked",
     "CommentNotUtf8",
     "NoSuchSealing",
+    "NoSuchPlace",
+    "NoSuchOption",
+    "NoKey",
 ];
 
 /// The names of an OpenSSH private key, by number.
@@ -116,6 +119,22 @@ const ANSWERS: [&str; 7] = [
     "TooLong",
 ];
 
+/// The names of a request, by number.
+const REQUEST: [&str; 12] = [
+    "UnsupportedCertificateKeyType",
+    "IncorrectSignatureAlgorithm",
+    "MissingPublicKey",
+    "MissingCertificateType",
+    "InvalidTime",
+    "MissingSignatureKey",
+    "HostCertificateExtensions",
+    "HostCertificateCriticalOptions",
+    "NoKeyType",
+    "SignatureError",
+    "TooLong",
+    "NoMemory",
+];
+
 /// A number's name, with zeros behind it.
 #[repr(C)]
 #[derive(Clone, Copy)]
@@ -202,6 +221,21 @@ fn table(group: u32) -> &'static [&'static str]
     if group == 7 {
         return &ANSWERS;
     }
+    if group == 8 {
+        return &REQUEST;
+    }
+    if group == 11 {
+        return &PRIVATE;
+    }
+    if group == 12 {
+        return &PUBLIC;
+    }
+    if group == 13 {
+        return &CERTIFICATE;
+    }
+    if group == 14 {
+        return &PUTTY;
+    }
     &[]
 }
 
@@ -230,6 +264,21 @@ fn path_of(group: u32) -> &'static str
     }
     if group == 7 {
         return "answers.";
+    }
+    if group == 8 {
+        return "request.";
+    }
+    if group == 11 {
+        return "issuer.private.";
+    }
+    if group == 12 {
+        return "issuer.public.";
+    }
+    if group == 13 {
+        return "issuer.cert.";
+    }
+    if group == 14 {
+        return "issuer.putty.";
     }
     ""
 }

@@ -4,13 +4,14 @@
 
 ghost use Rattle.std.specs.Prelude.{◌≡◌, ◌<◌};
 ghost use Rattle.picky_c.specs.Number.{answers_number as answers_number_of, error_number};
-ghost use Rattle.picky_c.specs.Number.{certificate_number as certificate_number_of};
+ghost use Rattle.picky_c.specs.Number.{certificate_number as certificate_number_of, issuer_number as issuer_number_of};
 ghost use Rattle.picky_c.specs.Number.{private_number as private_number_of, public_number as public_number_of};
 ghost use Rattle.picky_c.specs.Number.{putty_number as putty_number_of, read_number as read_number_of};
-ghost use Rattle.picky_c.specs.Number.{refused_number};
+ghost use Rattle.picky_c.specs.Number.{refused_number, request_number as request_number_of};
 
 use crate::error::{AnswersError, PickyError};
 use picky_cert::SshCertificateError;
+use picky_cert_builder::SshCertificateGenerationError;
 use picky_key_text::ReadError;
 use picky_keys::SshPublicKeyError;
 use picky_ppk::PuttyError;
@@ -32,6 +33,9 @@ pub fn number_of(e: &PickyError) -> u32
         PickyError::Asked => 13,
         PickyError::CommentNotUtf8 => 14,
         PickyError::NoSuchSealing => 15,
+        PickyError::NoSuchPlace => 16,
+        PickyError::NoSuchOption => 17,
+        PickyError::NoKey => 18,
         PickyError::Answers(e) => 700 + answers_number(e),
         PickyError::Refused(e) => convert_number(e),
     }
@@ -53,13 +57,14 @@ fn answers_number(e: &AnswersError) -> u32
     }
 }
 
-/// That of a conversion's refusal; what is refused of a certificate that is asked for has the number of no answer.
+/// That of a conversion's refusal.
 fn convert_number(e: &ConvertError) -> u32
     ensures { result ≡ refused_number e.now }
 {
     match e {
         ConvertError::Input(e) => read_number(e),
-        ConvertError::Issuer(_) | ConvertError::Request(_) => 99,
+        ConvertError::Issuer(e) => issuer_number(e),
+        ConvertError::Request(e) => 800 + request_number(e),
         ConvertError::NoPrivateKey => 8,
         ConvertError::CommentNotCarried => 9,
         ConvertError::Private(e) => 500 + private_number(e),
@@ -81,6 +86,40 @@ fn read_number(e: &ReadError) -> u32
         ReadError::Certificate(e) => 300 + certificate_number(e),
         ReadError::Putty(e) => 400 + putty_number(e),
         ReadError::NoMemory => 2,
+    }
+}
+
+/// That of an issuer's text which means nothing.
+fn issuer_number(e: &ReadError) -> u32
+    ensures { result ≡ issuer_number_of e.now }
+{
+    match e {
+        ReadError::Private(e) => 1100 + private_number(e),
+        ReadError::Public(e) => 1200 + public_number(e),
+        ReadError::Certificate(e) => 1300 + certificate_number(e),
+        ReadError::Putty(e) => 1400 + putty_number(e),
+        ReadError::NoMemory => 2,
+    }
+}
+
+/// The place of a request's refusal in its hundred.
+fn request_number(e: &SshCertificateGenerationError) -> u32
+    ensures number { result ≡ request_number_of e.now }
+    ensures place { result < 100 }
+{
+    match e {
+        SshCertificateGenerationError::UnsupportedCertificateKeyType(_) => 0,
+        SshCertificateGenerationError::IncorrectSignatureAlgorithm => 1,
+        SshCertificateGenerationError::MissingPublicKey => 2,
+        SshCertificateGenerationError::MissingCertificateType => 3,
+        SshCertificateGenerationError::InvalidTime => 4,
+        SshCertificateGenerationError::MissingSignatureKey => 5,
+        SshCertificateGenerationError::HostCertificateExtensions => 6,
+        SshCertificateGenerationError::HostCertificateCriticalOptions => 7,
+        SshCertificateGenerationError::NoKeyType => 8,
+        SshCertificateGenerationError::SignatureError => 9,
+        SshCertificateGenerationError::TooLong => 10,
+        SshCertificateGenerationError::NoMemory => 11,
     }
 }
 
