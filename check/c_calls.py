@@ -33,6 +33,8 @@ SHOWN = {**PARTS, "line": 4, "fingerprint": 5, "bits": 6, "encrypted": 7, "ciphe
 FILE_TARGETS = ("ppk2", "ppk3", "ppk2-for-putty", "ppk3-for-putty")
 PRIVATE_TARGETS, PUTTY_TARGETS = ("openssh", *FILE_TARGETS), (*FILE_TARGETS, "putty-pub")
 UNTOUCHED = b"\xa5"
+# What the calls are given that examples/python doesn't declare: bytes, a number, a size, a pointer.
+TYPES = {"convert_by": "bnbbbb", "seal_by": "bpbbbb", "certificate_part": "bnz", "authorized_entry": "bznz"}
 # What a library takes of the C library at most, as picky.h says.
 TAKEN = {"malloc", "realloc", "free", "memmove", "memcpy", "memset", "memcmp"}
 
@@ -123,9 +125,9 @@ def wrong_symbols(library, text):
 def complaint(picky, numbers, call):
     """What is wrong with a call's answers, over buffers that are too short and that have room; none where nothing is."""
     function = getattr(picky.library, f"picky_{call.function}")
-    if call.function in ("convert_by", "seal_by"):
-        chosen = ctypes.c_uint32 if call.function == "convert_by" else ctypes.c_char_p
-        function.argtypes, function.restype = [picky.Bytes, chosen, *[picky.Bytes] * 4, ctypes.c_char_p, ctypes.c_size_t], picky.Answer
+    if call.function in TYPES:
+        kinds = {"b": picky.Bytes, "n": ctypes.c_uint32, "z": ctypes.c_size_t, "p": ctypes.c_char_p}
+        function.argtypes, function.restype = [*(kinds[it] for it in TYPES[call.function]), ctypes.c_char_p, ctypes.c_size_t], picky.Answer
     given = [picky.Bytes(it) if isinstance(it, bytes) else it for it in call.given]
     refused = isinstance(call.wanted, str)
     for room in (0, 64) if refused else (0, 1, len(call.wanted), len(call.wanted) + 1, len(call.wanted) + 64):
