@@ -154,7 +154,7 @@ def wrong_numbers(picky, text):
         if theirs != ours or list(ours.values()) != numbers:
             yield f"examples/python has {theirs}, check/c_calls.py {ours}, and the header {numbers}"
     names = header.error_names()
-    for number in [*range(1000), 65536, 2**31, 2**32 - 1]:
+    for number in [*range(2000), 65536, 2**31, 2**32 - 1]:
         if picky.error_name(number) != names.get(number, ""):
             yield f"{number} is {names.get(number, '')!r}, and the library says {picky.error_name(number)!r}"
 
