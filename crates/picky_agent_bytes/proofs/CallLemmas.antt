@@ -1,9 +1,17 @@
 -- What the calls answer.
-use Rattle.std.proofs.Common.{◌≡◌, ◌⊎◌, ◌<◌, ◌≤◌, ◌-◌, ◌∙◌, ◌^◌, ℕ, Bool, true, false, List, [], ◌∷◌, length, min, get_or, inl, inr, refl, sym, ap, subst, arith}
+use Rattle.std.proofs.Common.{◌≡◌, ◌⊎◌, ◌<◌, ◌≤◌, ◌-◌, ◌∙◌, ◌^◌, ◌++◌, ℕ, Bool, true, false, List, [], ◌∷◌, length, min, get_or, inl, inr, refl, sym, ap, subst, arith}
 use Rattle.std.specs.Prelude.{nat_lt, if◌then◌else◌, Result, Ok, Err}
 use Rattle.std.proofs.lemmas.Bool.{ltb-true}
 use Rattle.std.proofs.lemmas.Option.{slice_get_within, get_or_from_slice_get}
-use Rattle.picky_wire_base.specs.Outcome.{map_ok}
+use Rattle.std.specs.Int.{w32, to_be_bytes}
+use Rattle.std.proofs.lemmas.List.{length-append}
+use Rattle.picky_wire_base.specs.Wire.{string_of}
+use Rattle.picky_wire_base.proofs.PieceLemmas.{length-string_of}
+use Rattle.picky_keys.specs.Blob.{blob_of}
+use Rattle.picky_keys.specs.declared.algorithm.SignatureAlgorithm.{SignatureAlgorithm}
+use Rattle.picky_cert_parts.specs.declared.signature_format.SshSignatureFormat.{SshSignatureFormat}
+use Rattle.picky_cert_parts.specs.CertNames.{format_name}
+use Rattle.picky_agent_bytes.specs.AlgorithmName.{algorithm_name}
 use Rattle.picky_wire_base.specs.declared.error.SizeError.{SizeError}
 use Rattle.picky_wire_base.specs.declared.error.SizeError.TheVariants as sizes
 use Rattle.picky_suite.specs.Signs.{HandedSignerState, SignsAsHanded}
@@ -56,6 +64,28 @@ question_asked kept RemoveAll question identity bytes asks is are = asks
 question_asked kept (Lock pass) question identity bytes asks is are = asks
 question_asked kept (Unlock pass) question identity bytes asks is are = asks
 question_asked kept Unfit question identity bytes asks is are = asks
+
+-- its bytes are more than the key's blob and the message are
+pub long_question : (key : SshBasePublicKey) (place : ℕ) (algorithm : SignatureAlgorithm) (format : SshSignatureFormat) (message : List ℕ)
+    → (2 ^ 32 ≤ length (blob_of key)) ⊎ (2 ^ 32 ≤ length message) → 2 ^ 32 ≤ length (question_of key place algorithm format message)
+unfolding question_of
+long_question key place algorithm format message long =
+    let p = to_be_bytes w32 place in
+    let b = string_of (blob_of key) in
+    let a = string_of (algorithm_name algorithm) in
+    let f = string_of (format_name format) in
+    let m = string_of message in
+    let one = length-append p (b ++ (a ++ (f ++ (m ++ [])))) in
+    let two = length-append b (a ++ (f ++ (m ++ []))) in
+    let three = length-append a (f ++ (m ++ [])) in
+    let four = length-append f (m ++ []) in
+    let five = length-append m [] in
+    let blob = length-string_of (blob_of key) in
+    let own = length-string_of message in
+    elim long [
+      | inl blob_long ↦ omega (arith, one, two, three, four, five, blob, own, blob_long)
+      | inr message_long ↦ omega (arith, one, two, three, four, five, blob, own, message_long)
+    ]
 
 -- ---- a reply
 

@@ -1,5 +1,5 @@
 -- What a call of an agent comes to whose state is bytes.
-use Rattle.std.specs.Prelude.{◌≡◌, ◌<◌, ◌⊎◌, ℕ, List, [], ◌∷◌, length, nat_lt, if◌then◌else◌, None, Some, Result, Ok, Err}
+use Rattle.std.specs.Prelude.{◌≡◌, ◌≤◌, ◌<◌, ◌^◌, ◌⊎◌, ℕ, List, [], ◌∷◌, length, nat_lt, if◌then◌else◌, None, Some, Result, Ok, Err}
 use Rattle.std.specs.Int.{w32, to_be_bytes}
 use Rattle.std.specs.List.{concat}
 use Rattle.picky_wire_base.specs.Outcome.{map_err}
@@ -117,6 +117,14 @@ pub record AnswersNext (state message bytes : List ℕ) : Type 0 where
   pub is_next : IsNext kept message next
   pub spelled : state_of next ≡ bytes
   pub read : state_read bytes ≡ Ok next
+
+-- the question would have 2^32 bytes or more
+pub record IsQuestionTooLong (state message : List ℕ) : Type 0 where
+  pub kept : Kept
+  pub holds : kept_for state message ≡ Ok kept
+  pub bytes : List ℕ
+  pub asked : IsAskedOn kept (request_of message) bytes
+  pub long : 2 ^ 32 ≤ length bytes
 
 -- what is kept next has more than 2^30 bytes
 pub record IsNextTooLong (state message : List ℕ) : Type 0 where

@@ -5,10 +5,11 @@ ghost use Rattle.std.specs.Int.{w32, to_be_bytes};
 ghost use Rattle.std.specs.List.{concat};
 ghost use Rattle.picky_wire_base.specs.Wire.{string_of};
 ghost use Rattle.picky_wire_base.specs.Gives.{Gives};
+ghost use Rattle.picky_keys.specs.Blob.{blob_of};
 ghost use Rattle.picky_sshkey_blob.specs.Key.{public_part};
 ghost use Rattle.picky_agent_state.specs.Message.{IsMessage};
 ghost use Rattle.picky_agent_bytes.specs.Call.{handed, if_message, kept_for, question_of};
-ghost use Rattle.picky_agent_bytes.specs.Call.{AnswersNext, AnswersQuestion, AnswersReply, IsNextTooLong};
+ghost use Rattle.picky_agent_bytes.specs.Call.{AnswersNext, AnswersQuestion, AnswersReply, IsNextTooLong, IsQuestionTooLong};
 
 use crate::algorithm_name::algorithm_name;
 use crate::error::{AgentCallError, state_refusal};
@@ -28,15 +29,16 @@ pub(crate) const MESSAGE_LIMIT: usize = 262_144;
 /// What has to be signed before an agent in this state answers the message; no bytes where nothing has.
 ///
 /// Fields of RFC 4251, section 5: uint32 place of the identity, string blob of its public key, string name of the algorithm,
-/// string name of the signature's format, string message. Refuses, in order: as `agent_for`; `TooLong`.
+/// string name of the signature's format, string message. Refuses, in order: as `agent_for`; `TooLong`, where they have 2^32
+/// bytes or more.
 pub fn agent_question(
     alloc: Global,
     state: &[u8],
     message: &[u8],
 ) -> Result<Vec<u8>, AgentCallError>
     ensures ok { IfOk result (λ bytes. AnswersQuestion state.now message.now bytes.items) }
-    ensures err { IfErr result (λ e. (e ≡ AgentCallError.NoMemory) ⊎ (e ≡ AgentCallError.TooLong)
-        ⊎ (kept_for state.now message.now ≡ Err e)) }
+    ensures err { IfErr result (λ e. (e ≡ AgentCallError.NoMemory)
+        ⊎ ((e ≡ AgentCallError.TooLong) × IsQuestionTooLong state.now message.now) ⊎ (kept_for state.now message.now ≡ Err e)) }
 {
     let agent = match agent_for(alloc, state, message) {
         Ok(agent) => agent,
@@ -159,7 +161,8 @@ fn question_bytes(
     message: &[u8],
 ) -> Result<Vec<u8>, AgentCallError>
     ensures ok { IfOk result (λ bytes. bytes.items ≡ question_of (public_part key.now) place algorithm format message.now) }
-    ensures err { IfErr result (λ e. (e ≡ AgentCallError.NoMemory) ⊎ (e ≡ AgentCallError.TooLong)) }
+    ensures err { IfErr result (λ e. (e ≡ AgentCallError.NoMemory) ⊎ ((e ≡ AgentCallError.TooLong)
+        × ((2 ^ 32 ≤ length (blob_of (public_part key.now))) ⊎ (2 ^ 32 ≤ length message.now)))) }
 {
     let blob = match public_bytes(alloc, key) {
         Ok(blob) => blob,
