@@ -1,15 +1,13 @@
 -- The identity that a message adds.
-use Rattle.std.proofs.Common.{◌≡◌, ◌⊎◌, ◌∙◌, ℕ, List, [], ◌∷◌, length, inl, inr, refl, sym, ap}
+use Rattle.std.proofs.Common.{◌≡◌, ◌∙◌, List, [], ◌∷◌, length, refl, sym, ap}
 use Rattle.std.specs.Prelude.{Some, Result, Ok, Err}
 use Rattle.picky_wire_base.specs.Outcome.{map_ok}
 use Rattle.picky_agent_state.specs.declared.identity.Identity.{Identity}
 use Rattle.picky_agent_state.specs.declared.keep.KeepError.{KeepError}
-use Rattle.picky_agent_state.specs.declared.keep.KeepError.TheVariants as keeps
 use Rattle.picky_agent_state.specs.Keep.{kept_with}
 use Rattle.picky_agent_state.specs.Kept.{Kept, new_agent}
-use Rattle.picky_agent_state.specs.Request.{Request, Identities, Sign, Add, Remove, RemoveAll, Lock, Unlock, Unfit, request_of}
+use Rattle.picky_agent_state.specs.Request.{Request, Identities, Sign, Add, Remove, RemoveAll, Lock, Unlock, Unfit}
 use Rattle.picky_agent_bytes.specs.Bare.{added, bare, bare_request}
-use Rattle.picky_agent_bytes.specs.declared.error.AgentCallError.{AgentCallError}
 use Rattle.picky_agent_bytes.specs.declared.error.AgentCallError.TheVariants as errors
 
 -- a new agent that keeps the message has the identity alone, or the message locked it

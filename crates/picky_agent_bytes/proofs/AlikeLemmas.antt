@@ -1,5 +1,5 @@
 -- Two steps on one message: what is kept then is the same, and so is the reply where nothing is signed.
-use Rattle.std.proofs.Common.{◌≡◌, ◌⊎◌, ◌<◌, ◌≤◌, ◌∙◌, ℕ, Bool, true, false, List, length, take, MatchBool, inl, inr, refl, sym, ap, subst, arith}
+use Rattle.std.proofs.Common.{◌≡◌, ◌⊎◌, ◌<◌, ◌∙◌, ℕ, Bool, true, false, List, length, take, MatchBool, inl, inr, refl, sym, ap, subst, arith}
 use Rattle.std.specs.Prelude.{Option, None, Some, get_or, remove, slice_set}
 use Rattle.std.proofs.lemmas.Bool.{cases_lt}
 use Rattle.std.proofs.lemmas.List.{get_or-take, length-take-le}
@@ -14,7 +14,7 @@ use Rattle.picky_agent_state.specs.Held.{HasKey, IsAt}
 use Rattle.picky_agent_state.specs.Kept.{Kept, Machine, is_locked, machine}
 use Rattle.picky_agent_state.specs.Reply.{failure}
 use Rattle.picky_agent_state.specs.Request.{Request, Identities, Sign, Add, Remove, RemoveAll, Lock, Unlock, Unfit, SignRequest, request_of}
-use Rattle.picky_agent_state.specs.Rows.{Adds, Appends, Fails, HasNothing, Removes, Replaces, Succeeds, TakesOut, is_full, opens}
+use Rattle.picky_agent_state.specs.Rows.{Appends, Fails, HasNothing, Replaces, Succeeds, TakesOut, is_full, opens}
 use Rattle.picky_agent_state.specs.Signing.{SigningWay, way_for}
 use Rattle.picky_agent_state.specs.Step.{Asks, AsksNone, AsksSigner, AsksToSign, AsksWith, CanSign, Step, StepOn, Still}
 use Rattle.picky_agent_state.proofs.FailureLaws.{has_one}

@@ -1,6 +1,6 @@
 -- An agent whose identities have no secrets replies as the one whose identities have.
 use Rattle.std.proofs.Common.{◌≡◌, ◌⊎◌, ◌∙◌, ◌++◌, ℕ, suc, Bool, true, false, List, [], ◌∷◌, length, take, drop, MatchBool, inl, inr, refl, sym, ap, subst}
-use Rattle.std.specs.Prelude.{Option, None, Some, flat_map, get_or, map, nat_le, option_map, remove, slice_get, slice_set, if◌then◌else◌}
+use Rattle.std.specs.Prelude.{Option, None, Some, flat_map, get_or, map, nat_le, option_map, remove, slice_set, if◌then◌else◌}
 use Rattle.std.specs.Int.{w32, to_be_bytes}
 use Rattle.std.proofs.lemmas.List.{drop-map, length-map, map-append, map-set, take-map}
 use Rattle.std.proofs.lemmas.List.Elements.{All-map}
@@ -18,9 +18,9 @@ use Rattle.picky_agent_state.specs.Held.{HasKey, HasNone, IsAt}
 use Rattle.picky_agent_state.specs.Kept.{Kept, Machine, is_locked, machine}
 use Rattle.picky_agent_state.specs.Reply.{entry, fitted, listing}
 use Rattle.picky_agent_state.specs.Request.{Request, Identities, Sign, Add, Remove, RemoveAll, Lock, Unlock, Unfit, SignRequest, request_of}
-use Rattle.picky_agent_state.specs.Rows.{Adds, Appends, Fails, HasNothing, Lists, Locks, Removes, RemovesAll, Replaces, Succeeds, TakesOut, Unlocks, is_full, most_identities, opens, shown}
+use Rattle.picky_agent_state.specs.Rows.{Adds, Appends, Fails, HasNothing, Lists, Locks, Removes, RemovesAll, Replaces, Succeeds, TakesOut, Unlocks, is_full, most_identities, opens}
 use Rattle.picky_agent_state.specs.Signing.{SigningWay, way_for}
-use Rattle.picky_agent_state.specs.Step.{Asks, AsksNone, AsksToSign, AsksWith, Step, StepOn, Still}
+use Rattle.picky_agent_state.specs.Step.{Asks, AsksNone, AsksWith, Step, StepOn, Still}
 use Rattle.picky_agent_bytes.specs.Bare.{bare, bare_key, bare_kept, bare_request}
 
 -- ---- the public part stays, and so do entries

@@ -1,8 +1,8 @@
 -- What the calls answer.
-use Rattle.std.proofs.Common.{◌≡◌, ◌⊎◌, ◌<◌, ◌≤◌, ◌-◌, ◌∙◌, ◌^◌, ◌++◌, ℕ, Bool, true, false, List, [], ◌∷◌, length, min, get_or, inl, inr, refl, sym, ap, subst, arith}
-use Rattle.std.specs.Prelude.{nat_lt, if◌then◌else◌, Result, Ok, Err}
+use Rattle.std.proofs.Common.{◌≡◌, ◌⊎◌, ◌<◌, ◌≤◌, ◌-◌, ◌∙◌, ◌^◌, ◌++◌, ℕ, Bool, true, false, List, [], ◌∷◌, length, min, get_or, inl, inr, refl, ap, subst, arith}
+use Rattle.std.specs.Prelude.{nat_lt, if◌then◌else◌, Ok, Err}
 use Rattle.std.proofs.lemmas.Bool.{ltb-true}
-use Rattle.std.proofs.lemmas.Option.{slice_get_within, get_or_from_slice_get}
+use Rattle.std.proofs.lemmas.Option.{get_or_from_slice_get}
 use Rattle.std.specs.Int.{w32, to_be_bytes}
 use Rattle.std.proofs.lemmas.List.{length-append}
 use Rattle.picky_wire_base.specs.Wire.{string_of}
@@ -12,7 +12,6 @@ use Rattle.picky_keys.specs.declared.algorithm.SignatureAlgorithm.{SignatureAlgo
 use Rattle.picky_cert_parts.specs.declared.signature_format.SshSignatureFormat.{SshSignatureFormat}
 use Rattle.picky_cert_parts.specs.CertNames.{format_name}
 use Rattle.picky_agent_bytes.specs.AlgorithmName.{algorithm_name}
-use Rattle.picky_wire_base.specs.declared.error.SizeError.{SizeError}
 use Rattle.picky_wire_base.specs.declared.error.SizeError.TheVariants as sizes
 use Rattle.picky_suite.specs.Signs.{HandedSignerState, SignsAsHanded}
 use Rattle.picky_keys.specs.declared.key.SshBasePublicKey.{SshBasePublicKey}
@@ -22,8 +21,8 @@ use Rattle.picky_agent_state.specs.declared.question.Question.{Question}
 use Rattle.picky_agent_state.specs.Held.{IsAt}
 use Rattle.picky_agent_state.specs.Keep.{keep_limit}
 use Rattle.picky_agent_state.specs.Kept.{Kept, Machine, machine}
-use Rattle.picky_agent_state.specs.Question.{IsQuestion, IsQuestionOn}
-use Rattle.picky_agent_state.specs.Request.{Request, Identities, Sign, Add, Remove, RemoveAll, Lock, Unlock, Unfit, SignRequest, request_of}
+use Rattle.picky_agent_state.specs.Question.{IsQuestionOn}
+use Rattle.picky_agent_state.specs.Request.{Request, Identities, Sign, Add, Remove, RemoveAll, Lock, Unlock, Unfit}
 use Rattle.picky_agent_state.specs.Step.{Step}
 use Rattle.picky_agent_bytes.specs.Call.{HandedStep, IsAskedOn, handed, question_of}
 use Rattle.picky_agent_bytes.specs.State.{state_of, written}
@@ -34,18 +33,6 @@ held_has : (key : SshBasePublicKey) (identities : List Identity) (place : ℕ) (
     → held ≡ get_or identities place held → public_part held.key ≡ key
 held_has key identities place held at is =
     ap (λ (i : Identity). public_part i.key) (is ∙ get_or_from_slice_get identities place at.identity held at.stands) ∙ at.has
-
-pub question_inside : (kept : Kept) (request : Request) (question : Question) → IsQuestionOn kept request question
-    → question.place < length kept.identities
-question_inside kept (Sign asked) question asks =
-    slice_get_within kept.identities question.place asks.is_at.identity asks.is_at.stands
-question_inside kept Identities question asks = absurd asks
-question_inside kept (Add added) question asks = absurd asks
-question_inside kept (Remove key) question asks = absurd asks
-question_inside kept RemoveAll question asks = absurd asks
-question_inside kept (Lock pass) question asks = absurd asks
-question_inside kept (Unlock pass) question asks = absurd asks
-question_inside kept Unfit question asks = absurd asks
 
 pub question_asked : (kept : Kept) (request : Request) (question : Question) (identity : Identity) (bytes : List ℕ)
     → IsQuestionOn kept request question → identity ≡ get_or kept.identities question.place identity

@@ -1,5 +1,5 @@
 -- A step by a signature that was handed in.
-use Rattle.std.proofs.Common.{◌≡◌, ◌⊎◌, ◌<◌, ◌∙◌, ℕ, Bool, true, false, List, [], ◌∷◌, length, MatchBool, inl, inr, refl, sym, ap, subst, arith}
+use Rattle.std.proofs.Common.{◌≡◌, ◌⊎◌, ◌<◌, ℕ, Bool, true, false, List, [], ◌∷◌, length, MatchBool, inl, inr, refl, subst, arith}
 use Rattle.std.specs.Prelude.{Option, None, Some}
 use Rattle.picky_suite.specs.Signs.{SignRelation, SignsAsHanded}
 use Rattle.picky_keys.specs.Key.{kind_of, public_key_of}
@@ -8,7 +8,7 @@ use Rattle.picky_agent_state.specs.Reply.{failure}
 use Rattle.picky_agent_state.specs.Request.{Request, Identities, Sign, Add, Remove, RemoveAll, Lock, Unlock, Unfit, SignRequest, request_of}
 use Rattle.picky_agent_state.specs.Rows.{Fails}
 use Rattle.picky_agent_state.specs.Signing.{SigningWay, way_for}
-use Rattle.picky_agent_state.specs.Step.{Asks, AsksNone, AsksToSign, AsksWith, CanSign, Step, StepOn, Still}
+use Rattle.picky_agent_state.specs.Step.{Asks, AsksNone, AsksWith, CanSign, Step, StepOn, Still}
 use Rattle.picky_agent_bytes.specs.Call.{HandedStep, IsGood, handed}
 
 -- the signature that was handed in is some, and that one

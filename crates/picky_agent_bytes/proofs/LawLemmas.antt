@@ -1,6 +1,6 @@
 -- What the laws state.
-use Rattle.std.proofs.Common.{◌≡◌, ◌<◌, ◌≤◌, ◌∙◌, ℕ, List, [], length, refl, sym, ap, arith}
-use Rattle.std.specs.Prelude.{Bool, true, false, nat_lt, bytes_eq, if◌then◌else◌, Result, Ok, Err}
+use Rattle.std.proofs.Common.{◌≡◌, ◌∙◌, ℕ, List, [], length, refl, sym, ap}
+use Rattle.std.specs.Prelude.{Bool, true, false, nat_lt, bytes_eq, if◌then◌else◌, Ok, Err}
 use Rattle.std.proofs.lemmas.Slice.Eq.{bytes_eq-Decides}
 use Rattle.picky_wire_base.specs.Outcome.{and_then}
 use Rattle.picky_wire_base.specs.carried.Outcome.{and_then_ok}
@@ -10,7 +10,6 @@ use Rattle.picky_agent_state.specs.Kept.{Kept, new_agent}
 use Rattle.picky_agent_state.specs.Reply.{failure}
 use Rattle.picky_agent_state.specs.Request.{Sign, SignRequest, request_of}
 use Rattle.picky_agent_state.specs.Step.{AsksSigner}
-use Rattle.picky_agent_bytes.specs.declared.error.AgentBytesError.{AgentBytesError}
 use Rattle.picky_agent_bytes.specs.declared.error.AgentBytesError.TheVariants as errors
 use Rattle.picky_agent_bytes.specs.Call.{IsReply, handed}
 use Rattle.picky_agent_bytes.specs.State.{brought, canonical, state_of, state_read}

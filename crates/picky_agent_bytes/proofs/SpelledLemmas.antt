@@ -1,15 +1,15 @@
 -- A state that is spelled is read back.
-use Rattle.std.proofs.Common.{◌≡◌, ◌<◌, ◌≤◌, ◌+◌, ◌∙◌, ◌++◌, ◌^◌, ℕ, zero, suc, List, [], ◌∷◌, length, refl, sym, ap, arith}
+use Rattle.std.proofs.Common.{◌≡◌, ◌<◌, ◌≤◌, ◌+◌, ◌∙◌, ◌++◌, ◌^◌, ℕ, List, [], ◌∷◌, length, refl, sym, ap, arith}
 use Rattle.std.proofs.Common.{append_assoc, append-nil}
-use Rattle.std.specs.Prelude.{All, Bool, true, false, nat_lt, flat_map, if◌then◌else◌, Option, None, Some, Result, Ok, Err}
+use Rattle.std.specs.Prelude.{All, Bool, flat_map, if◌then◌else◌, Option, None, Some, Result, Ok, Err}
 use Rattle.std.proofs.lemmas.Bool.{le-ltb, lt-leb}
 use Rattle.std.proofs.lemmas.List.Elements.{All-head, All-tail}
 use Rattle.std.proofs.lemmas.List.{length-append}
 use Rattle.picky_wire_base.specs.Outcome.{and_then, map_err}
-use Rattle.picky_wire_base.specs.Wire.{string, string_of, text}
+use Rattle.picky_wire_base.specs.Wire.{string_of}
 use Rattle.picky_wire_base.proofs.PieceLemmas.{length-string_of}
 use Rattle.picky_wire_base.proofs.Strings.{string_reads_back, string_spells, text_spells}
-use Rattle.picky_sshkey_blob.specs.Blob.{secret, secret_of}
+use Rattle.picky_sshkey_blob.specs.Blob.{secret_of}
 use Rattle.picky_sshkey_blob.specs.carried.Blob.{secret_spells}
 use Rattle.picky_agent_state.specs.declared.identity.Identity.{Identity}
 use Rattle.picky_agent_state.specs.declared.keep.KeepError.{KeepError}
@@ -17,11 +17,11 @@ use Rattle.picky_agent_state.specs.declared.keep.KeepError.TheVariants as keeps
 use Rattle.picky_agent_state.specs.Keep.{keep_limit, kept_with}
 use Rattle.picky_agent_state.specs.Kept.{Kept, new_agent}
 use Rattle.picky_agent_state.specs.Request.{Request, Add, Lock, add_fields, lock_fields, request_of, request_read}
-use Rattle.picky_agent_state.specs.Rows.{is_full, most_identities}
+use Rattle.picky_agent_state.specs.Rows.{most_identities}
 use Rattle.picky_agent_bytes.specs.declared.error.AgentBytesError.{AgentBytesError}
 use Rattle.picky_agent_bytes.specs.declared.error.AgentBytesError.TheVariants as errors
 use Rattle.picky_agent_bytes.specs.IsState.{IsIdentity, IsPass, IsState}
-use Rattle.picky_agent_bytes.specs.State.{adding, brought, canonical, cut_string, framed, keep_refusal, lock_of, locking, state_of, state_read, with_message, written}
+use Rattle.picky_agent_bytes.specs.State.{adding, brought, canonical, cut_string, framed, keep_refusal, lock_of, locking, state_of, state_read}
 use Rattle.picky_agent_bytes.proofs.StateLemmas.{brought_first, brought_none, is_canonical}
 
 -- ---- what the two messages ask

@@ -1,7 +1,6 @@
 -- What messages bring, one after another, as a loop takes them.
 use Rattle.std.proofs.Common.{◌≡◌, ◌<◌, ◌≤◌, ◌∙◌, ℕ, zero, suc, List, [], ◌∷◌, length, refl, sym, ap, subst, arith}
-use Rattle.std.specs.Prelude.{Bool, true, false, nat_lt, bytes_eq, if◌then◌else◌, Result, Ok, Err}
-use Rattle.std.proofs.lemmas.Bool.{le-ltb, lt-ltb}
+use Rattle.std.specs.Prelude.{Bool, true, false, bytes_eq, if◌then◌else◌, Result, Ok, Err}
 use Rattle.std.proofs.lemmas.List.{nil_from_length}
 use Rattle.std.proofs.lemmas.Slice.Eq.{bytes_eq-Decides}
 use Rattle.picky_wire_base.specs.Outcome.{and_then, map_err}
@@ -10,7 +9,7 @@ use Rattle.picky_wire_base.specs.Wire.{string}
 use Rattle.picky_wire_base.proofs.Solid.{read_shortens, string_solid}
 use Rattle.picky_agent_state.specs.declared.keep.KeepError.{KeepError}
 use Rattle.picky_agent_state.specs.Keep.{keep_limit, kept_with}
-use Rattle.picky_agent_state.specs.Kept.{Kept, new_agent}
+use Rattle.picky_agent_state.specs.Kept.{Kept}
 use Rattle.picky_agent_state.specs.Request.{request_of}
 use Rattle.picky_agent_bytes.specs.declared.error.AgentBytesError.{AgentBytesError}
 use Rattle.picky_agent_bytes.specs.declared.error.AgentBytesError.TheVariants as errors

@@ -1,7 +1,7 @@
 -- The messages of a state, as they are appended.
-use Rattle.std.proofs.Common.{◌≡◌, ◌<◌, ◌≤◌, ◌+◌, ◌∙◌, ◌++◌, ◌^◌, ℕ, List, [], ◌∷◌, length, take, get_or, min, refl, sym, ap, subst, arith}
+use Rattle.std.proofs.Common.{◌≡◌, ◌<◌, ◌≤◌, ◌+◌, ◌∙◌, ◌++◌, ◌^◌, ℕ, List, [], ◌∷◌, length, take, get_or, min, sym, ap, subst, arith}
 use Rattle.std.proofs.Common.{append_assoc, append-nil}
-use Rattle.std.specs.Prelude.{All, flat_map, Option, None, Some}
+use Rattle.std.specs.Prelude.{All, flat_map}
 use Rattle.std.specs.Int.{w32, to_be_bytes}
 use Rattle.std.specs.List.{concat}
 use Rattle.std.proofs.lemmas.List.{length-append, take_more}

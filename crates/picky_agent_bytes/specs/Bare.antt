@@ -1,5 +1,5 @@
 -- Identities without their secrets, which decide no reply but what is signed.
-use Rattle.std.specs.Prelude.{◌≡◌, ℕ, List, [], map, replicate, Result, Ok, Err}
+use Rattle.std.specs.Prelude.{ℕ, List, [], map, replicate, Result, Ok, Err}
 use Rattle.picky_wire_base.specs.Outcome.{map_ok}
 use Rattle.picky_sshkey_blob.specs.declared.key.SshBasePrivateKey.{SshBasePrivateKey}
 use Rattle.picky_sshkey_blob.specs.declared.key.SshBasePrivateKey.TheVariants as keys

@@ -16,7 +16,7 @@ use Rattle.picky_agent_state.specs.Keep.{keep_limit}
 use Rattle.picky_agent_state.specs.Kept.{Kept, Machine, machine}
 use Rattle.picky_agent_state.specs.Message.{message_limit}
 use Rattle.picky_agent_state.specs.Question.{IsQuestion}
-use Rattle.picky_agent_state.specs.Request.{Request, Identities, Sign, Add, Remove, RemoveAll, Lock, Unlock, Unfit, SignRequest, request_of}
+use Rattle.picky_agent_state.specs.Request.{Request, Sign, SignRequest, request_of}
 use Rattle.picky_agent_state.specs.Step.{AsksSigner, CanSign, Step}
 use Rattle.picky_agent_bytes.specs.AlgorithmName.{algorithm_name}
 use Rattle.picky_agent_bytes.specs.State.{state_of, state_read}

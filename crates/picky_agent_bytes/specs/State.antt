@@ -1,7 +1,6 @@
 -- The bytes of what an agent keeps: the messages that bring a new agent there (draft-miller-ssh-agent-04), each as a string.
 use Rattle.std.specs.Prelude.{ℕ, zero, suc, List, [], ◌∷◌, ◌++◌, length, nat_lt, bytes_eq, flat_map, if◌then◌else◌}
 use Rattle.std.specs.Prelude.{Option, None, Some, Result, Ok, Err}
-use Rattle.std.specs.Int.{w8, w32, to_be_bytes}
 use Rattle.picky_wire_base.specs.Outcome.{and_then, map_err}
 use Rattle.picky_wire_base.specs.Wire.{string, string_of}
 use Rattle.picky_wire_base.specs.declared.error.SizeError.{SizeError}

@@ -1,5 +1,5 @@
 -- The message of the identity without its secrets.
-use Rattle.std.proofs.Common.{◌≡◌, ◌∙◌, Ok, ap, subst, sym}
+use Rattle.std.proofs.Common.{◌∙◌, Ok, ap, subst, sym}
 use Rattle.picky_sshkey_blob.specs.Key.{IsPrivateKey}
 use Rattle.picky_agent_state.specs.Request.{request_of}
 use Rattle.picky_agent_bytes.specs.Bare.{bare}

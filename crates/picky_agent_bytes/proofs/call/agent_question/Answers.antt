@@ -27,7 +27,9 @@ returns-in-Some-clause-err c =
     let message = question.message.now in
     elim c.in-Err-question_bytes.ensures.err [
       | inl want ↦ inl want
-      | inr long ↦ inr (inl (long.0, record {
+      | inr long ↦ inr (inl (
+        long.0,
+        record {
           kept = c.in-Ok.agent;
           holds = c.in-Ok.ensures.gives;
           bytes = question_of key question.place question.algorithm question.format message;
@@ -37,5 +39,6 @@ returns-in-Some-clause-err c =
               ∙ ap (λ (xs : List Identity). get_or xs question.place held) c.identities.ensures.all)
               refl;
           long = long_question key question.place question.algorithm question.format message long.1;
-        }))
+        },
+      ))
     ]

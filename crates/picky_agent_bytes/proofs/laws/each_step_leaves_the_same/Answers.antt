@@ -1,5 +1,5 @@
 -- What is kept doesn't depend on the signer.
-use Rattle.std.proofs.Common.{[], sym}
+use Rattle.std.proofs.Common.{[]}
 use Rattle.picky_suite.specs.Signs.{SignsAsHanded}
 use Rattle.picky_agent_state.specs.Kept.{machine}
 use Rattle.picky_agent_bytes.specs.Call.{handed}

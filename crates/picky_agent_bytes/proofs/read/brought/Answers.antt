@@ -1,5 +1,5 @@
 -- The messages are taken one after another.
-use Rattle.std.proofs.Common.{◌≡◌, ◌≤◌, ◌∙◌, sym, ap, inl, inr, length, arith}
+use Rattle.std.proofs.Common.{◌∙◌, sym, ap, inl, inr, arith}
 use Rattle.picky_wire_base.specs.Outcome.{map_err}
 use Rattle.picky_agent_bytes.specs.State.{keep_refusal}
 use Rattle.picky_agent_bytes.proofs.StateLemmas.{brought_cut, brought_more, brought_none, brought_not}

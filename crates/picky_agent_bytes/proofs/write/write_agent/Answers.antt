@@ -1,6 +1,4 @@
 -- The messages of the identities, and that of the lock.
-use Rattle.std.proofs.Common.{◌≡◌, ◌∙◌, ◌++◌, List, ℕ, ap, flat_map}
-use Rattle.picky_agent_bytes.specs.State.{framed, state_of}
 use Rattle.picky_agent_bytes.proofs.WrittenLemmas.{gives_written, is_locked_state, is_open_state, locked_state, long_identities, long_lock, open_state, written_reads}
 use Rattle.picky_agent_bytes.proofs.write.write_agent.Goals as goal
 
