@@ -1,13 +1,13 @@
 //! The laws of inventories of texts, each as the contract of a function that does nothing.
 
-ghost use Rattle.std.specs.Prelude.{◌≡◌, ◌↔◌, ◌++◌, ℕ, Bool, true, false, List, [], Ok, Some};
+ghost use Rattle.std.specs.Prelude.{◌≡◌, ◌↔◌, ◌++◌, ℕ, Bool, true, false, List, [], Ok, None};
 ghost use Rattle.std.specs.List.{AllByRecursion, concat};
 ghost use Rattle.std.specs.Str.{IsUtf8};
 ghost use Rattle.picky_inventory.specs.ItemLine.{is_item_line};
 ghost use Rattle.picky_inventory.specs.InOrder.{SameItems};
 ghost use Rattle.picky_inventory.specs.Items.{Item, item_line};
 ghost use Rattle.picky_inventory.specs.Listing.{inventory_of};
-ghost use Rattle.picky_inventory.specs.OrderedText.{HasWholeLines, IsWholeLine, merged, ordered_text};
+ghost use Rattle.picky_inventory.specs.OrderedText.{HasWholeLines, IsWholeLine, ordered_text};
 ghost use Rattle.picky_inventory_texts.specs.Listed.{IsListed, IsListedLine, Listed, is_listed_line, listed_line, read_item, sealed_item};
 ghost use Rattle.picky_inventory_texts.specs.Merging.{IsListing, bad_line, merging};
 ghost use Rattle.picky_inventory_texts.specs.Pieces.{all_checked};

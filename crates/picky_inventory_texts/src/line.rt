@@ -34,7 +34,6 @@ pub fn is_listed_line(alloc: Global, line: &str) -> Result<bool, NoMemory>
 }
 
 /// What stands before the first space, and what follows it.
-#[tactic(auto, using(picky_inventory::proofs::ItemLineLaws::cut_by_split))]
 fn at_space(text: &str) -> Option<(&str, &str)>
     ensures { MatchOption result (cut_at 32 text.now ≡ None) (λ cut. cut_at 32 text.now ≡ Some (cut.0.now, cut.1.now)) }
 {
