@@ -45,7 +45,7 @@ read_is_listed text (Ok meaning) listed utf8 read is =
 read_is_listed text (Err e) listed utf8 read is = cc is
 
 seen_is_listed : (text : List ℕ) (shown : Shown) (shut : Bool) (listed : Listed) → IsUtf8 text → shows plain text ≡ Ok shown
-    → is_encrypted shown.sealing ≡ shut → (cond_text : seen_text text shown ≡ Ok listed) → IsListed listed
+    → is_encrypted shown.sealing ≡ shut → seen_text text shown ≡ Ok listed → IsListed listed
 seen_is_listed text shown true listed utf8 seen shut is =
     let same : sealed_item shown.key ≡ listed = cc (rw shut at is) in
     let kept = shown_is_kept plain text shown utf8 seen shut in
@@ -89,7 +89,7 @@ bytes_are_listed sealed bytes items is = elim (cases_Bool (is_utf8 bytes)) [
 
 map_ok_ok : {A B E : Type 0} (f : A → B) (says : Result A E) (y : B) → map_ok f says ≡ Ok y
     → (x : A) × (says ≡ Ok x) × (y ≡ f x)
-map_ok_ok f (Ok x) y is = (x, refl, sym (cc is))
+map_ok_ok f (Ok x) y is = let same : f x ≡ y = cc is in (x, refl, sym same)
 map_ok_ok f (Err e) y is = cc is
 
 pub texts_are_listed : (sealed : Bool) (n : ℕ) (texts : List (List ℕ)) (listed : List Listed) → items_from sealed n texts ≡ Ok listed
@@ -188,13 +188,15 @@ step_read : (n : ℕ) (says : Result Meaning ReadError) (more : Result (List Lis
     → and_then (map_err (refused n) (map_err causes.Unread (map_ok alone (map_ok read_of says))))
     (λ items. map_ok (λ m. items ++ m) more) ≡ Ok listed
     → (meaning : Meaning) × (says ≡ Ok meaning) × (rest : List Listed) × (more ≡ Ok rest) × (listed ≡ read_of meaning ∷ rest)
-step_read n (Ok meaning) (Ok rest) listed is = (meaning, refl, rest, refl, sym (cc is))
+step_read n (Ok meaning) (Ok rest) listed is =
+    let same : read_of meaning ∷ rest ≡ listed = cc is in (meaning, refl, rest, refl, sym same)
 step_read n (Ok meaning) (Err e) listed is = cc is
 step_read n (Err e) more listed is = cc is
 
 texts_are_parts : (n m : ℕ) (texts : List (List ℕ)) (listed : List Listed) → items_from false n texts ≡ Ok listed
     → ArePart m texts listed
-texts_are_parts n m [] listed is = ([], tt, refl, sym (cc is))
+texts_are_parts n m [] listed is =
+    let none : [] ≡ listed = cc is in ([], tt, refl, sym none)
 texts_are_parts n m (bytes ∷ texts) listed is =
     let utf8 = first_is_text n bytes texts listed is in
     let text : IsUtf8 bytes = IsUtf8-from_is_utf8 bytes utf8 in
@@ -215,7 +217,8 @@ texts_are_parts n m (bytes ∷ texts) listed is =
 part_read : (m : ℕ) (says : Result Meaning ReadError) (more : Result (List Item) (ℕ × ReadError)) (items : List Item)
     → and_then (map_err (part_refused m) says) (λ meaning. map_ok (λ rest. item_of meaning ∷ rest) more) ≡ Ok items
     → (meaning : Meaning) × (says ≡ Ok meaning) × (rest : List Item) × (more ≡ Ok rest) × (items ≡ item_of meaning ∷ rest)
-part_read m (Ok meaning) (Ok rest) items is = (meaning, refl, rest, refl, sym (cc is))
+part_read m (Ok meaning) (Ok rest) items is =
+    let same : item_of meaning ∷ rest ≡ items = cc is in (meaning, refl, rest, refl, sym same)
 part_read m (Ok meaning) (Err e) items is = cc is
 part_read m (Err e) more items is = cc is
 

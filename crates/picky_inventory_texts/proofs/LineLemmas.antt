@@ -1,7 +1,7 @@
 -- A line is a listed key's exactly where the test says so.
-use Rattle.std.proofs.Common.{◌≡◌, ◌≢◌, ◌↔◌, ◌==◌, ◌&&◌, ◌||◌, ◌<◌, ℕ, Bool, true, false, List, [], ◌∷◌, ◌++◌, length, refl, sym}
-use Rattle.std.proofs.Common.{◌∙◌, ap, ap₂, subst, Option, Some, None, IsUtf8, arith, get_or, nat_lt}
-use Rattle.std.proofs.lemmas.Bool.{and_from, and_parts, cases_Bool, ltb-true}
+use Rattle.std.proofs.Common.{◌≡◌, ◌≢◌, ◌↔◌, ◌==◌, ◌&&◌, ◌||◌, ◌<◌, ℕ, Bool, true, false, not, List, [], ◌∷◌, ◌++◌, length, refl, sym}
+use Rattle.std.proofs.Common.{◌∙◌, ap, subst, inl, inr, Option, Some, None, IsUtf8, arith, get_or, nat_lt}
+use Rattle.std.proofs.lemmas.Bool.{and_from, and_parts, cases_Bool, eqb-false, ltb-true, not-true}
 use Rattle.std.proofs.lemmas.List.{append_assoc}
 use Rattle.std.proofs.lemmas.List.Sums.{AllPass-from_list_all}
 use Rattle.std.proofs.lemmas.Slice.Eq.{bytes_eq-Decides}
@@ -22,7 +22,7 @@ use Rattle.picky_key_text.proofs.Utf8Laws.{cut_at_ascii}
 use Rattle.picky_inventory.specs.ItemLine.{cut_at, is_item_line, is_key_end, is_kind, passes}
 use Rattle.picky_inventory.specs.Items.{Item, IsItem, IsPrivate, IsPublic, Kind, item_line, kind_word, public_word}
 use Rattle.picky_inventory.specs.OrderedText.{IsWholeLine}
-use Rattle.picky_inventory.proofs.ItemLaws.{item_is_line, one_item, same_cut, word_has_no_space}
+use Rattle.picky_inventory.proofs.ItemLaws.{one_item, same_cut, word_has_no_space}
 use Rattle.picky_inventory.proofs.ItemLineLaws.{cut_first, cut_whole, line_passes, of_text, passed_is_item}
 use Rattle.picky_inventory_texts.specs.Listed.{IsListed, IsListedLine, IsRead, IsSealed, Listed, ListedKind, is_listed_line}
 use Rattle.picky_inventory_texts.specs.Listed.{is_listed_word, listed_line, listed_word, read_item, sealed_item, sealed_word}
@@ -83,13 +83,24 @@ words_are_text blob comment =
 
 -- ---- the word of an encrypted key, and that of a public one
 
+stands_nowhere : ℕ → List ℕ → Bool
+stands_nowhere b [] = true
+stands_nowhere b (c ∷ cs) = not (c == b) && stands_nowhere b cs
+
+none_from_test : (b : ℕ) (bytes : List ℕ) → stands_nowhere b bytes ≡ true → HasNo b bytes
+unfolding stands_nowhere
+none_from_test b [] test = tt
+none_from_test b (c ∷ cs) test =
+    let both = and_parts (not (c == b)) (stands_nowhere b cs) test in
+    (eqb-false c b (not-true (c == b) both.0), none_from_test b cs both.1)
+
 sealed_has_no_space : HasNo 32 sealed_word
-sealed_has_no_space =
-    (λ same. cc same, λ same. cc same, λ same. cc same, λ same. cc same, λ same. cc same, λ same. cc same, tt)
+unfolding stands_nowhere
+sealed_has_no_space = none_from_test 32 sealed_word refl
 
 sealed_has_no_lf : HasNo 10 sealed_word
-sealed_has_no_lf =
-    (λ same. cc same, λ same. cc same, λ same. cc same, λ same. cc same, λ same. cc same, λ same. cc same, tt)
+unfolding stands_nowhere
+sealed_has_no_lf = none_from_test 10 sealed_word refl
 
 -- what passes behind the one passes behind the other
 public_passes : (rest : List ℕ) → IsUtf8 rest → is_key_end rest ≡ true → is_item_line (public_word ++ 32 ∷ rest) ≡ true
@@ -191,18 +202,9 @@ listed_line_is line = (passed_is_listed line, λ found. ap is_listed_line found.
 -- ---- one whole line, of one key
 
 kind_has_no_lf : (kind : ListedKind) → HasNo 10 (listed_word kind)
-kind_has_no_lf (IsRead IsPrivate) = (
-  λ same. cc same,
-  λ same. cc same,
-  λ same. cc same,
-  λ same. cc same,
-  λ same. cc same,
-  λ same. cc same,
-  λ same. cc same,
-  tt,
-)
-kind_has_no_lf (IsRead IsPublic) =
-    (λ same. cc same, λ same. cc same, λ same. cc same, λ same. cc same, λ same. cc same, λ same. cc same, tt)
+unfolding stands_nowhere
+kind_has_no_lf (IsRead IsPrivate) = none_from_test 10 (kind_word IsPrivate) refl
+kind_has_no_lf (IsRead IsPublic) = none_from_test 10 (kind_word IsPublic) refl
 kind_has_no_lf IsSealed = sealed_has_no_lf
 
 pub listed_is_line : (listed : Listed) → IsListed listed → IsWholeLine (listed_line listed)
@@ -231,15 +233,19 @@ sealed_is_no_item key =
     (with_word sealed_word words (ascii_is_text sealed_word refl) (words_are_text blob key.comment))
     ∙ ap (passes is_kind is_key_end) (cut_first 32 sealed_word words sealed_has_no_space)
 
+abbrev first_of : List ℕ → ℕ
+first_of [] = 0
+first_of (b ∷ bytes) = b
+
 one_kind : (a b : ListedKind) → listed_word a ≡ listed_word b → a ≡ b
 one_kind (IsRead IsPrivate) (IsRead IsPrivate) is = refl
-one_kind (IsRead IsPrivate) (IsRead IsPublic) is = cc is
-one_kind (IsRead IsPrivate) IsSealed is = cc is
-one_kind (IsRead IsPublic) (IsRead IsPrivate) is = cc is
+one_kind (IsRead IsPrivate) (IsRead IsPublic) is = absurd (omega (arith, ap length is))
+one_kind (IsRead IsPrivate) IsSealed is = absurd (omega (arith, ap length is))
+one_kind (IsRead IsPublic) (IsRead IsPrivate) is = absurd (omega (arith, ap length is))
 one_kind (IsRead IsPublic) (IsRead IsPublic) is = refl
-one_kind (IsRead IsPublic) IsSealed is = cc is
-one_kind IsSealed (IsRead IsPrivate) is = cc is
-one_kind IsSealed (IsRead IsPublic) is = cc is
+one_kind (IsRead IsPublic) IsSealed is = absurd (omega (arith, ap first_of is))
+one_kind IsSealed (IsRead IsPrivate) is = absurd (omega (arith, ap length is))
+one_kind IsSealed (IsRead IsPublic) is = absurd (omega (arith, ap first_of is))
 one_kind IsSealed IsSealed is = refl
 
 -- a line is of one listed key

@@ -273,6 +273,11 @@ module _ {A : Type 0} (see : A → List ℕ) (sealed : Bool) (texts : List A) (i
       ∙ ap (λ m. map_ok (λ l. lines ++ l) (lines_from sealed m (found ∷ rest))) number
       ∙ stops lines (map_err (refused i) (bytes_items sealed found)) (items_from sealed (i + 1) rest) e is
 
+  pub text_refuses : (e : ListError) → (e ≡ lists.NoMemory) ⊎ (adds sealed i (see (get_or texts i text)) lines ≡ Err e)
+      → (e ≡ lists.NoMemory) ⊎ (lines_from sealed 0 (map see texts) ≡ Err e)
+  text_refuses e (inl want) = inl want
+  text_refuses e (inr refused) = inr (text_refused e refused)
+
 -- ---- the whole list
 
 lines_give : (says : Result (List Listed) ListError) (lines : List (List ℕ)) → map_ok (map listed_line) says ≡ Ok lines

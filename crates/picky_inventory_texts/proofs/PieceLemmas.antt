@@ -22,9 +22,7 @@ use Rattle.picky_inventory_texts.specs.Listed.{IsListed, IsListedLine, Listed, i
 use Rattle.picky_inventory_texts.specs.Merging.{IsListing, bad_from, bad_line, merging, unless_bad, utf8_or}
 use Rattle.picky_inventory_texts.specs.Pieces.{all_checked, checked, line_given, unless_bad as unless_bad_piece}
 use Rattle.picky_inventory_texts.specs.declared.merging.MergeError.{MergeError}
-use Rattle.picky_inventory_texts.specs.declared.merging.MergeError.TheVariants as merges
 use Rattle.picky_inventory_texts.specs.declared.piece.CheckError.{CheckError}
-use Rattle.picky_inventory_texts.specs.declared.piece.CheckError.TheVariants as checks
 use Rattle.picky_inventory_texts.proofs.GoodLineLemmas.{first_bad_behind}
 use Rattle.picky_inventory_texts.proofs.InventoryLemmas.{listed_are_inventory}
 use Rattle.picky_inventory_texts.proofs.LineLemmas.{listed_is_line, listed_line_is, listed_passes}
@@ -103,15 +101,15 @@ listing_is_text text is =
 
 -- ---- two inventories merged
 
-merges : (left right : List ℕ) → IsListing left → IsListing right → merging left right ≡ Ok (merged left right)
-merges left right is_left is_right =
+merged_to : (left right : List ℕ) → IsListing left → IsListing right → merging left right ≡ Ok (merged left right)
+merged_to left right is_left is_right =
     rw (listing_is_text left is_left, listing_is_text right is_right)
     (ap (λ bad. unless_bad bad (merged left right)) ((no_bad_line left right).1 (is_left, is_right)))
 
 pub inventories_merged : (xs ys : List Listed) → AllByRecursion IsListed xs → AllByRecursion IsListed ys
     → merging (ordered_text listed_line xs) (ordered_text listed_line ys) ≡ Ok (ordered_text listed_line (xs ++ ys))
 inventories_merged xs ys left right =
-    merges (ordered_text listed_line xs) (ordered_text listed_line ys) (listed_are_inventory xs left) (listed_are_inventory ys right)
+    merged_to (ordered_text listed_line xs) (ordered_text listed_line ys) (listed_are_inventory xs left) (listed_are_inventory ys right)
     ∙ ap Ok (merged_texts listed_line xs ys
     (all_weaker IsListed (λ x. IsWholeLine (listed_line x)) listed_is_line xs left)
     (all_weaker IsListed (λ x. IsWholeLine (listed_line x)) listed_is_line ys right))

@@ -38,9 +38,9 @@ use Rattle.picky_key_text.specs.Order.{reading}
 use Rattle.picky_wire_base.specs.Outcome.{map_ok}
 
 -- the public key is one, and the comment a text
-pub record IsKeptKey (key : SshPublicKey) : Type 0 where
-  pub key : IsKey key.inner_key
-  pub comment : IsText key.comment
+pub record IsKeptKey (shown : SshPublicKey) : Type 0 where
+  pub key : IsKey shown.inner_key
+  pub comment : IsText shown.comment
 
 -- what is read of a blob of bytes
 blob_is_key : (bytes : List ℕ) (key : SshBasePublicKey) → IsBytes bytes → blob_key bytes ≡ Ok key → IsKey key

@@ -67,7 +67,10 @@ fn lines_of_texts(alloc: Global, texts: &[&[u8]], sealed: bool) -> Result<Vec<Ve
 {
     let mut lines = Vec::new(alloc);
     'texts: for (i, text) in texts.iter().enumerate() {
-        add_text(alloc, &mut lines, i, text, sealed)?;
+        match add_text(alloc, &mut lines, i, text, sealed) {
+            Ok(()) => {}
+            Err(e) => return Err(e),
+        }
     }
     Ok(lines)
 }

@@ -1,5 +1,5 @@
 -- What is judged of a request line, and the draft of the certificate that it asks for.
-use Rattle.std.proofs.Common.{◌≡◌, ◌==◌, ◌∙◌, ℕ, List, true, false, Option, Some, None, Result, Ok, Err, ap, refl, sym, subst}
+use Rattle.std.proofs.Common.{◌≡◌, ◌==◌, ◌∙◌, ℕ, List, true, false, Option, Some, None, Result, Ok, Err, IfOk, ap, refl, sym, subst}
 use Rattle.picky_request.specs.Builder.{asked_of}
 use Rattle.picky_request.specs.Request.{request_in}
 use Rattle.picky_request.specs.declared.request.CertRequestLine.{CertRequestLine}
@@ -42,3 +42,10 @@ pub refused_has_none : (t : IssuerTerms) (next : ℕ) (r : CertRequestLine) (e :
     → (next == last_next) ≡ false → requested (asked_of t.issuer next r) t.nonce ≡ Err e → IsDraftFor (issuing t next r) None
 unfolding issuing
 refused_has_none t next r e room is = rw (room, is) tt
+
+pub new_draft_is : {E : Type 0} (result : Result (Option CertificateDraft) E) (t : IssuerTerms) (l : State) (line : List ℕ)
+    (r : CertRequestLine) (next : ℕ) → Some r ≡ request_in line → None ≡ entry_named r.id l.entries → next ≡ l.next
+    → IfOk result (IsDraftFor (issuing t next r)) → IfOk result (IsDraftFor (judged_request_line t l line))
+new_draft_is (Ok d) t l line r next is new same own =
+    new_has_its_own t l line r d is new (subst (λ n. IsDraftFor (issuing t n r) d) same own)
+new_draft_is (Err e) t l line r next is new same own = own

@@ -1,12 +1,14 @@
 -- One request line: its question, its signature and its reply.
-use Rattle.std.proofs.Common.{◌≡◌, ◌⊎◌, ◌++◌, ◌∙◌, ℕ, List, [], ◌∷◌, Option, Some, None, Result, Ok, Err, IsUtf8, ap, refl, sym, subst, inl, inr}
-use Rattle.std.proofs.lemmas.List.{append-nil}
+use Rattle.std.proofs.Common.{◌≡◌, ◌⊎◌, ◌++◌, ◌∙◌, ◌≤◌, ◌^◌, arith, length, ℕ, List, [], ◌∷◌, Option, Some, None, Result, Ok, Err, IsUtf8, ap, refl, sym, subst, inl, inr}
+use Rattle.std.proofs.lemmas.List.{append-nil, length-append}
+use Rattle.std.specs.Int.{to_be_bytes, w32}
 use Rattle.std.specs.List.{before_first}
 use Rattle.picky_wire_base.specs.Wire.{string_of}
 use Rattle.picky_keys.specs.Key.{public_key_of}
 use Rattle.picky_keys.specs.PrivateKey.{issuer_key}
 use Rattle.picky_keys.specs.declared.key.SshBasePublicKey.{SshBasePublicKey}
 use Rattle.picky_suite.specs.Signs.{HandedSignerState, SignsAsHanded}
+use Rattle.picky_ask.specs.Head.{head_of}
 use Rattle.picky_ask.specs.Lookup.{answer_to}
 use Rattle.picky_ask.specs.Question.{question_of}
 use Rattle.picky_ask.specs.Signing.{SignerFailsFor, SignerState, fresh_signer, sign_question}
@@ -138,6 +140,14 @@ push_stops (Ok a) d r e drafted same (inl want) = inl want
 push_stops (Ok a) d r e drafted same (inr long) =
     inr (long.0, subst IsNotAsked (same ∙ question_is a d drafted.0 drafted.1) long.1)
 push_stops (Err reply) d r e drafted same why = absurd drafted
+
+-- a head that is too long
+pub long_head : (q : Question) → 2 ^ 32 ≤ length (head_of q.head) → 2 ^ 32 ≤ length (question_of q)
+unfolding question_of string_of
+long_head q long =
+    let head : List ℕ = head_of q.head in
+    let front : List ℕ = to_be_bytes w32 (length head) in
+    omega (arith, long, length-append front head, length-append (front ++ head) (string_of q.text))
 
 -- ---- the reply
 

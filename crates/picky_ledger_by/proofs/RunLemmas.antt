@@ -108,13 +108,15 @@ module _ (entries : List Entry) (issuer : SshBasePublicKey) (old : State) (fresh
       (after_request entries mid line (judged_request_line (terms_by issuer rest) mid line)) (drop nonce_len rest) left in
       inr (
         long.0,
-        question_for a,
-        record {
-          front = so.front;
-          rest = more;
-          whole = so.whole ∙ ap (λ s. so.front ++ (asked_for s ++ more)) is;
-        },
-        long.1,
+        (
+          question_for a,
+          record {
+            front = so.front;
+            rest = more;
+            whole = so.whole ∙ ap (λ s. so.front ++ (asked_for s ++ more)) is;
+          },
+          long.1,
+        ),
       )
   stops_among mid rest line left said (Err r) so is e (inr long) = absurd long.1
 
@@ -127,7 +129,7 @@ module _ (entries : List Entry) (issuer : SshBasePublicKey) (old : State) (fresh
       let here = subst (λ n. StopsFor (judged_request_line (record { issuer = issuer; nonce = n }) mid line) e) is stops in
       elim (stops_among mid rest line left said (judged_request_line (terms_by issuer rest) mid line) so refl e here) [
         | inl want ↦ rw want tt
-        | inr (long, q, among, not) ↦
+        | inr (long, (q, among, not)) ↦
             rw long (
               q,
               subst (λ k. IsAmong (asked_questions entries k key.ledger fresh key.requests) q) (sym who)

@@ -56,7 +56,7 @@ pub fn answer_requests(
             }
         }
     }
-    if questions.is_empty() {
+    if questions.as_slice().is_empty() {
         return applied(alloc, ledger, replies);
     }
     drop(ledger);
