@@ -1,6 +1,6 @@
 -- An inventory of texts is of its set, and that of the parts where nothing sealed is listed.
-use Rattle.std.proofs.Common.{◌≡◌, ◌↔◌, ◌+◌, ◌∙◌, ℕ, Bool, true, false, List, [], ◌∷◌, ◌++◌, map, Option, Some, None, Result, Ok, Err}
-use Rattle.std.proofs.Common.{IsUtf8, refl, sym, ap, ap₂, subst, inl, inr}
+use Rattle.std.proofs.Common.{◌≡◌, ◌↔◌, ◌+◌, ◌∙◌, ℕ, Bool, true, false, List, [], ◌∷◌, ◌++◌, map, Result, Ok, Err}
+use Rattle.std.proofs.Common.{IsUtf8, refl, sym, ap, subst, inl, inr}
 use Rattle.std.proofs.lemmas.Bool.{cases_Bool}
 use Rattle.std.proofs.lemmas.Str.{IsUtf8-from_is_utf8, is_utf8-from_IsUtf8}
 use Rattle.std.specs.List.{AllByRecursion, concat}
@@ -9,8 +9,6 @@ use Rattle.picky_wire_base.specs.Outcome.{and_then, map_err, map_ok}
 use Rattle.picky_wire_base.specs.carried.Outcome.{and_then_ok, map_err_ok}
 use Rattle.picky_suite.specs.Meanings.{plain}
 use Rattle.picky_text.proofs.ListLaws.{all_append, all_weaker}
-use Rattle.picky_issuing.specs.Parts.{lines_with_ends}
-use Rattle.picky_issuing.proofs.PartsLemmas.{lines_joined}
 use Rattle.picky_key_text.specs.Order.{reading}
 use Rattle.picky_key_text.specs.declared.error.ReadError.{ReadError}
 use Rattle.picky_key_text.specs.declared.meaning.Meaning.{Meaning}
@@ -26,10 +24,9 @@ use Rattle.picky_inventory.proofs.ReadLaws.{kept_is_item}
 use Rattle.picky_inventory.proofs.TextLaws.{all_mapped, lines_of_ordered, tells_each, text_is_of_its_set, text_sorted}
 use Rattle.picky_inventory_texts.specs.Listed.{IsListed, IsListedLine, Listed, listed_line, read_item, read_of, sealed_item}
 use Rattle.picky_inventory_texts.specs.Merging.{IsListing}
-use Rattle.picky_inventory_texts.specs.Texts.{alone, bytes_items, items_from, listed_text, plain_reader, read_text, refused, seen_text}
+use Rattle.picky_inventory_texts.specs.Texts.{alone, bytes_items, items_from, listed_text, plain_reader, refused, seen_text}
 use Rattle.picky_inventory_texts.specs.Texts.{text_items, texts_inventory}
 use Rattle.picky_inventory_texts.specs.declared.listing.ListError.{ListError}
-use Rattle.picky_inventory_texts.specs.declared.listing.TextCause.{TextCause}
 use Rattle.picky_inventory_texts.specs.declared.listing.TextCause.TheVariants as causes
 use Rattle.picky_inventory_texts.proofs.LineLemmas.{listed_is_line, one_listed}
 use Rattle.picky_inventory_texts.proofs.SealedLemmas.{shown_is_kept}
@@ -248,8 +245,7 @@ pub inventory_of_parts : (texts : List (List ℕ)) (written : List ℕ) → (tex
 inventory_of_parts texts written = (
   λ is.
       let found = map_ok_ok (ordered_text listed_line) (items_from false 0 texts) written is in
-      let parts = texts_are_parts 0 0 texts found.0 found.1 in
-      (
+      let parts = texts_are_parts 0 0 texts found.0 found.1 in (
         parts.1,
         ap (map_ok (ordered_text item_line)) parts.2
             ∙ ap Ok (sym (found.2 ∙ ap (ordered_text listed_line) parts.3 ∙ text_alike parts.0)),

@@ -1,5 +1,5 @@
 -- A line is a listed key's exactly where the test says so.
-use Rattle.std.proofs.Common.{◌≡◌, ◌≢◌, ◌↔◌, ◌==◌, ◌&&◌, ◌||◌, ◌<◌, ℕ, Bool, true, false, not, List, [], ◌∷◌, ◌++◌, length, refl, sym}
+use Rattle.std.proofs.Common.{◌≡◌, ◌≢◌, ◌↔◌, ◌==◌, ◌&&◌, ◌||◌, ℕ, Bool, true, false, not, List, [], ◌∷◌, ◌++◌, length, refl, sym}
 use Rattle.std.proofs.Common.{◌∙◌, ap, subst, inl, inr, Option, Some, None, IsUtf8, arith, get_or, nat_lt}
 use Rattle.std.proofs.lemmas.Bool.{and_from, and_parts, cases_Bool, eqb-false, ltb-true, not-true}
 use Rattle.std.proofs.lemmas.List.{append_assoc}
@@ -7,20 +7,18 @@ use Rattle.std.proofs.lemmas.List.Sums.{AllPass-from_list_all}
 use Rattle.std.proofs.lemmas.Slice.Eq.{bytes_eq-Decides}
 use Rattle.std.proofs.lemmas.Str.{IsUtf8-append, IsUtf8-from_ascii, IsUtf8-from_is_utf8, is_utf8-from_IsUtf8}
 use Rattle.std.proofs.lemmas.Str.Ascii.{IsAscii-from_all}
-use Rattle.std.specs.List.{AllByRecursion, list_all}
+use Rattle.std.specs.List.{list_all}
 use Rattle.std.specs.Str.{bytes_eq, is_utf8}
 use Rattle.picky_text.specs.Base64.{base64_of}
 use Rattle.picky_text.specs.Lines.{HasNo}
-use Rattle.picky_text.proofs.Base64Laws.{base64_has_no, base64_is_ascii, base64_of_injective}
+use Rattle.picky_text.proofs.Base64Laws.{base64_has_no, base64_is_ascii}
 use Rattle.picky_text.proofs.ListLaws.{all_append}
 use Rattle.picky_keys.specs.Blob.{blob_of}
-use Rattle.picky_keys.specs.Key.{IsKey, IsText}
 use Rattle.picky_keys.specs.declared.key.SshPublicKey.{SshPublicKey}
 use Rattle.picky_keys.proofs.LineLaws.{blob_is_bytes}
-use Rattle.picky_sshkey.proofs.PublicLaws.{same_blob}
 use Rattle.picky_key_text.proofs.Utf8Laws.{cut_at_ascii}
 use Rattle.picky_inventory.specs.ItemLine.{cut_at, is_item_line, is_key_end, is_kind, passes}
-use Rattle.picky_inventory.specs.Items.{Item, IsItem, IsPrivate, IsPublic, Kind, item_line, kind_word, public_word}
+use Rattle.picky_inventory.specs.Items.{Item, IsItem, IsPrivate, IsPublic, item_line, kind_word, public_word}
 use Rattle.picky_inventory.specs.OrderedText.{IsWholeLine}
 use Rattle.picky_inventory.proofs.ItemLaws.{one_item, same_cut, word_has_no_space}
 use Rattle.picky_inventory.proofs.ItemLineLaws.{cut_first, cut_whole, line_passes, of_text, passed_is_item}

@@ -1,21 +1,19 @@
 -- A list of texts, text by text.
 use Rattle.std.proofs.Common.{◌≡◌, ◌⊎◌, ◌+◌, ◌<◌, ◌∙◌, ℕ, suc, Bool, true, false, List, [], ◌∷◌, ◌++◌, map, length, take, drop, get_or}
-use Rattle.std.proofs.Common.{Option, None, Result, Ok, Err, refl, sym, ap, arith, inl, inr, subst, add-one, drop-cons, take-append-drop}
+use Rattle.std.proofs.Common.{None, Result, Ok, Err, refl, sym, ap, arith, inl, inr, subst, add-one, drop-cons, take-append-drop}
 use Rattle.std.proofs.lemmas.List.{append-nil, append_assoc, get_or-map, length-map, length-take, map-append, take_more}
 use Rattle.std.specs.List.{concat, flat_map}
 use Rattle.std.specs.Str.{is_utf8}
 use Rattle.picky_wire_base.specs.Outcome.{and_then, map_err, map_ok}
 use Rattle.picky_suite.specs.Failures.{IsAskedFault}
 use Rattle.picky_suite.specs.Meanings.{Meanings, plain}
-use Rattle.picky_keys.specs.declared.key.SshPublicKey.{SshPublicKey}
 use Rattle.picky_key_text.specs.Order.{asks, fault_of, reading}
-use Rattle.picky_key_text.specs.Reader.{Reader}
 use Rattle.picky_key_text.specs.Reads.{Reads}
 use Rattle.picky_key_text.specs.declared.error.ReadError.{ReadError}
 use Rattle.picky_key_text.specs.declared.error.ReadError.TheVariants as reads
 use Rattle.picky_key_text.specs.declared.meaning.Meaning.{Meaning}
 use Rattle.picky_key_text.proofs.UnaskedLaws.{unasked}
-use Rattle.picky_shown.specs.Shown.{is_encrypted, meaning_shown, shows}
+use Rattle.picky_shown.specs.Shown.{is_encrypted, shows}
 use Rattle.picky_shown.specs.declared.showing.Shown.{Shown}
 use Rattle.picky_shown.proofs.ShownLaws.{open_text_is_shown}
 use Rattle.picky_inventory.specs.InOrder.{line_cmp, ordered}

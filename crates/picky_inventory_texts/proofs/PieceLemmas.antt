@@ -1,11 +1,10 @@
 -- Two inventories of texts, and the pieces of one.
-use Rattle.std.proofs.Common.{◌≡◌, ◌≢◌, ◌↔◌, ◌+◌, ◌&&◌, ◌∙◌, ℕ, Bool, true, false, List, [], ◌∷◌, ◌++◌, length, map, Option, Some, None}
-use Rattle.std.proofs.Common.{Result, Ok, Err, IsUtf8, refl, sym, ap, ap₂, arith, subst, inl, inr}
+use Rattle.std.proofs.Common.{◌≡◌, ◌≢◌, ◌↔◌, ◌+◌, ◌&&◌, ◌∙◌, ℕ, true, List, [], ◌∷◌, ◌++◌, length, Option, Some, None}
+use Rattle.std.proofs.Common.{Ok, IsUtf8, refl, sym, ap, ap₂, arith, subst, inl, inr}
 use Rattle.std.proofs.lemmas.Bool.{and_parts, cases_Bool}
 use Rattle.std.proofs.lemmas.List.{append_assoc, length-append}
 use Rattle.std.proofs.lemmas.Str.{IsUtf8-append, IsUtf8-from_is_utf8, IsUtf8-nil, is_utf8-from_IsUtf8}
 use Rattle.std.specs.List.{AllByRecursion, concat}
-use Rattle.std.specs.List.Sorted.{IsStrictlySortedBy}
 use Rattle.std.specs.Str.{is_utf8}
 use Rattle.picky_wire_base.specs.Outcome.{and_then}
 use Rattle.picky_wire_base.specs.carried.Outcome.{and_then_ok}
@@ -13,19 +12,16 @@ use Rattle.picky_text.proofs.ListLaws.{all_weaker}
 use Rattle.picky_issuing.specs.Parts.{lines_with_ends}
 use Rattle.picky_issuing.proofs.PartsLemmas.{lines_at_lf, lines_joined}
 use Rattle.picky_inventory.specs.BadLine.{or_else}
-use Rattle.picky_inventory.specs.InOrder.{line_cmp}
 use Rattle.picky_inventory.specs.ItemLine.{cut_at, is_key_end, passes}
 use Rattle.picky_inventory.specs.Merging.{or_empty}
 use Rattle.picky_inventory.specs.OrderedText.{HasWholeLines, IsWholeLine, first_bad, follows, last_before, merged, ordered_text}
 use Rattle.picky_inventory.proofs.TextLaws.{merged_texts, no_bad}
 use Rattle.picky_inventory_texts.specs.Listed.{IsListed, IsListedLine, Listed, is_listed_line, is_listed_word, listed_line}
-use Rattle.picky_inventory_texts.specs.Merging.{IsListing, bad_from, bad_line, merging, unless_bad, utf8_or}
+use Rattle.picky_inventory_texts.specs.Merging.{IsListing, bad_from, bad_line, merging, unless_bad}
 use Rattle.picky_inventory_texts.specs.Pieces.{all_checked, checked, line_given, unless_bad as unless_bad_piece}
-use Rattle.picky_inventory_texts.specs.declared.merging.MergeError.{MergeError}
-use Rattle.picky_inventory_texts.specs.declared.piece.CheckError.{CheckError}
 use Rattle.picky_inventory_texts.proofs.GoodLineLemmas.{first_bad_behind}
 use Rattle.picky_inventory_texts.proofs.InventoryLemmas.{listed_are_inventory}
-use Rattle.picky_inventory_texts.proofs.LineLemmas.{listed_is_line, listed_line_is, listed_passes}
+use Rattle.picky_inventory_texts.proofs.LineLemmas.{listed_is_line, listed_line_is}
 
 -- ---- an inventory is a text without a bad line
 

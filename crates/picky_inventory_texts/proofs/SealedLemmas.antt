@@ -1,9 +1,8 @@
 -- What an encrypted text shows is a key and a text.
-use Rattle.std.specs.Prelude.{◌≡◌, ◌<◌, ◌^◌, ◌++◌, ◌∷◌, [], List, ℕ, Bool, true, false, length, codes, Option, None, Some, Result, Ok, Err}
+use Rattle.std.specs.Prelude.{◌≡◌, ◌<◌, ◌^◌, ◌∷◌, [], List, ℕ, Bool, true, false, length, codes, Option, None, Some, Result, Ok, Err}
 use Rattle.std.specs.Prelude.{if◌then◌else◌}
 use Rattle.std.specs.Str.{IsUtf8, bytes_eq}
-use Rattle.std.proofs.Common.{sym, subst, ◌∙◌, ap, arith, append_assoc, refl}
-use Rattle.std.proofs.lemmas.Bool.{cases_Bool}
+use Rattle.std.proofs.Common.{subst, ◌∙◌, ap, arith, append_assoc}
 use Rattle.std.proofs.lemmas.Str.{IsUtf8-nil}
 use Rattle.picky_wire_base.specs.Numbers.{IsBytes}
 use Rattle.picky_wire_base.specs.Front.{read_front}
@@ -15,7 +14,7 @@ use Rattle.picky_kv.specs.{Field.{Field, field_value}, Parts.{IsPair}, ValueFiel
 use Rattle.picky_keys.specs.{Key.{IsKey, IsText}, LineRefusal.{blob_key}}
 use Rattle.picky_keys.specs.declared.key.SshBasePublicKey.{SshBasePublicKey}
 use Rattle.picky_keys.specs.declared.key.SshPublicKey.{SshPublicKey}
-use Rattle.picky_keys.proofs.{ByteLaws.{no_bytes, utf8_is_bytes}, KeyLaws.{spelled_is_key}, LineLaws.{blob_key_fits}}
+use Rattle.picky_keys.proofs.{ByteLaws.{utf8_is_bytes}, KeyLaws.{spelled_is_key}, LineLaws.{blob_key_fits}}
 use Rattle.picky_sshkey_blob.specs.PemRefusal.{pem_content}
 use Rattle.picky_sshkey_blob.specs.declared.error.SshPrivateKeyError.TheVariants as private
 use Rattle.picky_sshkey_blob.proofs.MeaningLaws.{pem_says}

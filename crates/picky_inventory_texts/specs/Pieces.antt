@@ -1,5 +1,5 @@
 -- An inventory of texts that is checked piece by piece.
-use Rattle.std.specs.Prelude.{◌≡◌, ℕ, List, [], ◌∷◌, Option, Some, None, Result, Ok, Err}
+use Rattle.std.specs.Prelude.{ℕ, List, [], ◌∷◌, Option, Some, None, Result, Ok, Err}
 use Rattle.picky_wire_base.specs.Outcome.{and_then}
 use Rattle.picky_issuing.specs.Parts.{lines_with_ends}
 use Rattle.picky_inventory.specs.Merging.{or_empty}

@@ -1,5 +1,5 @@
 -- What a list of texts gives: its inventory, or the first text that is refused and why.
-use Rattle.std.specs.Prelude.{◌+◌, ℕ, Bool, List, [], ◌∷◌, ◌++◌, Option, None, Result, Ok, Err, if◌then◌else◌, map}
+use Rattle.std.specs.Prelude.{◌+◌, ℕ, Bool, List, [], ◌∷◌, ◌++◌, None, Result, Ok, Err, if◌then◌else◌, map}
 use Rattle.std.specs.Str.{is_utf8}
 use Rattle.picky_wire_base.specs.Outcome.{and_then, map_err, map_ok}
 use Rattle.picky_suite.specs.Meanings.{plain}

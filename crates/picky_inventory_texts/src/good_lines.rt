@@ -8,6 +8,7 @@ ghost use Rattle.picky_inventory_texts.specs.Listed.{is_listed_line as is_line};
 use crate::line::is_listed_line;
 use picky_wire::NoMemory;
 use std::alloc::Global;
+use std::cmp::Ordering;
 
 /// The first of the lines, counted from a number, that is no listed key's or isn't greater than the one before it: the first
 /// of them behind the line that is given, where there is one. Refuses: `NoMemory`.
@@ -55,7 +56,10 @@ fn follows(before: Option<&[u8]>, line: &str) -> bool
     ensures { result ≡ does_follow (option_copied before.entry) line.now }
 {
     match before {
-        Some(before) => before < line.as_bytes(),
+        Some(before) => match before.cmp(line.as_bytes()) {
+            Ordering::Less => true,
+            Ordering::Equal | Ordering::Greater => false,
+        },
         None => true,
     }
 }

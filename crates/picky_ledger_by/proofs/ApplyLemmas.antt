@@ -1,5 +1,5 @@
 -- What bytes ask for, or the first reason why they ask for nothing; and ledgers that differ in their certificates alone.
-use Rattle.std.proofs.Common.{◌≡◌, ◌⊎◌, ◌<◌, ◌^◌, ◌∙◌, ℕ, List, [], ◌∷◌, true, false, Bool, Option, Some, None, Result, Ok, Err, IsUtf8}
+use Rattle.std.proofs.Common.{◌≡◌, ◌⊎◌, ◌∙◌, ℕ, List, [], ◌∷◌, true, false, Option, Some, None, Result, Ok, Err, IsUtf8}
 use Rattle.std.proofs.Common.{ap, ap₂, refl, sym, subst, inl, inr, length, if◌then◌else◌, bytes_eq}
 use Rattle.std.proofs.lemmas.Bool.{cases_Bool, ltb-true}
 use Rattle.std.specs.Option.{ok_or}
@@ -17,12 +17,11 @@ use Rattle.picky_request.specs.Request.{request_in}
 use Rattle.picky_request.specs.declared.request.CertRequestLine.{CertRequestLine}
 use Rattle.picky_ledger.specs.Apply.{IssuerTerms, judged_request_line, kept_reply, unless_kept}
 use Rattle.picky_ledger.specs.LedgerText.{ledger_in, read}
-use Rattle.picky_ledger.specs.Run.{LedgerAsked, requests_in}
+use Rattle.picky_ledger.specs.Run.{requests_in}
 use Rattle.picky_ledger.specs.State.{IsLedger, State, entry_named}
 use Rattle.picky_ledger.specs.declared.entry.Entry.{Entry as LedgerEntry}
 use Rattle.picky_ledger.specs.declared.ledger.LedgerTextError.{LedgerTextError}
 use Rattle.picky_ledger.specs.declared.ledger.LedgerTextError.TheVariants as texts
-use Rattle.picky_ledger.specs.declared.reply.Reply.{Reply}
 use Rattle.picky_ledger.specs.declared.reply.Reply.TheVariants as replies
 use Rattle.picky_ledger.proofs.LedgerTextLaws.{ledger_read_is}
 use Rattle.picky_ledger_by.specs.Applied.{AreAlike, AreAlikeEntries, Asked, ComesOf, Given, asked_by, asked_in, if_fresh, issuer_refusal}

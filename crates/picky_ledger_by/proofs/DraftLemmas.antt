@@ -1,5 +1,5 @@
 -- What is judged of a request line, and the draft of the certificate that it asks for.
-use Rattle.std.proofs.Common.{◌≡◌, ◌==◌, ◌∙◌, ℕ, List, true, false, Option, Some, None, Result, Ok, Err, IfOk, ap, refl, sym, subst}
+use Rattle.std.proofs.Common.{◌≡◌, ◌==◌, ℕ, List, true, false, Option, Some, None, Result, Ok, Err, IfOk, refl, sym, subst}
 use Rattle.picky_request.specs.Builder.{asked_of}
 use Rattle.picky_request.specs.Request.{request_in}
 use Rattle.picky_request.specs.declared.request.CertRequestLine.{CertRequestLine}
@@ -7,7 +7,7 @@ use Rattle.picky_cert_builder.specs.Draft.{requested}
 use Rattle.picky_cert_builder.specs.Drafted.{IsWholeDraft, draft_shown}
 use Rattle.picky_cert_builder.specs.declared.draft.CertificateDraft.{CertificateDraft}
 use Rattle.picky_cert_builder.specs.declared.error.SshCertificateGenerationError.{SshCertificateGenerationError}
-use Rattle.picky_ledger.specs.Apply.{IssuerTerms, issuing, judged_request_line, last_next, signature_asked_for, unless_kept}
+use Rattle.picky_ledger.specs.Apply.{IssuerTerms, issuing, judged_request_line, last_next}
 use Rattle.picky_ledger.specs.State.{State, entry_named}
 use Rattle.picky_ledger.specs.declared.entry.Entry.{Entry}
 use Rattle.picky_ledger_by.specs.inner.Line.{IsDraftFor}

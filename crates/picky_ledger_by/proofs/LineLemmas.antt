@@ -22,16 +22,16 @@ use Rattle.picky_cert_builder.specs.Draft.{Unsigned}
 use Rattle.picky_cert_builder.specs.Drafted.{IsWholeDraft, draft_shown}
 use Rattle.picky_cert_builder.specs.declared.draft.CertificateDraft.{CertificateDraft}
 use Rattle.picky_request.specs.Request.{is_space}
-use Rattle.picky_ledger.specs.Apply.{Applies, IssuerTerms, SignatureAsked, judged_request_line}
+use Rattle.picky_ledger.specs.Apply.{Applies, SignatureAsked, judged_request_line}
 use Rattle.picky_ledger.specs.Replies.{id_in, reply_line}
 use Rattle.picky_ledger.specs.State.{State}
 use Rattle.picky_ledger.specs.declared.reply.Reply.{Reply}
 use Rattle.picky_ledger.proofs.RequestLemmas.{applies_for, line_answers}
 use Rattle.picky_ledger_by.specs.Applied.{IsNotAsked}
-use Rattle.picky_ledger_by.specs.Lacked.{SignsWith, asked_for, lacked, lacking, question_for, questions_text, signature_in}
+use Rattle.picky_ledger_by.specs.Lacked.{SignsWith, asked_for, lacked, question_for, questions_text, signature_in}
 use Rattle.picky_ledger_by.specs.declared.apply.LedgerByError.{LedgerByError}
 use Rattle.picky_ledger_by.specs.declared.apply.LedgerByError.TheVariants as errors
-use Rattle.picky_ledger_by.specs.inner.Line.{AnswersLine, CantBeAsked, EntersLine, IsDraftFor, IsSignatureFor, LooksUp, StopsFor}
+use Rattle.picky_ledger_by.specs.inner.Line.{AnswersLine, EntersLine, IsDraftFor, IsSignatureFor, LooksUp, StopsFor}
 
 -- ---- how a lookup fails
 

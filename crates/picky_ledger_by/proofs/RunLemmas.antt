@@ -1,10 +1,8 @@
 -- Requests one after another by a table of answers: the questions so far, and what they come to at the end.
 use Rattle.std.proofs.Common.{◌≡◌, ◌≢◌, ◌⊎◌, ◌++◌, ◌∙◌, ◌≤◌, ◌^◌, ◌<◌, ℕ, List, [], ◌∷◌, Option, Some, None, Result, Ok, Err, ap, refl, sym, subst}
-use Rattle.std.proofs.Common.{inl, inr, take, drop, length, arith, if◌then◌else◌, flat_map}
+use Rattle.std.proofs.Common.{inl, inr, take, drop, length}
 use Rattle.std.proofs.lemmas.Bool.{cases_Bool, ltb-false, ltb-true}
-use Rattle.std.proofs.lemmas.List.{append-nil, append_assoc, length-append}
-use Rattle.std.specs.Str.{IsUtf8}
-use Rattle.picky_wire_base.specs.Outcome.{and_then, map_err}
+use Rattle.std.proofs.lemmas.List.{append-nil, append_assoc}
 use Rattle.picky_wire_base.specs.Wire.{string_of}
 use Rattle.picky_wire_base.specs.declared.error.SizeError.TheVariants as sizes
 use Rattle.picky_keys.specs.LineRefusal.{is_short}
@@ -12,11 +10,11 @@ use Rattle.picky_keys.specs.declared.key.SshBasePublicKey.{SshBasePublicKey}
 use Rattle.picky_suite.specs.Signs.{SignRelation}
 use Rattle.picky_ask.specs.Lookup.{answer_to}
 use Rattle.picky_ask.specs.Question.{question_of}
-use Rattle.picky_ask.specs.Signing.{SignsByTable, fresh_signer, sign_question}
+use Rattle.picky_ask.specs.Signing.{SignsByTable, fresh_signer}
 use Rattle.picky_ask.specs.declared.question.Entry.{Entry}
 use Rattle.picky_ask.specs.declared.question.Question.{Question}
 use Rattle.picky_ledger.specs.Apply.{Applies, SignatureAsked, judged_request_line}
-use Rattle.picky_ledger.specs.LedgerText.{ledger_in, ledger_text, ledger_written, read}
+use Rattle.picky_ledger.specs.LedgerText.{ledger_text, ledger_written}
 use Rattle.picky_ledger.specs.Replies.{replies_text}
 use Rattle.picky_ledger.specs.Run.{LedgerAsked}
 use Rattle.picky_ledger.specs.Runs.{Runs, Step, nonce_len, terms_by}
@@ -24,7 +22,7 @@ use Rattle.picky_ledger.specs.State.{IsLedger, State}
 use Rattle.picky_ledger.specs.declared.reply.Reply.{Reply}
 use Rattle.picky_ledger.proofs.AfterLaws.{runs_leave}
 use Rattle.picky_ledger.proofs.RequestLemmas.{Answered, applies_for}
-use Rattle.picky_ledger_by.specs.Applied.{AreGood, AreLacked, Asked, Comes, IsAmong, IsApplied, IsNotAsked, IsTooLongText, questions_in}
+use Rattle.picky_ledger_by.specs.Applied.{AreGood, AreLacked, Comes, IsAmong, IsNotAsked, questions_in}
 use Rattle.picky_ledger_by.specs.Lacked.{SignsWith, after_request, asked_for, asked_questions, lacked, lacking, question_for}
 use Rattle.picky_ledger_by.specs.Lacked.{questions_text, signature_in}
 use Rattle.picky_ledger_by.specs.declared.apply.Applied.{Applied}
@@ -193,8 +191,7 @@ run_by_table entries issuer old new fresh (line ∷ more) replies none (mid, rep
     let both = both_none (lacked entries (asked_for says))
     (lacked entries (asked_questions entries issuer next (drop nonce_len fresh) more))
     (sym (lacked_append entries (asked_for says) (asked_questions entries issuer next (drop nonce_len fresh) more)) ∙ none) in
-    let is : mid ≡ next = applied_is entries old mid line says reply step in
-    (
+    let is : mid ≡ next = applied_is entries old mid line says reply step in (
       mid,
       reply,
       later,

@@ -5,7 +5,6 @@ use Rattle.picky_wire_base.specs.Outcome.{and_then, map_err}
 use Rattle.picky_keys.specs.LineRefusal.{line_meaning}
 use Rattle.picky_keys.specs.declared.error.SshPublicKeyError.{SshPublicKeyError}
 use Rattle.picky_keys.specs.declared.error.SshPublicKeyError.TheVariants as keys
-use Rattle.picky_keys.specs.declared.key.SshBasePublicKey.{SshBasePublicKey}
 use Rattle.picky_suite.specs.Signs.{SignRelation}
 use Rattle.picky_ask.specs.Lookup.{answer_to}
 use Rattle.picky_ask.specs.Question.{question_of}

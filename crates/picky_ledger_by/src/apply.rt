@@ -18,10 +18,7 @@ use std::alloc::Global;
 #[derive(Debug, Drop)]
 pub enum Applied {
     /// The new ledger's text, and a line for each request.
-    Ledger {
-        text: Vec<u8>,
-        replies: Vec<u8>,
-    },
+    Ledger { text: Vec<u8>, replies: Vec<u8> },
     /// The questions that the answers lack, each as a string: a uint32 and so many bytes.
     Questions(Vec<u8>),
 }
@@ -65,8 +62,13 @@ pub fn apply_requests(
     fresh: &[u8],
     answers: &[u8],
 ) -> Result<Applied, LedgerByError>
-    ensures gives { GivesApplied (record { ledger = ledger.now; issuer = issuer.now; requests = requests.now; fresh = fresh.now;
-        answers = answers.now }) result }
+    ensures gives { GivesApplied (record {
+      ledger = ledger.now;
+      issuer = issuer.now;
+      requests = requests.now;
+      fresh = fresh.now;
+      answers = answers.now;
+    }) result }
 {
     let ledger = match as_text(ledger) {
         Some(ledger) => ledger,
@@ -127,8 +129,10 @@ fn apply_enough(
     table: &Table,
 ) -> Result<Applied, LedgerByError>
     requires { IsLedger ledger }
-    ensures { ComesOf (if_fresh fresh.now (record { entries = table.now;
-        given = record { ledger = ledger; issuer = issuer.now; requests = requests_in requests.now } })) fresh.now result }
+    ensures { ComesOf (if_fresh fresh.now (record {
+      entries = table.now;
+      given = record { ledger = ledger; issuer = issuer.now; requests = requests_in requests.now };
+    })) fresh.now result }
 {
     if fresh.len() / NONCE_LEN < count_of(requests) {
         drop(ledger);

@@ -28,8 +28,10 @@ pub fn answer_requests(
 ) -> Result<Applied, LedgerByError>
     requires enough { nonce_len * length (requests_in requests.now) ≤ length fresh.now }
     requires is { IsLedger ledger }
-    ensures { Comes (record { entries = table.now;
-        given = record { ledger = ledger; issuer = issuer.now; requests = requests_in requests.now } }) fresh.now result }
+    ensures { Comes (record {
+      entries = table.now;
+      given = record { ledger = ledger; issuer = issuer.now; requests = requests_in requests.now };
+    }) fresh.now result }
 {
     let mut questions = Vec::new(alloc);
     let mut replies = String::new(alloc);

@@ -9,6 +9,6 @@ returns-in-Ok-joined_lines c =
     record {
       gives =
           texts_listed shown c.args.sealed (map (λ (text : Bor (List ℕ)). text.now) c.args.texts.now) c.in-Ok.lines.items
-              c.sorted_lines-lines.result.items c.in-Ok-joined_lines.written.items c.in-Ok.ensures c.sorted_lines-lines.ensures
-              (c.in-Ok-joined_lines.ensures ∙ ap (flat_map shown) c.as_slice.ensures.value);
+          c.sorted_lines-lines.result.items c.in-Ok-joined_lines.written.items c.in-Ok.ensures c.sorted_lines-lines.ensures
+          (c.in-Ok-joined_lines.ensures ∙ ap (flat_map shown) c.as_slice.ensures.value);
     }

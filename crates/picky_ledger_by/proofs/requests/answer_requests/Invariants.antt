@@ -1,5 +1,5 @@
 -- The requests so far were answered, and their questions noted; and there are fresh bytes for those that are left.
-use Rattle.std.proofs.Common.{◌≡◌, ◌≤◌, ◌*◌, length, string_bytes}
+use Rattle.std.proofs.Common.{◌≤◌, ◌*◌, length, string_bytes}
 use Rattle.picky_ledger.specs.Run.{filled_lines, requests_in}
 use Rattle.picky_ledger.specs.Runs.{nonce_len}
 use Rattle.picky_ledger.proofs.RequestLemmas.{Answered}
