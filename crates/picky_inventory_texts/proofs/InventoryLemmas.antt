@@ -237,7 +237,7 @@ parts_are_texts n m (bytes ∷ texts) items all is =
           (λ items. map_ok (λ m. items ++ m) (items_from false (n + 1) texts))) step.1
           ∙ of_meaning n step.0 (items_from false (n + 1) texts)
           ∙ ap (map_ok (λ m. read_of step.0 ∷ m)) (parts_are_texts (n + 1) (m + 1) texts step.2 all.1 step.3)
-          ∙ ap (λ l. Ok (map read_item l)) (sym step.4)
+          ∙ ap (λ l. Ok (map read_item l)) (sym {b = item_of step.0 ∷ step.2} step.4)
     ]
 
 pub inventory_of_parts : (texts : List (List ℕ)) (written : List ℕ) → (texts_inventory false texts ≡ Ok written)

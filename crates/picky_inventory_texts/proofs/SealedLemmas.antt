@@ -2,7 +2,7 @@
 use Rattle.std.specs.Prelude.{◌≡◌, ◌<◌, ◌^◌, ◌∷◌, [], List, ℕ, Bool, true, false, length, codes, Option, None, Some, Result, Ok, Err}
 use Rattle.std.specs.Prelude.{if◌then◌else◌}
 use Rattle.std.specs.Str.{IsUtf8, bytes_eq}
-use Rattle.std.proofs.Common.{subst, ◌∙◌, ap, arith, append_assoc}
+use Rattle.std.proofs.Common.{ap, append_assoc, arith, inl, inr, refl, subst, sym, ◌∙◌, ◌⊎◌}
 use Rattle.std.proofs.lemmas.Str.{IsUtf8-nil}
 use Rattle.picky_wire_base.specs.Numbers.{IsBytes}
 use Rattle.picky_wire_base.specs.Front.{read_front}
@@ -32,7 +32,15 @@ use Rattle.picky_key_text.proofs.Utf8Laws.{AreUtf8, cut_at_ascii, lines_are_utf8
 use Rattle.picky_suite.specs.Meanings.{Meanings}
 use Rattle.picky_shown.specs.Shown.{envelope_shown, envelope_shows, file_shown, file_shows, is_encrypted, meaning_shown, open_shows}
 use Rattle.picky_shown.specs.Shown.{sealed_shows, sealed_shows_as, shown_else, shows, text_envelope}
+use Rattle.picky_shown.specs.Shown.{IsShownOf, open_comment}
+use Rattle.picky_shown.specs.declared.sealing.ShownSealing.{ShownSealing}
+use Rattle.picky_shown.specs.declared.sealing.ShownSealing.TheVariants.{OpenSsh, PpkV2, PpkV3, Unsealed}
 use Rattle.picky_shown.specs.declared.showing.Shown.{Shown}
+use Rattle.picky_shown.proofs.ShownLaws.{read_is_shown}
+use Rattle.picky_key_text.specs.{Key.{public_part}, Reader.{Reader}, Reads.{Reads}}
+use Rattle.picky_suite.specs.Meanings.{plain}
+use Rattle.picky_inventory_texts.specs.Listed.{IsSealed, Listed, read_of, sealed_item}
+use Rattle.picky_inventory_texts.specs.Texts.{listed_text, plain_reader, seen_text}
 use Rattle.picky_key_text.specs.Order.{reading}
 use Rattle.picky_wire_base.specs.Outcome.{map_ok}
 
@@ -151,3 +159,77 @@ unfolding shows
 shown_is_kept m text shown utf8 is shut =
     let found = and_then_ok (sealed_shows text) (shown_else (open_shows m text)) shown is in
     kept_else m text found.0 shown utf8 found.1 found.2 shut
+
+-- ---- an encrypted text shows the same whatever the suite
+
+open_is_not : (says : Result Meaning ReadError) (shown : Shown) → map_ok meaning_shown says ≡ Ok shown
+    → is_encrypted shown.sealing ≡ true → ⊥
+open_is_not (Ok meaning) shown is shut =
+    let same : meaning_shown meaning ≡ shown = cc is in
+    let bare : false ≡ true = ap (λ (s : Shown). is_encrypted s.sealing) same ∙ shut in cc bare
+open_is_not (Err e) shown is shut = cc is
+
+else_alike : (m n : Meanings) (text : List ℕ) (shown : Shown) (sealed : Option Shown)
+    → shown_else (open_shows m text) sealed ≡ Ok shown → is_encrypted shown.sealing ≡ true
+    → shown_else (open_shows n text) sealed ≡ Ok shown
+else_alike m n text shown None is shut =
+    absurd (open_is_not (reading (record { meanings = m; pass = None }) text) shown is shut)
+else_alike m n text shown (Some other) is shut = is
+
+shows_alike : (m n : Meanings) (text : List ℕ) (shown : Shown) → shows m text ≡ Ok shown → is_encrypted shown.sealing ≡ true
+    → shows n text ≡ Ok shown
+unfolding shows
+shows_alike m n text shown is shut =
+    let found = and_then_ok (sealed_shows text) (shown_else (open_shows m text)) shown is in
+    ap (λ s. and_then s (shown_else (open_shows n text))) found.1 ∙ else_alike m n text shown found.0 found.2 shut
+
+-- ---- a key that is listed as sealed
+
+open_comment_is : (sealing : ShownSealing) (comment : List ℕ)
+    → (open_comment sealing comment ≡ comment) ⊎ (open_comment sealing comment ≡ [])
+open_comment_is Unsealed comment = inl refl
+open_comment_is (OpenSsh cipher kdf rounds) comment = inr refl
+open_comment_is PpkV2 comment = inl refl
+open_comment_is (PpkV3 config) comment = inl refl
+
+is_of_shown : (text : List ℕ) (shown : Shown) → shows plain text ≡ Ok shown → is_encrypted shown.sealing ≡ true → (r : Reader)
+    (meaning : Meaning) → Reads r text meaning
+    → (shown.key.inner_key ≡ public_part meaning.key)
+    × ((shown.key.comment ≡ meaning.comment) ⊎ (shown.key.comment ≡ []))
+is_of_shown text shown is shut r meaning reads =
+    let seen = read_is_shown r text meaning reads in
+    let both : Ok seen.0 ≡ Ok shown = sym seen.1 ∙ shows_alike plain r.meanings text shown is shut in
+    let same : seen.0 ≡ shown = cc both in
+    let of : IsShownOf meaning shown = subst (λ s. IsShownOf meaning s) same seen.2 in (
+      of.key,
+      elim (open_comment_is shown.sealing meaning.comment) [
+        | inl whole ↦ inl (of.comment ∙ whole)
+        | inr none ↦ inr (of.comment ∙ none)
+      ],
+    )
+
+abbrev IsOfKey : Listed → Meaning → Type 0
+IsOfKey listed meaning =
+    (listed.key ≡ public_part meaning.key) × ((listed.comment ≡ meaning.comment) ⊎ (listed.comment ≡ []))
+
+no_read_is_sealed : (says : Result Meaning ReadError) (listed : Listed) → map_ok read_of says ≡ Ok listed → listed.kind ≡ IsSealed → ⊥
+no_read_is_sealed (Ok meaning) listed is sealed =
+    let same : read_of meaning ≡ listed = cc is in
+    let both : (read_of meaning).kind ≡ IsSealed = ap (λ (l : Listed). l.kind) same ∙ sealed in cc both
+no_read_is_sealed (Err e) listed is sealed = cc is
+
+seen_is_of : (text : List ℕ) (shown : Shown) (shut : Bool) (listed : Listed) → shows plain text ≡ Ok shown
+    → is_encrypted shown.sealing ≡ shut → seen_text text shown ≡ Ok listed → listed.kind ≡ IsSealed → (r : Reader)
+    (meaning : Meaning) → Reads r text meaning → IsOfKey listed meaning
+seen_is_of text shown true listed is shut seen sealed r meaning reads =
+    let same : sealed_item shown.key ≡ listed = cc (rw shut at seen) in
+    subst (λ l. IsOfKey l meaning) same (is_of_shown text shown is shut r meaning reads)
+seen_is_of text shown false listed is shut seen sealed r meaning reads =
+    absurd (no_read_is_sealed (reading plain_reader text) listed (rw shut at seen) sealed)
+
+pub sealed_is_of : (text : List ℕ) (listed : Listed) → listed_text true text ≡ Ok listed → listed.kind ≡ IsSealed → (r : Reader)
+    (meaning : Meaning) → Reads r text meaning
+    → (listed.key ≡ public_part meaning.key) × ((listed.comment ≡ meaning.comment) ⊎ (listed.comment ≡ []))
+sealed_is_of text listed is sealed r meaning reads =
+    let found = and_then_ok (shows plain text) (seen_text text) listed is in
+    seen_is_of text found.0 (is_encrypted found.0.sealing) listed found.1 refl found.2 sealed r meaning reads

@@ -1,6 +1,6 @@
 //! The laws of inventories of texts, each as the contract of a function that does nothing.
 
-ghost use Rattle.std.specs.Prelude.{◌≡◌, ◌↔◌, ◌++◌, ℕ, Bool, true, false, List, [], Ok, None};
+ghost use Rattle.std.specs.Prelude.{◌≡◌, ◌⊎◌, ◌↔◌, ◌++◌, ℕ, Bool, true, false, List, [], Ok, None};
 ghost use Rattle.std.specs.List.{AllByRecursion, concat};
 ghost use Rattle.std.specs.Str.{IsUtf8};
 ghost use Rattle.picky_inventory.specs.ItemLine.{is_item_line};
@@ -8,10 +8,14 @@ ghost use Rattle.picky_inventory.specs.InOrder.{SameItems};
 ghost use Rattle.picky_inventory.specs.Items.{Item, item_line};
 ghost use Rattle.picky_inventory.specs.Listing.{inventory_of};
 ghost use Rattle.picky_inventory.specs.OrderedText.{HasWholeLines, IsWholeLine, ordered_text};
-ghost use Rattle.picky_inventory_texts.specs.Listed.{IsListed, IsListedLine, Listed, is_listed_line, listed_line, read_item, sealed_item};
+ghost use Rattle.picky_inventory_texts.specs.Listed.{IsListed, IsSealed, IsListedLine, Listed, is_listed_line, listed_line, read_item, sealed_item};
 ghost use Rattle.picky_inventory_texts.specs.Merging.{IsListing, bad_line, merging};
 ghost use Rattle.picky_inventory_texts.specs.Pieces.{all_checked};
-ghost use Rattle.picky_inventory_texts.specs.Texts.{items_from, plain_reader, texts_inventory};
+ghost use Rattle.picky_inventory_texts.specs.Texts.{items_from, listed_text, plain_reader, texts_inventory};
+ghost use Rattle.picky_key_text.specs.Key.{public_part};
+ghost use Rattle.picky_key_text.specs.Reader.{Reader};
+ghost use Rattle.picky_key_text.specs.Reads.{Reads};
+ghost use Rattle.picky_key_text.specs.declared.meaning.Meaning.{Meaning as Meant};
 ghost use Rattle.picky_keys.specs.declared.key.SshPublicKey.{SshPublicKey};
 
 /// A line passes the test exactly where it is a listed key's, it is one whole line, and it is of no other.
@@ -58,4 +62,12 @@ pub fn pieces_are_together_an_inventory()
         → ((last : List ℕ) × (all_checked pieces [] ≡ Ok last)) ↔ IsListing (concat pieces) }
     ensures cut { (pieces : List (List ℕ)) (last : List ℕ) → all_checked pieces [] ≡ Ok last
         → AllByRecursion HasWholeLines pieces }
+{}
+
+/// The line of an encrypted private key has the public key of each private key that the text means under some passphrase and
+/// some suite, and that key's comment or none.
+pub fn sealed_line_is_of_its_key()
+    ensures { (text : List ℕ) (listed : Listed) → listed_text true text ≡ Ok listed → listed.kind ≡ IsSealed
+        → (r : Reader) (meaning : Meant) → Reads r text meaning
+        → (listed.key ≡ public_part meaning.key) × ((listed.comment ≡ meaning.comment) ⊎ (listed.comment ≡ [])) }
 {}

@@ -1,31 +1,40 @@
 -- What bytes ask for, or the first reason why they ask for nothing; and ledgers that differ in their certificates alone.
 use Rattle.std.proofs.Common.{◌≡◌, ◌⊎◌, ◌∙◌, ℕ, List, [], ◌∷◌, true, false, Option, Some, None, Result, Ok, Err, IsUtf8}
-use Rattle.std.proofs.Common.{ap, ap₂, refl, sym, subst, inl, inr, length, if◌then◌else◌, bytes_eq}
+use Rattle.std.proofs.Common.{◌+◌, ◌++◌, ap, ap₂, refl, sym, subst, inl, inr, drop, length, if◌then◌else◌, bytes_eq}
 use Rattle.std.proofs.lemmas.Bool.{cases_Bool, ltb-true}
+use Rattle.std.specs.List.{AllByRecursion}
 use Rattle.std.specs.Option.{ok_or}
+use Rattle.std.specs.Prelude.{is_some}
 use Rattle.std.specs.Str.{is_utf8}
 use Rattle.picky_wire_base.specs.Outcome.{and_then, map_err}
 use Rattle.picky_keys.specs.LineRefusal.{is_short, line_meaning}
 use Rattle.picky_keys.specs.declared.error.SshPublicKeyError.{SshPublicKeyError}
 use Rattle.picky_keys.specs.declared.error.SshPublicKeyError.TheVariants as keys
 use Rattle.picky_keys.specs.declared.key.SshPublicKey.{SshPublicKey}
+use Rattle.picky_keys.specs.declared.key.SshBasePublicKey.{SshBasePublicKey}
+use Rattle.picky_ask.specs.Lookup.{answer_to}
 use Rattle.picky_ask.specs.Table.{table_of}
+use Rattle.picky_ask.specs.declared.question.Question.{Question}
+use Rattle.picky_ask.proofs.TableLaws.{answer_more}
 use Rattle.picky_ask.specs.declared.question.Entry.{Entry}
 use Rattle.picky_ask.specs.declared.table.TableError.{TableError}
 use Rattle.picky_ask.specs.declared.table.TableError.TheVariants as tables
 use Rattle.picky_request.specs.Request.{request_in}
 use Rattle.picky_request.specs.declared.request.CertRequestLine.{CertRequestLine}
-use Rattle.picky_ledger.specs.Apply.{IssuerTerms, judged_request_line, kept_reply, unless_kept}
+use Rattle.picky_ledger.specs.Apply.{IssuerTerms, SignatureAsked, judged_request_line, kept_reply, unless_kept}
 use Rattle.picky_ledger.specs.LedgerText.{ledger_in, read}
 use Rattle.picky_ledger.specs.Run.{requests_in}
+use Rattle.picky_ledger.specs.Runs.{nonce_len, terms_by}
 use Rattle.picky_ledger.specs.State.{IsLedger, State, entry_named}
 use Rattle.picky_ledger.specs.declared.entry.Entry.{Entry as LedgerEntry}
 use Rattle.picky_ledger.specs.declared.ledger.LedgerTextError.{LedgerTextError}
 use Rattle.picky_ledger.specs.declared.ledger.LedgerTextError.TheVariants as texts
+use Rattle.picky_ledger.specs.declared.reply.Reply.{Reply}
 use Rattle.picky_ledger.specs.declared.reply.Reply.TheVariants as replies
 use Rattle.picky_ledger.proofs.LedgerTextLaws.{ledger_read_is}
 use Rattle.picky_ledger_by.specs.Applied.{AreAlike, AreAlikeEntries, Asked, ComesOf, Given, asked_by, asked_in, if_fresh, issuer_refusal}
 use Rattle.picky_ledger_by.specs.Applied.{table_refusal, text_refusal}
+use Rattle.picky_ledger_by.specs.Lacked.{after_request, asked_for, asked_questions, lacked, lacking}
 use Rattle.picky_ledger_by.specs.declared.apply.Applied.{Applied}
 use Rattle.picky_ledger_by.specs.declared.apply.LedgerByError.{LedgerByError}
 use Rattle.picky_ledger_by.specs.declared.apply.LedgerByError.TheVariants as errors
@@ -183,3 +192,61 @@ judged_alike t a b line alike = go (request_in line)
     go (Some r) =
         ap (λ n. unless_kept t line n r (entry_named r.id a.entries)) alike.next
         ∙ named_alike t line b.next r r.id a.entries b.entries alike.entries
+
+-- ---- the questions don't depend on the answers
+
+alike_itself : (xs : List LedgerEntry) → AreAlikeEntries xs xs
+alike_itself [] = tt
+alike_itself (x ∷ xs) = (refl, refl, refl, alike_itself xs)
+
+alike_more : (xs ys : List LedgerEntry) (x y : LedgerEntry) → AreAlikeEntries xs ys → x.id ≡ y.id → x.serial ≡ y.serial
+    → x.request ≡ y.request → AreAlikeEntries (xs ++ x ∷ []) (ys ++ y ∷ [])
+alike_more [] [] x y alike id serial request = (id, serial, request, tt)
+alike_more [] (b ∷ ys) x y alike id serial request = absurd alike
+alike_more (a ∷ xs) [] x y alike id serial request = absurd alike
+alike_more (a ∷ xs) (b ∷ ys) x y alike id serial request =
+    (alike.0, alike.1, alike.2, alike_more xs ys x y alike.3 id serial request)
+
+after_alike : (entries others : List Entry) (a b : State) (line : List ℕ) (says : Result SignatureAsked Reply) → AreAlike a b
+    → AreAlike (after_request entries a line says) (after_request others b line says)
+after_alike entries others a b line (Ok asked) alike = record {
+  next = ap (λ n. n + 1) alike.next;
+  entries = alike_more a.entries b.entries _ _ alike.entries refl refl refl;
+}
+after_alike entries others a b line (Err reply) alike = alike
+
+questions_alike : (entries others : List Entry) (issuer : SshBasePublicKey) (a b : State) (fresh : List ℕ) (lines : List (List ℕ))
+    → AreAlike a b → asked_questions entries issuer a fresh lines ≡ asked_questions others issuer b fresh lines
+questions_alike entries others issuer a b fresh [] alike = refl
+questions_alike entries others issuer a b fresh (line ∷ more) alike =
+    let t : IssuerTerms = terms_by issuer fresh in
+    let says : Result SignatureAsked Reply = judged_request_line t b line in
+    let same : judged_request_line t a line ≡ says = judged_alike t a b line alike in
+    ap (λ s. asked_for s ++ asked_questions entries issuer (after_request entries a line s) (drop nonce_len fresh) more) same
+    ∙ ap (λ qs. asked_for says ++ qs)
+    (questions_alike entries others issuer (after_request entries a line says) (after_request others b line says)
+    (drop nonce_len fresh) more (after_alike entries others a b line says alike))
+
+pub same_questions : (entries others : List Entry) (issuer : SshBasePublicKey) (l : State) (fresh : List ℕ) (lines : List (List ℕ))
+    → asked_questions entries issuer l fresh lines ≡ asked_questions others issuer l fresh lines
+same_questions entries others issuer l fresh lines =
+    questions_alike entries others issuer l l fresh lines (record { next = refl; entries = alike_itself l.entries })
+
+-- ---- who answers what is lacked is asked no more
+
+lacking_none : (q : Question) (answer : Option (List ℕ)) → is_some answer ≡ true → lacking q answer ≡ []
+lacking_none q None some = cc some
+lacking_none q (Some a) some = refl
+
+answered_first : (entries more : List Entry) (q : Question) (answer : Option (List ℕ)) (rest : List Question)
+    → answer_to q entries ≡ answer → AllByRecursion (λ x. is_some (answer_to x (entries ++ more)) ≡ true) (lacking q answer ++ rest)
+    → (is_some (answer_to q (entries ++ more)) ≡ true) × AllByRecursion (λ x. is_some (answer_to x (entries ++ more)) ≡ true) rest
+answered_first entries more q None rest is all = (all.0, all.1)
+answered_first entries more q (Some a) rest is all = (ap is_some (answer_more q entries more a is), all)
+
+pub none_is_lacked : (entries more : List Entry) (qs : List Question)
+    → AllByRecursion (λ q. is_some (answer_to q (entries ++ more)) ≡ true) (lacked entries qs) → lacked (entries ++ more) qs ≡ []
+none_is_lacked entries more [] all = refl
+none_is_lacked entries more (q ∷ qs) all =
+    let both = answered_first entries more q (answer_to q entries) (lacked entries qs) refl all in
+    ap₂ (λ x y. x ++ y) (lacking_none q (answer_to q (entries ++ more)) both.0) (none_is_lacked entries more qs both.1)
