@@ -1,8 +1,7 @@
 -- A field is handed out exactly where the line says a certificate with it.
-use Rattle.std.specs.Prelude.{◌≡◌, ℕ, List, Bool, true, false, Option, Some, None, Result, Ok, Err, IfOk, IsUtf8, if◌then◌else◌}
-use Rattle.std.proofs.Common.{refl, sym, ap, ◌∙◌, subst}
+use Rattle.std.specs.Prelude.{◌≡◌, ℕ, List, Bool, true, false, Result, Ok, Err, IfOk, IsUtf8, if◌then◌else◌}
+use Rattle.std.proofs.Common.{refl, sym, ap, ◌∙◌}
 use Rattle.std.proofs.lemmas.Str.{IsUtf8-from_is_utf8, is_utf8-from_IsUtf8}
-use Rattle.std.specs.Option.{ok_or}
 use Rattle.std.specs.Str.{is_utf8}
 use Rattle.picky_wire_base.specs.Gives.{Gives}
 use Rattle.picky_wire_base.specs.Numbers.{IsBytes}
@@ -13,7 +12,6 @@ use Rattle.picky_text.proofs.Base64Laws.{base64_is_read_back}
 use Rattle.picky_keys.proofs.ByteLaws.{utf8_is_bytes}
 use Rattle.picky_cert_parts.specs.declared.error.SshCertificateError.{SshCertificateError}
 use Rattle.picky_cert.specs.Certificate.{signed_in}
-use Rattle.picky_cert.specs.Line.{IsCertificateLine}
 use Rattle.picky_cert.specs.LineRefusal.{cert_line_meaning}
 use Rattle.picky_cert.specs.declared.certificate.SshCertificate.{SshCertificate}
 use Rattle.picky_cert.proofs.LineLaws.{line_meaning_of, line_meaning_says}

@@ -1,9 +1,8 @@
 -- What is read without a passphrase: no suite is asked, so what is refused is the text.
-use Rattle.std.proofs.Common.{◌≡◌, ◌⊎◌, ◌∙◌, true, ℕ, List, [], None, Option, Some, Result, Ok, Err, ap, sym, subst, inl, inr, refl}
+use Rattle.std.proofs.Common.{◌≡◌, ◌⊎◌, ◌∙◌, true, ℕ, List, None, Some, Result, Ok, Err, ap, sym, subst, inl, inr}
 use Rattle.picky_wire_base.specs.Outcome.{and_then, map_err}
 use Rattle.picky_suite.specs.Failures.{IsAskedFault}
 use Rattle.picky_key_text.specs.Order.{asks, fault_of as input_fault, reading}
-use Rattle.picky_key_text.specs.Reader.{Reader}
 use Rattle.picky_key_text.specs.declared.error.ReadError.{ReadError}
 use Rattle.picky_key_text.specs.declared.error.ReadError.TheVariants as input
 use Rattle.picky_key_text.specs.declared.meaning.Meaning.{Meaning}

@@ -1,14 +1,12 @@
 -- What a line is that was signed by a table, and what is asked for.
 use Rattle.std.specs.Prelude.{◌≡◌, ℕ, List, Option, Some, Result, Ok, Err}
-use Rattle.std.proofs.Common.{refl, ap, ◌∙◌}
-use Rattle.std.specs.Option.{ok_or}
+use Rattle.std.proofs.Common.{refl, ◌∙◌}
 use Rattle.picky_wire_base.specs.Outcome.{and_then, map_err, map_ok}
 use Rattle.picky_wire_base.specs.carried.Outcome.{and_then_ok, map_err_ok}
 use Rattle.picky_keys.specs.declared.algorithm.SignatureAlgorithm.{SignatureAlgorithm}
 use Rattle.picky_keys.specs.declared.public_key.PublicKey.{PublicKey}
 use Rattle.picky_ask.specs.Table.{table_of}
 use Rattle.picky_ask.specs.declared.question.Entry.{Entry}
-use Rattle.picky_cert.specs.Spelled.{signed_of}
 use Rattle.picky_cert_builder.specs.Draft.{Unsigned}
 use Rattle.picky_issuing.specs.Options.{options_named}
 use Rattle.picky_issuing.specs.Parts.{issuer_text_part, key_part}
@@ -30,7 +28,6 @@ use Rattle.picky_certify.specs.Certify.{Given, IsCertifiedLine, certified_in, ce
 use Rattle.picky_certify.specs.Certified.{SignedBy, question_for}
 use Rattle.picky_certify.specs.Refusal.{conversion_refusal, table_refusal}
 use Rattle.picky_certify.specs.Texts.{utf8, words_judged}
-use Rattle.picky_certify.specs.declared.error.CertifyError.{CertifyError}
 use Rattle.picky_certify.specs.declared.error.CertifyError.TheVariants as errors
 
 -- ---- the same line, by another relation of good signatures

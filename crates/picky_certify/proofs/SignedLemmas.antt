@@ -17,7 +17,6 @@ use Rattle.picky_suite.specs.declared.signer.SignError.TheVariants as signers
 use Rattle.picky_cert_parts.specs.declared.error.SshCertificateError.TheVariants as lines
 use Rattle.picky_cert.specs.Line.{IsReadBackCertificate}
 use Rattle.picky_cert.specs.LineRefusal.{cert_line_text}
-use Rattle.picky_cert.specs.Spelled.{signed_of}
 use Rattle.picky_cert_builder.specs.Draft.{Unsigned, signed_with}
 use Rattle.picky_cert_builder.specs.Drafted.{IsWholeDraft, draft_shown}
 use Rattle.picky_cert_builder.specs.Keeps.{without_key_comments}
