@@ -184,7 +184,7 @@ pub use Rattle.picky_ppk_parts.specs.Material
 pub use Rattle.picky_ppk_parts.specs.Number
 pub use Rattle.picky_ppk_parts.specs.Parts as PpkPartParts
 pub use Rattle.picky_ppk_parts.specs.PartsRefusal
-pub use Rattle.picky_ppk_parts.specs.Secret
+pub use Rattle.picky_ppk_parts.specs.Secret as PpkPartSecret
 pub use Rattle.picky_ppk_parts.specs.Unsupported
 pub use Rattle.picky_ppk_file.specs.File
 pub use Rattle.picky_ppk_file.specs.FileRefusal
@@ -273,13 +273,21 @@ pub use Rattle.picky_policy.specs.Run as PolicyRun
 pub use Rattle.picky_policy.specs.Verifies
 pub use Rattle.picky_agent_state.specs.Failure
 pub use Rattle.picky_agent_state.specs.Held
+pub use Rattle.picky_agent_state.specs.Keep
 pub use Rattle.picky_agent_state.specs.Kept as AgentKept
 pub use Rattle.picky_agent_state.specs.Message
+pub use Rattle.picky_agent_state.specs.Question
 pub use Rattle.picky_agent_state.specs.Reply
 pub use Rattle.picky_agent_state.specs.Request as AgentRequest
 pub use Rattle.picky_agent_state.specs.Rows as AgentRows
 pub use Rattle.picky_agent_state.specs.Signing
 pub use Rattle.picky_agent_state.specs.Step
+pub use Rattle.picky_agent_bytes.specs.AlgorithmName
+pub use Rattle.picky_agent_bytes.specs.Bare
+pub use Rattle.picky_agent_bytes.specs.Call
+pub use Rattle.picky_agent_bytes.specs.IsState
+pub use Rattle.picky_agent_bytes.specs.Secret as AgentBytesSecret
+pub use Rattle.picky_agent_bytes.specs.State as AgentBytesState
 pub use Rattle.picky_agent.specs.Ending
 pub use Rattle.picky_agent.specs.ExitCode
 pub use Rattle.picky_agent.specs.Frame
@@ -294,7 +302,7 @@ pub use Rattle.picky_ledger.specs.LedgerText
 pub use Rattle.picky_ledger.specs.Replies
 pub use Rattle.picky_ledger.specs.Run as LedgerRun
 pub use Rattle.picky_ledger.specs.Runs
-pub use Rattle.picky_ledger.specs.State
+pub use Rattle.picky_ledger.specs.State as LedgerState
 pub use Rattle.picky_cert_parts.specs.declared.known_extension.KnownExtension as KnownExtensionType
 pub use Rattle.picky_convert.specs.declared.command.Command as CommandType
 pub use Rattle.picky_issuing.specs.declared.option_word.OptionWord as OptionWordType

@@ -19,7 +19,7 @@ use Rattle.picky_keys.specs.declared.key.SshBasePublicKey.TheVariants as keys
 use Rattle.picky_sshkey_blob.specs.{declared.view.PrivateView.{PrivateView}, Key.{IsPrivateKey, public_part}}
 use Rattle.picky_sshkey_blob.specs.View.{PrivatePartsLie, private_key_seen}
 use Rattle.picky_sshkey_blob.specs.declared.view.PrivateView.TheVariants as views
-use Rattle.picky_agent_state.specs.{Message.{message_limit}, declared.identity.Identity.{Identity}, Reply.{entry}}
+use Rattle.picky_agent_state.specs.{Keep.{keep_limit}, declared.identity.Identity.{Identity}, Reply.{entry}}
 use Rattle.picky_agent_state.specs.{Rows.{most_identities}, inner.Asked.{CanAdd, identity_seen}}
 use Rattle.picky_agent_state.specs.inner.Entry.{HasEntry}
 
@@ -125,7 +125,7 @@ parts_size bytes from (views.SkEd25519 key application flags handle) lie =
     (part_size bytes _ key lie.0, part_size bytes _ application lie.1)
 
 -- a length can say it
-has_entry : (bytes : List ℕ) (from : ℕ) (key : PrivateView) (comment : List ℕ) → length bytes ≤ message_limit
+has_entry : (bytes : List ℕ) (from : ℕ) (key : PrivateView) (comment : List ℕ) → length bytes ≤ keep_limit
     → PrivatePartsLie bytes from key → length comment ≤ length bytes → HasEntry (identity_seen key comment)
 has_entry bytes from key comment few lie within =
     omega (
@@ -138,7 +138,7 @@ has_entry bytes from key comment few lie within =
       length-append (string_of (blob_of (public_part (private_key_seen key)))) (string_of comment),
     )
 
-pub can_add : (bytes : List ℕ) (from end : ℕ) (key : PrivateView) (word : Word) → length bytes ≤ message_limit
+pub can_add : (bytes : List ℕ) (from end : ℕ) (key : PrivateView) (word : Word) → length bytes ≤ keep_limit
     → IsPrivateKey (private_key_seen key) → PrivatePartsLie bytes from key → WordLies bytes end word → CanAdd key word.text.now
 can_add bytes from end key word few is_key lie (part, text) = record {
   is_key = is_key;

@@ -40,7 +40,7 @@ only_too_long first rest other fails = go (nat_lt (length (first ∷ rest)) (2 ^
     go false is same = ltb-false (length (first ∷ rest)) (2 ^ 32) is
 
 -- where an identity has a key, not none has it
-has_one : (key : SshBasePublicKey) (identities : List Identity) (place : ℕ) → IsAt key identities place → HasNone key identities → ⊥
+pub has_one : (key : SshBasePublicKey) (identities : List Identity) (place : ℕ) → IsAt key identities place → HasNone key identities → ⊥
 has_one key identities place at none =
     let inside : place < length identities = slice_get_within identities place at.identity at.stands in
     let is : get_or identities place at.identity ≡ at.identity = get_or_from_slice_get identities place at.identity at.identity at.stands in

@@ -5,3 +5,4 @@ pub mod StepLemmas
 pub mod StepLaws
 pub mod FailureLaws
 pub mod SigningLaws
+pub mod QuestionLaws

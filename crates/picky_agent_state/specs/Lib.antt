@@ -5,6 +5,8 @@ pub mod Request
 pub mod Signing
 pub mod Reply
 pub mod Rows
+pub mod Keep
 pub mod Step
 pub mod Failure
+pub mod Question
 pub mod inner

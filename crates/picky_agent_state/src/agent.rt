@@ -1,6 +1,7 @@
 //! An agent: what it keeps, and how it answers a message.
 
-ghost use Rattle.std.specs.Prelude.{◌≡◌, ◌≤◌, ◌↔◌, ◌∷◌, ◌++◌, [], ℕ, List, length, IfOk, OnErr, MatchBool};
+ghost use Rattle.std.specs.Prelude.{◌≡◌, ◌≤◌, ◌↔◌, ◌⊎◌, ◌∷◌, ◌++◌, [], ℕ, List, length, MatchBool, MatchOption};
+ghost use Rattle.std.specs.Prelude.{Err, IfErr, IfOk, None, Ok, OnErr, OnOk, Some};
 ghost use Rattle.picky_keys.specs.declared.public_key.PublicKey.{PublicKey};
 ghost use Rattle.picky_keys.specs.declared.algorithm.SignatureAlgorithm.{SignatureAlgorithm as Algorithm};
 ghost use Rattle.picky_keys.specs.View.{key_seen};
@@ -9,7 +10,8 @@ ghost use Rattle.picky_sshkey_blob.specs.Key.{IsPrivateKey};
 ghost use Rattle.picky_sshkey_blob.specs.View.{private_key_seen};
 ghost use Rattle.picky_agent_state.specs.Message.{IsMessage};
 ghost use Rattle.picky_agent_state.specs.Kept.{Kept, machine, new_agent, is_locked as is_locked_in};
-ghost use Rattle.picky_agent_state.specs.Request.{request_of, sign_request};
+ghost use Rattle.picky_agent_state.specs.Request.{Add, request_of, sign_request};
+ghost use Rattle.picky_agent_state.specs.Keep.{keep_limit, kept_with};
 ghost use Rattle.picky_agent_state.specs.Rows.{is_full, most_identities, opens as opens_in, Adds, Fails, Lists};
 ghost use Rattle.picky_agent_state.specs.Rows.{Locks, Removes, RemovesAll, Succeeds, Unlocks};
 ghost use Rattle.picky_agent_state.specs.Step.{AsksSigner, AsksToSign, CanSign, Step};
@@ -18,6 +20,7 @@ ghost use Rattle.picky_agent_state.specs.inner.Asked.{CanAdd, identity_seen};
 use crate::asked::{Asked, read_request};
 use crate::held::{place_of, public_of};
 use crate::identity::Identity;
+use crate::keep::KeepError;
 use crate::keyring::Keyring;
 use crate::reply::{failure, listing_of, success};
 use crate::signing::sign_with;
@@ -101,6 +104,70 @@ impl Agent {
             Asked::Lock { pass } => self.lock(pass),
             Asked::Unlock { pass } => self.unlock(pass),
             Asked::Unfit => failure(self.alloc),
+        }
+    }
+
+    /// Its passphrase, where it is locked.
+    pub fn pass(&self) -> Option<&[u8]>
+        ensures { MatchOption result (self.now.pass ≡ None) (λ pass. self.now.pass ≡ Some pass.now) }
+    {
+        match &self.pass {
+            Some(pass) => Some(pass.as_slice()),
+            None => None,
+        }
+    }
+
+    /// Takes what a message brings into a kept state: an identity behind the others, or the lock.
+    ///
+    /// It looks at no identity that it has, and at no lock. Refuses, in order: `NotKept`, `TooMany`, `NoMemory`.
+    pub fn keep(&mut self, message: &[u8]) -> Result<(), KeepError>
+        requires { length message.now ≤ keep_limit }
+        ensures ok { OnOk result (kept_with self.old (request_of message.now) ≡ Ok self.new) }
+        ensures err { IfErr result (λ e. (e ≡ KeepError.NoMemory) ⊎ (kept_with self.old (request_of message.now) ≡ Err e)) }
+        ensures unchanged { OnErr result (self.new ≡ self.old) }
+    {
+        match read_request(message) {
+            Asked::Add { key, comment } => self.keep_identity(&key, comment),
+            Asked::Lock { pass } => self.keep_lock(pass),
+            Asked::Identities => Err(KeepError::NotKept),
+            Asked::Sign { .. } => Err(KeepError::NotKept),
+            Asked::Remove { .. } => Err(KeepError::NotKept),
+            Asked::RemoveAll => Err(KeepError::NotKept),
+            Asked::Unlock { .. } => Err(KeepError::NotKept),
+            Asked::Unfit => Err(KeepError::NotKept),
+        }
+    }
+
+    fn keep_identity(&mut self, key: &PrivateView<'_>, comment: &str) -> Result<(), KeepError>
+        requires { CanAdd key.now comment.now }
+        ensures ok { OnOk result (kept_with self.old (Add (identity_seen key.now comment.now)) ≡ Ok self.new) }
+        ensures err { IfErr result (λ e. (e ≡ KeepError.NoMemory)
+            ⊎ (kept_with self.old (Add (identity_seen key.now comment.now)) ≡ Err e)) }
+        ensures unchanged { OnErr result (self.new ≡ self.old) }
+    {
+        if self.keyring.identities().len() >= MOST_IDENTITIES {
+            return Err(KeepError::TooMany);
+        }
+        match identity_of(self.alloc, key, comment) {
+            Ok(identity) => match self.keyring.push(self.alloc, identity) {
+                Ok(()) => Ok(()),
+                Err(NoMemory) => Err(KeepError::NoMemory),
+            },
+            Err(NoMemory) => Err(KeepError::NoMemory),
+        }
+    }
+
+    fn keep_lock(&mut self, pass: &[u8]) -> Result<(), KeepError>
+        ensures ok { OnOk result (self.new ≡ record self.old { pass = Some pass.now }) }
+        ensures err { IfErr result (λ e. e ≡ KeepError.NoMemory) }
+        ensures unchanged { OnErr result (self.new ≡ self.old) }
+    {
+        match Bytes::new(self.alloc, pass) {
+            Ok(pass) => {
+                self.pass = Some(pass);
+                Ok(())
+            }
+            Err(_) => Err(KeepError::NoMemory),
         }
     }
 

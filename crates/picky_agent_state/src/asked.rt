@@ -3,7 +3,7 @@
 ghost use Rattle.std.specs.Prelude.{◌≡◌, ◌^◌, ◌<◌, ◌≤◌, length, IfOk};
 ghost use Rattle.picky_wire_base.specs.View.{Sees, why_in};
 ghost use Rattle.picky_keys.specs.View.{key_seen};
-ghost use Rattle.picky_agent_state.specs.Message.{IsMessage, message_limit};
+ghost use Rattle.picky_agent_state.specs.Keep.{keep_limit};
 ghost use Rattle.picky_agent_state.specs.Request.{add_fields, key_string, lock_fields, remove_fields, request_of};
 ghost use Rattle.picky_agent_state.specs.Request.{sign_fields, unlock_fields};
 ghost use Rattle.picky_agent_state.specs.inner.Asked.{asked_found, asked_seen, KeepsAsked};
@@ -43,7 +43,7 @@ pub(crate) enum Asked<'a> {
 /// What the message asks.
 #[tactic(auto, unfolding(crate::specs::Request::request_of), using(crate::proofs::AskedLemmas::found_is_read))]
 pub(crate) fn read_request<'a>(message: &'a [u8]) -> Asked<'a>
-    requires { IsMessage message.now }
+    requires { length message.now ≤ keep_limit }
     ensures request { asked_seen result ≡ request_of message.now }
     ensures keeps { KeepsAsked result }
 {
@@ -104,7 +104,7 @@ fn sign_at<'a>(contents: &'a [u8], from: usize) -> Result<(Asked<'a>, usize), St
 
 #[tactic(auto, unfolding(crate::specs::Request::add_fields))]
 fn add_at<'a>(contents: &'a [u8], from: usize) -> Result<(Asked<'a>, usize), Stuck<'a>>
-    requires { length contents.now ≤ message_limit }
+    requires { length contents.now ≤ keep_limit }
     ensures sees { Sees asked_seen why_in add_fields contents.now from result }
     ensures keeps { IfOk result (λ found. KeepsAsked found.0) }
 {

@@ -7,11 +7,15 @@ mod agent;
 mod asked;
 mod held;
 mod identity;
+mod keep;
 mod keyring;
 pub mod laws;
 mod message_type;
+mod question;
 mod reply;
 mod signing;
 
 pub use agent::Agent;
 pub use identity::Identity;
+pub use keep::KeepError;
+pub use question::Question;

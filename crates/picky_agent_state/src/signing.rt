@@ -50,7 +50,7 @@ fn algorithm_for(kind: KeyKind, flags: u32) -> Option<SignatureAlgorithm>
 }
 
 /// The same with the format of its signatures.
-fn way_for(kind: KeyKind, flags: u32) -> Option<(SignatureAlgorithm, SshSignatureFormat)>
+pub(crate) fn way_for(kind: KeyKind, flags: u32) -> Option<(SignatureAlgorithm, SshSignatureFormat)>
     ensures { result ≡ way_of kind flags }
 {
     match algorithm_for(kind, flags) {

@@ -96,6 +96,7 @@ impl<'t, K: Known> AnsweredSuite<'t, K> {
             result out.new self.old self.new }
         ensures len { length out.new ≡ length out.old }
         ensures bytes { OnOk result (IsBytes out.new) }
+        ensures unchanged { OnErr result (out.new ≡ out.old) }
     {
         let len = out.len() as u32;
         self.derive(&HeadView::Bcrypt { len, rounds, salt }, pass, out)
@@ -117,6 +118,7 @@ impl<'t, K: Known> AnsweredSuite<'t, K> {
             result out.new self.old self.new }
         ensures len { length out.new ≡ length out.old }
         ensures bytes { OnOk result (IsBytes out.new) }
+        ensures unchanged { OnErr result (out.new ≡ out.old) }
     {
         let head = HeadView::Argon2 {
             flavour,
@@ -136,6 +138,7 @@ impl<'t, K: Known> AnsweredSuite<'t, K> {
             result block.new self.old self.new }
         ensures len { length block.new ≡ length block.old }
         ensures bytes { OnOk result (IsBytes block.new) }
+        ensures unchanged { OnErr result (block.new ≡ block.old) }
     {
         self.exchange(TwoStrings::CbcSeal, Mode::Cbc, key, iv, block)
     }
@@ -148,6 +151,7 @@ impl<'t, K: Known> AnsweredSuite<'t, K> {
             result block.new self.old self.new }
         ensures len { length block.new ≡ length block.old }
         ensures bytes { OnOk result (IsBytes block.new) }
+        ensures unchanged { OnErr result (block.new ≡ block.old) }
     {
         self.exchange(TwoStrings::CbcOpen, Mode::Cbc, key, iv, block)
     }
@@ -160,6 +164,7 @@ impl<'t, K: Known> AnsweredSuite<'t, K> {
             result block.new self.old self.new }
         ensures len { length block.new ≡ length block.old }
         ensures bytes { OnOk result (IsBytes block.new) }
+        ensures unchanged { OnErr result (block.new ≡ block.old) }
     {
         self.exchange(TwoStrings::Ctr, Mode::Ctr, key, iv, block)
     }
@@ -172,6 +177,7 @@ impl<'t, K: Known> AnsweredSuite<'t, K> {
             result out.new self.old self.new }
         ensures len { length out.new ≡ length out.old }
         ensures bytes { OnOk result (IsBytes out.new) }
+        ensures unchanged { OnErr result (out.new ≡ out.old) }
     {
         let (place, answer) = self.find(head, text)?;
         if answer.len() != out.len() {
@@ -198,6 +204,7 @@ impl<'t, K: Known> AnsweredSuite<'t, K> {
             result block.new self.old self.new }
         ensures len { length block.new ≡ length block.old }
         ensures bytes { OnOk result (IsBytes block.new) }
+        ensures unchanged { OnErr result (block.new ≡ block.old) }
     {
         let head = HeadView::Two {
             of,
@@ -285,6 +292,7 @@ impl<K: Known> Suite for AnsweredSuite<'_, K> {
         ensures looks { let q = asked_question (heads.Bcrypt (length out.old) rounds salt.now) pass.now in
             LooksUp q (in_turn q self.old.used self.old.entries (derivation q (length out.old) self.old.entries))
             result out.new self.old self.new }
+        ensures unchanged { OnErr result (out.new ≡ out.old) }
 
         // What every suite promises.
         ensures asked { IsAskedAtMost 1 calls_made self.old self.new }
@@ -307,6 +315,7 @@ impl<K: Known> Suite for AnsweredSuite<'_, K> {
         ensures looks { let q = asked_question (heads.Argon2 flavour memory passes parallelism salt.now) pass.now in
             LooksUp q (in_turn q self.old.used self.old.entries (derivation q (length out.old) self.old.entries))
             result out.new self.old self.new }
+        ensures unchanged { OnErr result (out.new ≡ out.old) }
 
         // What every suite promises.
         ensures asked { IsAskedAtMost 1 calls_made self.old self.new }
@@ -320,6 +329,7 @@ impl<K: Known> Suite for AnsweredSuite<'_, K> {
         ensures looks { let q = asked_question (heads.CbcSeal key.now iv.now) block.old in
             LooksUp q (in_turn q self.old.used self.old.entries (exchange modes.Cbc key.now iv.now q self.old.entries))
             result block.new self.old self.new }
+        ensures unchanged { OnErr result (block.new ≡ block.old) }
 
         // What every suite promises.
         ensures asked { IsAskedAtMost 1 calls_made self.old self.new }
@@ -333,6 +343,7 @@ impl<K: Known> Suite for AnsweredSuite<'_, K> {
         ensures looks { let q = asked_question (heads.CbcOpen key.now iv.now) block.old in
             LooksUp q (in_turn q self.old.used self.old.entries (exchange modes.Cbc key.now iv.now q self.old.entries))
             result block.new self.old self.new }
+        ensures unchanged { OnErr result (block.new ≡ block.old) }
 
         // What every suite promises.
         ensures asked { IsAskedAtMost 1 calls_made self.old self.new }
@@ -346,6 +357,7 @@ impl<K: Known> Suite for AnsweredSuite<'_, K> {
         ensures looks { let q = asked_question (heads.Ctr key.now iv.now) block.old in
             LooksUp q (in_turn q self.old.used self.old.entries (exchange modes.Ctr key.now iv.now q self.old.entries))
             result block.new self.old self.new }
+        ensures unchanged { OnErr result (block.new ≡ block.old) }
 
         // What every suite promises.
         ensures asked { IsAskedAtMost 1 calls_made self.old self.new }

@@ -2,6 +2,8 @@
 #![tactic(auto)]
 
 #[cfg(test)]
+mod authorized_field;
+#[cfg(test)]
 mod calls;
 #[cfg(test)]
 mod content;

@@ -25,6 +25,7 @@ pub use handed_verifier::HandedVerifier;
 pub use memory_verifier::MemoryVerifier;
 pub use offer::Offer;
 pub use picky_authorized::{AuthContent, AuthEntry, AuthOption, PolicyError, read_keys};
+pub use printed::decision_text;
 pub use run::run_policy;
 pub use status::PolicyStatus;
 pub use verifier::Verifier;

@@ -12,7 +12,7 @@ use std::test::Fail;
 
 // s(b"\x07" + blob[-142:]) + s(blob[:-87]), where the last two strings of the plain certificate's blob, its issuer's key and the
 // signature, are of 55 and of 87 bytes, by python3.
-const QUESTION: &[u8] =
+pub const QUESTION: &[u8] =
     b"\0\0\0\x8f\x07\0\0\0\x33\0\0\0\x0bssh-ed25519\0\0\0\x20\x9b\xe8K\xed\xca\x9cEE\xd5\xd1D\xef\xc4\xe0b\xed\xac\
     \x1c\xea\xc4s\x86OZ\x903a\xb2\x09\x9b\x80\x1f\0\0\0S\0\0\0\x0bssh-ed25519\0\0\0@\x92!\xf9;c-\xb5\x887\xc7\
     \xe9-?8k\x8b\xc6\x0e\x09\xe96k\xee\xc1\xae\xe7\x04\x8c\x91\xaf\xa6-\x83\xe7\x01`:\xc2\x9c\x96Z\xe3\x20D$\xc3\

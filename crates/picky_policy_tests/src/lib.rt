@@ -12,6 +12,8 @@ mod demands;
 #[cfg(test)]
 mod key_line;
 #[cfg(test)]
+mod login;
+#[cfg(test)]
 mod offer;
 #[cfg(test)]
 mod openssh;

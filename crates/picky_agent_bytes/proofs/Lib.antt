@@ -1,0 +1,10 @@
+pub mod StateLemmas
+pub mod SpelledLemmas
+pub mod WriteLemmas
+pub mod WrittenLemmas
+pub mod AlikeLemmas
+pub mod HandedLemmas
+pub mod BareLemmas
+pub mod CallLemmas
+pub mod AddLemmas
+pub mod LawLemmas

@@ -1,0 +1,4 @@
+pub mod TextLemmas
+pub mod OrderLaws
+pub mod SaidLemmas
+pub mod KeyLineLaws

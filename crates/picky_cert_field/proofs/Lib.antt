@@ -1,0 +1,7 @@
+mod TextLemmas
+mod SignatureLemmas
+mod SignedLemmas
+mod NumberLaws
+pub mod FieldLaws
+pub mod WrittenLaws
+pub mod IssuerLaws

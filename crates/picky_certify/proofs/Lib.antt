@@ -1,0 +1,6 @@
+mod TextLemmas
+mod WordLemmas
+mod AskedLemmas
+mod SignedLemmas
+mod CertifyLemmas
+pub mod CertifiedLaws

@@ -1,0 +1,4 @@
+pub mod Refusal
+pub mod Texts
+pub mod Certify
+pub mod Certified

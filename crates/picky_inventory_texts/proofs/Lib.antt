@@ -1,0 +1,7 @@
+mod GivenLemmas
+mod LineLemmas
+mod GoodLineLemmas
+mod SealedLemmas
+mod ListingLemmas
+mod InventoryLemmas
+mod PieceLemmas

@@ -1,0 +1,4 @@
+pub mod Listed
+pub mod Texts
+pub mod Merging
+pub mod Pieces

@@ -1,0 +1,5 @@
+mod GivenLemmas
+mod DraftLemmas
+mod LineLemmas
+mod RunLemmas
+mod ApplyLemmas

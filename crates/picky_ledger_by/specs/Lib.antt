@@ -1,0 +1,3 @@
+pub mod Lacked
+pub mod Applied
+pub mod inner
