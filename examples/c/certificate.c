@@ -59,10 +59,10 @@ static void print_valid(void) {
         return;
     }
     if (!always)
-        print_moment("from", PICKY_CERTIFICATE_VALID_AFTER);
+        print_moment(ever ? "after" : "from", PICKY_CERTIFICATE_VALID_AFTER);
     if (!ever)
         print_moment(always ? "before" : " to", PICKY_CERTIFICATE_VALID_BEFORE);
-    puts(ever ? " forever" : "");
+    putchar('\n');
 }
 
 /* Each item of a list, with the text of its data where it has one: a string inside a string (RFC 4251, section 5). */

@@ -38,8 +38,8 @@ enum {
     PICKY_OUTPUT_PRIVATE = 500, /* the key can't be encrypted as an OpenSSH private key; plus PICKY_PRIVATE_.. */
     PICKY_OUTPUT_PUTTY = 600,   /* PuTTY has no such key, or it can't be encrypted as its file; plus PICKY_PUTTY_.. */
     PICKY_ANSWERS = 700,        /* the answers are none; plus PICKY_ANSWERS_.. */
-    PICKY_REQUEST = 800,        /* no certificate is made so; plus PICKY_REQUEST_.. */
-    PICKY_ISSUER_PRIVATE = 1100, /* read as PICKY_INPUT_PRIVATE says, the issuer's text means no key; so in the next three */
+    PICKY_REQUEST = 800,        /* no certificate is made so; plus PICKY_REQUEST_..: kept for calls that ask for one, as the next */
+    PICKY_ISSUER_PRIVATE = 1100, /* the issuer's text means no key, as of PICKY_INPUT_PRIVATE, and so in these three */
     PICKY_ISSUER_PUBLIC = 1200,
     PICKY_ISSUER_CERT = 1300,
     PICKY_ISSUER_PUTTY = 1400,
