@@ -33,8 +33,11 @@ SHOWN = {**PARTS, "line": 4, "fingerprint": 5, "bits": 6, "encrypted": 7, "ciphe
 FILE_TARGETS = ("ppk2", "ppk3", "ppk2-for-putty", "ppk3-for-putty")
 PRIVATE_TARGETS, PUTTY_TARGETS = ("openssh", *FILE_TARGETS), (*FILE_TARGETS, "putty-pub")
 UNTOUCHED = b"\xa5"
-# What the calls are given that examples/python doesn't declare: bytes, a number, a size, a pointer.
-TYPES = {"convert_by": "bnbbbb", "seal_by": "bpbbbb", "certificate_part": "bnz", "authorized_entry": "bznz"}
+# What the calls are given that examples/python doesn't declare: bytes, a list of them, a number, one of 64 bits, a size, a pointer.
+TYPES = {"convert_by": "bnbbbb", "seal_by": "bpbbbb", "certificate_part": "bnz", "authorized_entry": "bznz", "certificate_draft": "lbbb",
+         "certify_by": "lbbbb", "decide_by": "bbbqb", "agent_question": "bb", "agent_reply": "bbb", "agent_next": "bb",
+         "agent_public_add": "b", "agent_secret": "bn", "ledger_apply": "bbbbb", "ledger_replies": "bbbbb", "inventory_list": "ln",
+         "inventory_merge": "bb", "inventory_check": "bb"}
 # What a library takes of the C library at most, as picky.h says.
 TAKEN = {"malloc", "realloc", "free", "memmove", "memcpy", "memset", "memcmp"}
 
@@ -46,8 +49,8 @@ class Call(NamedTuple):
     given: tuple
     # The bytes that are handed out, or the name of the reason why there are none.
     wanted: Union[bytes, str]
-    # Whether these bytes are a question.
-    asked: bool = False
+    # The name of the number that comes with these bytes.
+    number: str = "Ok"
 
 
 def convert(name, target, text, wanted, pass_in=b"", pass_out=b"", fresh=b""):
@@ -73,7 +76,8 @@ def with_comment(name, text, comment, wanted):
 
 def convert_by(name, target, text, answers, wanted, pass_in=b"", pass_out=b"", fresh=b""):
     number = TARGETS.get(target, target)
-    return Call(f"{name}, to {target}", "convert_by", (text, number, pass_in, pass_out, fresh, answers), wanted, isinstance(wanted, bytes))
+    asked = "Asked" if isinstance(wanted, bytes) else "Ok"
+    return Call(f"{name}, to {target}", "convert_by", (text, number, pass_in, pass_out, fresh, answers), wanted, asked)
 
 
 def seal_by(name, numbers, text, wanted):
@@ -122,13 +126,24 @@ def wrong_symbols(library, text):
             yield f"it says of itself {told}"
 
 
+def passed(picky, given):
+    """What a call takes for what it is given: a list is an array and its length."""
+    if isinstance(given, bytes):
+        return [picky.Bytes(given)]
+    if isinstance(given, list):
+        return [(picky.Bytes * len(given))(*map(picky.Bytes, given)), len(given)]
+    return [given]
+
+
 def complaint(picky, numbers, call):
     """What is wrong with a call's answers, over buffers that are too short and that have room; none where nothing is."""
     function = getattr(picky.library, f"picky_{call.function}")
     if call.function in TYPES:
-        kinds = {"b": picky.Bytes, "n": ctypes.c_uint32, "z": ctypes.c_size_t, "p": ctypes.c_char_p}
-        function.argtypes, function.restype = [*(kinds[it] for it in TYPES[call.function]), ctypes.c_char_p, ctypes.c_size_t], picky.Answer
-    given = [picky.Bytes(it) if isinstance(it, bytes) else it for it in call.given]
+        kinds = {"b": [picky.Bytes], "l": [ctypes.POINTER(picky.Bytes), ctypes.c_size_t], "n": [ctypes.c_uint32], "q": [ctypes.c_uint64],
+                 "z": [ctypes.c_size_t], "p": [ctypes.c_char_p]}
+        taken = [kind for it in TYPES[call.function] for kind in kinds[it]]
+        function.argtypes, function.restype = [*taken, ctypes.c_char_p, ctypes.c_size_t], picky.Answer
+    given = list(itertools.chain.from_iterable(passed(picky, it) for it in call.given))
     refused = isinstance(call.wanted, str)
     for room in (0, 64) if refused else (0, 1, len(call.wanted), len(call.wanted) + 1, len(call.wanted) + 64):
         buffer = ctypes.create_string_buffer(UNTOUCHED * (room + 8), room + 8)
@@ -138,7 +153,7 @@ def complaint(picky, numbers, call):
         elif room <= len(call.wanted):
             error, length, written = picky.BUFFER_TOO_SMALL, len(call.wanted), b""
         else:
-            error, length, written = numbers["Asked"] if call.asked else picky.OK, len(call.wanted), call.wanted + b"\0"
+            error, length, written = numbers[call.number], len(call.wanted), call.wanted + b"\0"
         if (answer.error, answer.len) != (error, length):
             names = [picky.error_name(it) for it in (answer.error, error)]
             return f"with {room} bytes of room {names[0]} and {answer.len} bytes, not {names[1]} and {length}"

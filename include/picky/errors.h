@@ -11,24 +11,39 @@
  */
 enum {
     PICKY_OK = 0,
-    PICKY_BUFFER_TOO_SMALL = 1,    /* `out` has no room for `len` bytes and a zero */
-    PICKY_NO_MEMORY = 2,           /* memory ran out */
-    PICKY_TEXT_NOT_UTF8 = 3,       /* the key text isn't UTF-8 */
-    PICKY_PASS_NOT_UTF8 = 4,       /* a passphrase isn't UTF-8 */
-    PICKY_NO_SUCH_TARGET = 5,      /* the number names no target */
-    PICKY_NO_SUCH_PART = 6,        /* the number names no part */
-    PICKY_NO_CIPHER = 7,           /* to read or to write this takes a cipher */
-    PICKY_NO_PRIVATE_KEY = 8,      /* the target keeps the secret, and the key is a public one */
-    PICKY_COMMENT_NOT_CARRIED = 9, /* the target can't hold the comment */
-    PICKY_FRESH_TOO_SHORT = 10,    /* to encrypt takes more fresh bytes */
-    PICKY_TOO_LONG = 11,           /* what is to be written has 2^32 bytes or more */
-    PICKY_TOO_MANY_LINES = 12,     /* a block of PuTTY's file has 65,536 lines or more */
-    PICKY_ASKED = 13,              /* `out` has a question, which the answers lack */
-    PICKY_COMMENT_NOT_UTF8 = 14,   /* the comment isn't UTF-8 */
-    PICKY_NO_SUCH_SEALING = 15,    /* the numbers name no private key's text, or of PuTTY's no kind of Argon2 */
-    PICKY_NO_SUCH_PLACE = 16,      /* the list ends before the place */
-    PICKY_NO_SUCH_OPTION = 17,     /* the key has no option at the place */
-    PICKY_NO_KEY = 18,             /* the line has no key */
+    PICKY_BUFFER_TOO_SMALL = 1,     /* `out` has no room for `len` bytes and a zero */
+    PICKY_NO_MEMORY = 2,            /* memory ran out */
+    PICKY_TEXT_NOT_UTF8 = 3,        /* the key text isn't UTF-8 */
+    PICKY_PASS_NOT_UTF8 = 4,        /* a passphrase isn't UTF-8 */
+    PICKY_NO_SUCH_TARGET = 5,       /* the number names no target */
+    PICKY_NO_SUCH_PART = 6,         /* the number names no part */
+    PICKY_NO_CIPHER = 7,            /* to read or to write this takes a cipher */
+    PICKY_NO_PRIVATE_KEY = 8,       /* the target keeps the secret, and the key is a public one */
+    PICKY_COMMENT_NOT_CARRIED = 9,  /* the target can't hold the comment */
+    PICKY_FRESH_TOO_SHORT = 10,     /* to encrypt takes more fresh bytes */
+    PICKY_TOO_LONG = 11,            /* what is to be written has 2^32 bytes or more */
+    PICKY_TOO_MANY_LINES = 12,      /* a block of PuTTY's file has 65,536 lines or more */
+    PICKY_ASKED = 13,               /* `out` has a question, which the answers lack */
+    PICKY_COMMENT_NOT_UTF8 = 14,    /* the comment isn't UTF-8 */
+    PICKY_NO_SUCH_SEALING = 15,     /* the numbers name no private key's text, or of PuTTY's no kind of Argon2 */
+    PICKY_NO_SUCH_PLACE = 16,       /* the list ends before the place */
+    PICKY_NO_SUCH_OPTION = 17,      /* the key has no option at the place */
+    PICKY_NO_KEY = 18,              /* the line has no key */
+    PICKY_ISSUER_NOT_UTF8 = 19,     /* the issuer's text isn't UTF-8 */
+    PICKY_WORD_NOT_UTF8 = 20,       /* a word isn't UTF-8 */
+    PICKY_BAD_WORDS = 21,           /* the words are no options with their values, or ask for what there isn't */
+    PICKY_AUTHORIZED_NOT_UTF8 = 22, /* the authorized keys aren't UTF-8 */
+    PICKY_OFFER_NOT_UTF8 = 23,      /* the offer isn't UTF-8 */
+    PICKY_USER_NOT_UTF8 = 24,       /* the user's name isn't UTF-8 */
+    PICKY_NO_MESSAGE = 25,          /* the message has no bytes */
+    PICKY_MESSAGE_TOO_LONG = 26,    /* it has more than 262,144 bytes */
+    PICKY_NOT_ADD = 27,             /* the message adds no identity */
+    PICKY_SIGNATURE_TOO_LONG = 28,  /* the signature has 2^32 bytes or more */
+    PICKY_LEDGER_NOT_UTF8 = 29,     /* the ledger isn't UTF-8 */
+    PICKY_REQUESTS_NOT_UTF8 = 30,   /* the requests aren't UTF-8 */
+    PICKY_BAD_LINE = 31,            /* a line is refused; `out` has its number */
+    PICKY_LEFT_NOT_UTF8 = 32,       /* the left inventory isn't UTF-8 */
+    PICKY_RIGHT_NOT_UTF8 = 33,      /* the right inventory isn't UTF-8 */
 
     /* The hundreds of errors. A number in one of them is the sum of the hundred and of an error of its kind, below. */
     PICKY_INPUT_PRIVATE = 100,  /* read as an OpenSSH private key, the text means no key; plus PICKY_PRIVATE_.. */
@@ -38,7 +53,9 @@ enum {
     PICKY_OUTPUT_PRIVATE = 500, /* the key can't be encrypted as an OpenSSH private key; plus PICKY_PRIVATE_.. */
     PICKY_OUTPUT_PUTTY = 600,   /* PuTTY has no such key, or it can't be encrypted as its file; plus PICKY_PUTTY_.. */
     PICKY_ANSWERS = 700,        /* the answers are none; plus PICKY_ANSWERS_.. */
-    PICKY_REQUEST = 800,        /* no certificate is made so; plus PICKY_REQUEST_..: kept for calls that ask for one, as the next */
+    PICKY_REQUEST = 800,        /* no certificate is made so; plus PICKY_REQUEST_.. */
+    PICKY_DENIED = 900,         /* the offer doesn't get in; plus PICKY_DENIED_.., and `out` has why */
+    PICKY_STATE = 1000,         /* the bytes are no state of an agent; plus PICKY_STATE_.. */
     PICKY_ISSUER_PRIVATE = 1100, /* the issuer's text means no key, as of PICKY_INPUT_PRIVATE, and so in these three */
     PICKY_ISSUER_PUBLIC = 1200,
     PICKY_ISSUER_CERT = 1300,
@@ -121,6 +138,7 @@ enum {
     PICKY_ANSWERS_CONTRADICTION = 4,   /* an answer contradicts another entry */
     PICKY_ANSWERS_MISPLACED = 5,       /* the next entry answers another question than is asked */
     PICKY_ANSWERS_TOO_LONG = 6,        /* a part of what is asked has 2^32 bytes or more, so no question says it */
+    PICKY_ANSWERS_UNKNOWN_BYTE = 7,    /* a verdict is one byte, and neither 0 nor 1 */
 
     /* Of a certificate that is asked for. */
     PICKY_REQUEST_UNSUPPORTED_CERTIFICATE_KEY_TYPE = 0,   /* the type isn't made here, or isn't for the subject's key */
@@ -134,7 +152,25 @@ enum {
     PICKY_REQUEST_NO_KEY_TYPE = 8,                        /* no type of certificates is given */
     PICKY_REQUEST_SIGNATURE_ERROR = 9,                    /* never: it is PICKY_ASKED */
     PICKY_REQUEST_TOO_LONG = 10,                          /* never: it is PICKY_TOO_LONG */
-    PICKY_REQUEST_NO_MEMORY = 11                          /* never: it is PICKY_NO_MEMORY */
+    PICKY_REQUEST_NO_MEMORY = 11,                         /* never: it is PICKY_NO_MEMORY */
+
+    /* Of an offer that is denied: the first rule that fails. */
+    PICKY_DENIED_NO_LINE = 0,         /* no line without cert-authority has the key */
+    PICKY_DENIED_NO_AUTHORITY = 1,    /* no line with cert-authority has the issuer's key */
+    PICKY_DENIED_NOT_CLIENT = 2,      /* the certificate is a host's */
+    PICKY_DENIED_NOT_YET = 3,         /* the moment is before the certificate's time */
+    PICKY_DENIED_EXPIRED = 4,         /* it is the certificate's end or after it */
+    PICKY_DENIED_PRINCIPAL = 5,       /* the certificate isn't for the line's `principals`, or without these for the user */
+    PICKY_DENIED_CRITICAL_OPTION = 6, /* a critical option occurs twice, or its payload doesn't fit */
+    PICKY_DENIED_BAD_SIGNATURE = 7,   /* the signature isn't good */
+
+    /* Of an agent's state. */
+    PICKY_STATE_TOO_LONG = 0,      /* they have more than 2^30 bytes */
+    PICKY_STATE_SHORT = 1,         /* they end inside a message, or in the four bytes of its length */
+    PICKY_STATE_NOT_KEPT = 2,      /* a message is none that adds an identity or locks */
+    PICKY_STATE_TOO_MANY = 3,      /* there are more than 1,024 identities */
+    PICKY_STATE_NOT_CANONICAL = 4, /* the state has another spelling than picky_agent_next's */
+    PICKY_STATE_NO_MEMORY = 5      /* never: it is PICKY_NO_MEMORY */
 };
 
 #endif

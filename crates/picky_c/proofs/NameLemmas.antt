@@ -39,10 +39,12 @@ table_short group =
     (either IsShortTable (group == 6) _ _ refl
     (either IsShortTable (group == 7) _ _ refl
     (either IsShortTable (group == 8) _ _ refl
+    (either IsShortTable (group == 9) _ _ refl
+    (either IsShortTable (group == 10) _ _ refl
     (either IsShortTable (group == 11) _ _ refl
     (either IsShortTable (group == 12) _ _ refl
     (either IsShortTable (group == 13) _ _ refl
-    (either IsShortTable (group == 14) _ _ refl refl))))))))))))
+    (either IsShortTable (group == 14) _ _ refl refl))))))))))))))
 
 pub leaf_short : (number : ℕ) → length (leaf_name number) ≤ 32
 leaf_short number = short_at (names_in (number / 100)) (number % 100) (table_short (number / 100))

@@ -1,11 +1,12 @@
 -- What a caller gives.
-use Rattle.std.specs.Prelude.{List, [], ◌∷◌, ℕ, Option, None, Some, Result, Ok, Err, if◌then◌else◌}
+use Rattle.std.specs.Prelude.{List, [], ◌∷◌, ℕ, Option, None, Some, Result, Ok, Err, if◌then◌else◌, map}
 use Rattle.std.specs.Str.{is_utf8}
 use Rattle.picky_suite.specs.Meanings.{Meanings, plain}
 use Rattle.picky_key_text.specs.Reader.{Reader}
 use Rattle.picky_conversion.specs.Outside.{Outside}
 use Rattle.picky_c.specs.declared.error.PickyError.{PickyError}
 use Rattle.picky_c.specs.declared.given.Given.{Given as Slices}
+use Rattle.picky_c.specs.declared.given.PickyBytes.{PickyBytes}
 
 -- what a conversion has beside its target, as bytes
 pub record Given : Type 0 where
@@ -22,6 +23,10 @@ given text pass_in pass_out fresh answers =
 -- the same of slices
 abbrev pub given_in : Slices → Given
 given_in g = given g.text.now g.pass_in.now g.pass_out.now g.fresh.now g.answers.now
+
+-- the bytes of each that is given
+abbrev pub bytes_given : List PickyBytes → List (List ℕ)
+bytes_given given = map (λ it. it.bytes.now) given
 
 -- a passphrase; no bytes are none
 abbrev pub pass_of : List ℕ → Option (List ℕ)

@@ -12,3 +12,8 @@ pub mod Shown
 pub mod CertificatePart
 pub mod AuthorizedPart
 pub mod Comment
+pub mod Certify
+pub mod Policy
+pub mod Agent
+pub mod Ledger
+pub mod Inventory

@@ -7,8 +7,12 @@ abbrev pub own_names : List (List ℕ)
 own_names =
     codes "Ok" ∷ codes "BufferTooSmall" ∷ codes "NoMemory" ∷ codes "TextNotUtf8" ∷ codes "PassNotUtf8" ∷
     codes "NoSuchTarget" ∷ codes "NoSuchPart" ∷ codes "NoCipher" ∷ codes "NoPrivateKey" ∷
-    codes "CommentNotCarried" ∷ codes "FreshTooShort" ∷ codes "TooLong" ∷ codes "TooManyLines" ∷ codes "Asked" ∷
-    codes "CommentNotUtf8" ∷ codes "NoSuchSealing" ∷ codes "NoSuchPlace" ∷ codes "NoSuchOption" ∷ codes "NoKey" ∷ []
+    codes "CommentNotCarried" ∷ codes "FreshTooShort" ∷ codes "TooLong" ∷ codes "TooManyLines" ∷
+    codes "Asked" ∷ codes "CommentNotUtf8" ∷ codes "NoSuchSealing" ∷ codes "NoSuchPlace" ∷
+    codes "NoSuchOption" ∷ codes "NoKey" ∷ codes "IssuerNotUtf8" ∷ codes "WordNotUtf8" ∷ codes "BadWords" ∷
+    codes "AuthorizedNotUtf8" ∷ codes "OfferNotUtf8" ∷ codes "UserNotUtf8" ∷ codes "NoMessage" ∷
+    codes "MessageTooLong" ∷ codes "NotAdd" ∷ codes "SignatureTooLong" ∷ codes "LedgerNotUtf8" ∷
+    codes "RequestsNotUtf8" ∷ codes "BadLine" ∷ codes "LeftNotUtf8" ∷ codes "RightNotUtf8" ∷ []
 
 -- the names of an OpenSSH private key, by number
 abbrev pub private_names : List (List ℕ)
@@ -56,7 +60,19 @@ request_names =
 abbrev pub answers_names : List (List ℕ)
 answers_names =
     codes "EndsInEntry" ∷ codes "LengthPastEnd" ∷ codes "NoQuestion" ∷ codes "WrongLength" ∷ codes "Contradiction" ∷
-    codes "Misplaced" ∷ codes "TooLong" ∷ []
+    codes "Misplaced" ∷ codes "TooLong" ∷ codes "UnknownByte" ∷ []
+
+-- the names of a denial, by number
+abbrev pub denied_names : List (List ℕ)
+denied_names =
+    codes "NoLine" ∷ codes "NoAuthority" ∷ codes "NotClient" ∷ codes "NotYet" ∷ codes "Expired" ∷
+    codes "Principal" ∷ codes "CriticalOption" ∷ codes "BadSignature" ∷ []
+
+-- the names of an agent's state, by number
+abbrev pub state_names : List (List ℕ)
+state_names =
+    codes "TooLong" ∷ codes "Short" ∷ codes "NotKept" ∷ codes "TooMany" ∷ codes "NotCanonical" ∷
+    codes "NoMemory" ∷ []
 
 -- the names of a hundred, by its number
 abbrev pub names_in : ℕ → List (List ℕ)
@@ -70,6 +86,8 @@ names_in group =
     else if group == 6 then putty_names
     else if group == 7 then answers_names
     else if group == 8 then request_names
+    else if group == 9 then denied_names
+    else if group == 10 then state_names
     else if group == 11 then private_names
     else if group == 12 then public_names
     else if group == 13 then certificate_names
@@ -87,6 +105,8 @@ path_to group =
     else if group == 6 then codes "output.putty."
     else if group == 7 then codes "answers."
     else if group == 8 then codes "request."
+    else if group == 9 then codes "denied."
+    else if group == 10 then codes "state."
     else if group == 11 then codes "issuer.private."
     else if group == 12 then codes "issuer.public."
     else if group == 13 then codes "issuer.cert."

@@ -15,6 +15,10 @@ use Rattle.picky_cert_builder.specs.declared.error.SshCertificateGenerationError
 use Rattle.picky_target.specs.declared.error.ConvertError.{ConvertError}
 use Rattle.picky_target.specs.declared.error.ConvertError.TheVariants as errors
 use Rattle.picky_conversion.specs.Want.{IsFault, WantsMemory}
+use Rattle.picky_policy.specs.declared.decision.Denial.{Denial}
+use Rattle.picky_policy.specs.declared.decision.Denial.TheVariants as denials
+use Rattle.picky_agent_bytes.specs.declared.error.AgentBytesError.{AgentBytesError}
+use Rattle.picky_agent_bytes.specs.declared.error.AgentBytesError.TheVariants as states
 use Rattle.picky_c.specs.declared.error.AnswersError.{AnswersError}
 use Rattle.picky_c.specs.declared.error.AnswersError.TheVariants as answers
 use Rattle.picky_c.specs.declared.error.PickyError.{PickyError}
@@ -146,6 +150,27 @@ answers_number answers.WrongLength = 3
 answers_number answers.Contradiction = 4
 answers_number answers.Misplaced = 5
 answers_number answers.TooLong = 6
+answers_number answers.UnknownByte = 7
+
+-- of a denial
+abbrev pub denial_number : Denial → ℕ
+denial_number denials.NoLine = 0
+denial_number denials.NoAuthority = 1
+denial_number denials.NotClient = 2
+denial_number denials.NotYet = 3
+denial_number denials.Expired = 4
+denial_number denials.Principal = 5
+denial_number denials.CriticalOption = 6
+denial_number denials.BadSignature = 7
+
+-- of an agent's state
+abbrev pub state_number : AgentBytesError → ℕ
+state_number states.TooLong = 0
+state_number states.Short = 1
+state_number states.NotKept = 2
+state_number states.TooMany = 3
+state_number states.NotCanonical = 4
+state_number states.NoMemory = 5
 
 -- of a call
 abbrev pub error_number : PickyError → ℕ
@@ -162,8 +187,25 @@ error_number calls.NoSuchSealing = 15
 error_number calls.NoSuchPlace = 16
 error_number calls.NoSuchOption = 17
 error_number calls.NoKey = 18
+error_number calls.IssuerNotUtf8 = 19
+error_number calls.WordNotUtf8 = 20
+error_number calls.BadWords = 21
+error_number calls.AuthorizedNotUtf8 = 22
+error_number calls.OfferNotUtf8 = 23
+error_number calls.UserNotUtf8 = 24
+error_number calls.NoMessage = 25
+error_number calls.MessageTooLong = 26
+error_number calls.NotAdd = 27
+error_number calls.SignatureTooLong = 28
+error_number calls.LedgerNotUtf8 = 29
+error_number calls.RequestsNotUtf8 = 30
+error_number calls.BadLine = 31
+error_number calls.LeftNotUtf8 = 32
+error_number calls.RightNotUtf8 = 33
 error_number (calls.Answers e) = 700 + answers_number e
 error_number (calls.Refused e) = refused_number e
+error_number (calls.Denied e) = 900 + denial_number e
+error_number (calls.State e) = 1000 + state_number e
 
 -- what a call answers as a refusal: no want of memory, and no fault of the suite
 pub record IsAnswered (e : ConvertError) : Type 0 where

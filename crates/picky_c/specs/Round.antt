@@ -42,6 +42,7 @@ IsOfAnswer entries answers.WrongLength = HasOtherLength entries
 IsOfAnswer entries answers.Contradiction = IsContradicted entries
 IsOfAnswer entries answers.Misplaced = 0 < length entries
 IsOfAnswer entries answers.TooLong = Unit {0}
+IsOfAnswer entries answers.UnknownByte = ⊥
 
 abbrev pub RefusesAnswer : List Entry → PickyError → Type 0
 RefusesAnswer entries e = (reason : AnswersError) × (e ≡ errors.Answers reason) × IsOfAnswer entries reason

@@ -4,8 +4,10 @@ ghost use Rattle.std.specs.Prelude.{◌≡◌};
 ghost use Rattle.picky_c.specs.Calls.{table_refusal as table_refusal_of};
 ghost use Rattle.picky_c.specs.Refusal.{refusal_of};
 
+use picky_agent_bytes::AgentBytesError;
 use picky_ask::TableError;
 use picky_key_text::ReadError;
+use picky_policy::Denial;
 use picky_ppk::PuttyError;
 use picky_sshkey::SshPrivateKeyError;
 use picky_target::ConvertError;
@@ -39,10 +41,44 @@ pub enum PickyError {
     NoSuchOption,
     /// The line has no key.
     NoKey,
+    /// The issuer's text isn't UTF-8.
+    IssuerNotUtf8,
+    /// A word isn't UTF-8.
+    WordNotUtf8,
+    /// The words are no options with their values, or ask for what there isn't.
+    BadWords,
+    /// The authorized keys aren't UTF-8.
+    AuthorizedNotUtf8,
+    /// The offer isn't UTF-8.
+    OfferNotUtf8,
+    /// The user's name isn't UTF-8.
+    UserNotUtf8,
+    /// The message has no bytes.
+    NoMessage,
+    /// The message has more than 262,144 bytes.
+    MessageTooLong,
+    /// The message adds no identity.
+    NotAdd,
+    /// The signature has 2^32 bytes or more.
+    SignatureTooLong,
+    /// The ledger isn't UTF-8.
+    LedgerNotUtf8,
+    /// The requests aren't UTF-8.
+    RequestsNotUtf8,
+    /// A line is refused.
+    BadLine,
+    /// The left inventory isn't UTF-8.
+    LeftNotUtf8,
+    /// The right inventory isn't UTF-8.
+    RightNotUtf8,
     /// The answers are none.
     Answers(AnswersError),
     /// The key text is refused, or has no text for the target.
     Refused(ConvertError),
+    /// The offer is denied.
+    Denied(Denial),
+    /// The bytes are no state of an agent.
+    State(AgentBytesError),
 }
 
 /// Why answers are none.
@@ -62,6 +98,8 @@ pub enum AnswersError {
     Misplaced,
     /// A part of the question that is asked has 2^32 bytes or more, so no bytes say it.
     TooLong,
+    /// A verdict is one byte, and neither 0 nor 1.
+    UnknownByte,
 }
 
 /// The refusal of answers that are no table, where want of memory is the outer want.

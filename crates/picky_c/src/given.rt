@@ -1,10 +1,13 @@
 //! What a caller gives: bytes, and texts among them.
 
-ghost use Rattle.std.specs.Prelude.{◌≡◌, true, false, MatchOption};
+ghost use Rattle.std.specs.Prelude.{◌≡◌, true, false, map, Ok, MatchOption};
 ghost use Rattle.std.specs.Option.{option_copied};
 ghost use Rattle.std.specs.Str.{IsUtf8, is_utf8};
-ghost use Rattle.picky_c.specs.Given.{pass_of};
+ghost use Rattle.picky_wire_base.specs.Gives.{Gives};
+ghost use Rattle.picky_c.specs.Given.{bytes_given, pass_of};
 
+use crate::error::PickyError;
+use std::alloc::Global;
 use std::str;
 
 /// Bytes that the caller keeps.
@@ -12,6 +15,23 @@ use std::str;
 #[derive(Clone, Copy)]
 pub struct PickyBytes<'a> {
     pub bytes: &'a [u8],
+}
+
+/// The bytes of each. Refuses: `NoMemory`.
+pub fn bytes_of<'a>(
+    alloc: Global,
+    given: &[PickyBytes<'a>],
+) -> Result<Vec<&'a [u8]>, PickyError>
+    ensures { Gives PickyError.NoMemory (λ list. map (λ bytes. bytes.now) list.items) result (Ok (bytes_given given.now)) }
+{
+    let mut list = Vec::new(alloc);
+    'given: for it in given.iter() {
+        match list.push(it.bytes) {
+            Ok(()) => {}
+            Err(_) => return Err(PickyError::NoMemory),
+        }
+    }
+    Ok(list)
 }
 
 /// What a conversion has beside its target, as bytes.

@@ -10,7 +10,7 @@ const NAME_LEN: usize = 48;
 const VERSION: &str = "0.1.0";
 
 /// The names of a call itself, by number.
-const OWN: [&str; 19] = [
+const OWN: [&str; 34] = [
     "Ok",
     "BufferTooSmall",
     "NoMemory",
@@ -30,6 +30,21 @@ const OWN: [&str; 19] = [
     "NoSuchPlace",
     "NoSuchOption",
     "NoKey",
+    "IssuerNotUtf8",
+    "WordNotUtf8",
+    "BadWords",
+    "AuthorizedNotUtf8",
+    "OfferNotUtf8",
+    "UserNotUtf8",
+    "NoMessage",
+    "MessageTooLong",
+    "NotAdd",
+    "SignatureTooLong",
+    "LedgerNotUtf8",
+    "RequestsNotUtf8",
+    "BadLine",
+    "LeftNotUtf8",
+    "RightNotUtf8",
 ];
 
 /// The names of an OpenSSH private key, by number.
@@ -109,7 +124,7 @@ const PUTTY: [&str; 21] = [
 ];
 
 /// The names of answers, by number.
-const ANSWERS: [&str; 7] = [
+const ANSWERS: [&str; 8] = [
     "EndsInEntry",
     "LengthPastEnd",
     "NoQuestion",
@@ -117,6 +132,7 @@ const ANSWERS: [&str; 7] = [
     "Contradiction",
     "Misplaced",
     "TooLong",
+    "UnknownByte",
 ];
 
 /// The names of a request, by number.
@@ -132,6 +148,28 @@ const REQUEST: [&str; 12] = [
     "NoKeyType",
     "SignatureError",
     "TooLong",
+    "NoMemory",
+];
+
+/// The names of a denial, by number.
+const DENIED: [&str; 8] = [
+    "NoLine",
+    "NoAuthority",
+    "NotClient",
+    "NotYet",
+    "Expired",
+    "Principal",
+    "CriticalOption",
+    "BadSignature",
+];
+
+/// The names of an agent's state, by number.
+const STATE: [&str; 6] = [
+    "TooLong",
+    "Short",
+    "NotKept",
+    "TooMany",
+    "NotCanonical",
     "NoMemory",
 ];
 
@@ -224,6 +262,12 @@ fn table(group: u32) -> &'static [&'static str]
     if group == 8 {
         return &REQUEST;
     }
+    if group == 9 {
+        return &DENIED;
+    }
+    if group == 10 {
+        return &STATE;
+    }
     if group == 11 {
         return &PRIVATE;
     }
@@ -267,6 +311,12 @@ fn path_of(group: u32) -> &'static str
     }
     if group == 8 {
         return "request.";
+    }
+    if group == 9 {
+        return "denied.";
+    }
+    if group == 10 {
+        return "state.";
     }
     if group == 11 {
         return "issuer.private.";

@@ -5,15 +5,18 @@
 ghost use Rattle.std.specs.Prelude.{◌≡◌, ◌<◌};
 ghost use Rattle.picky_c.specs.Number.{answers_number as answers_number_of, error_number};
 ghost use Rattle.picky_c.specs.Number.{certificate_number as certificate_number_of, issuer_number as issuer_number_of};
+ghost use Rattle.picky_c.specs.Number.{denial_number as denial_number_of, state_number as state_number_of};
 ghost use Rattle.picky_c.specs.Number.{private_number as private_number_of, public_number as public_number_of};
 ghost use Rattle.picky_c.specs.Number.{putty_number as putty_number_of, read_number as read_number_of};
 ghost use Rattle.picky_c.specs.Number.{refused_number, request_number as request_number_of};
 
 use crate::error::{AnswersError, PickyError};
+use picky_agent_bytes::AgentBytesError;
 use picky_cert::SshCertificateError;
 use picky_cert_builder::SshCertificateGenerationError;
 use picky_key_text::ReadError;
 use picky_keys::SshPublicKeyError;
+use picky_policy::Denial;
 use picky_ppk::PuttyError;
 use picky_sshkey::SshPrivateKeyError;
 use picky_target::ConvertError;
@@ -36,8 +39,25 @@ pub fn number_of(e: &PickyError) -> u32
         PickyError::NoSuchPlace => 16,
         PickyError::NoSuchOption => 17,
         PickyError::NoKey => 18,
+        PickyError::IssuerNotUtf8 => 19,
+        PickyError::WordNotUtf8 => 20,
+        PickyError::BadWords => 21,
+        PickyError::AuthorizedNotUtf8 => 22,
+        PickyError::OfferNotUtf8 => 23,
+        PickyError::UserNotUtf8 => 24,
+        PickyError::NoMessage => 25,
+        PickyError::MessageTooLong => 26,
+        PickyError::NotAdd => 27,
+        PickyError::SignatureTooLong => 28,
+        PickyError::LedgerNotUtf8 => 29,
+        PickyError::RequestsNotUtf8 => 30,
+        PickyError::BadLine => 31,
+        PickyError::LeftNotUtf8 => 32,
+        PickyError::RightNotUtf8 => 33,
         PickyError::Answers(e) => 700 + answers_number(e),
         PickyError::Refused(e) => convert_number(e),
+        PickyError::Denied(e) => 900 + denial_number(e),
+        PickyError::State(e) => 1000 + state_number(e),
     }
 }
 
@@ -54,6 +74,39 @@ fn answers_number(e: &AnswersError) -> u32
         AnswersError::Contradiction => 4,
         AnswersError::Misplaced => 5,
         AnswersError::TooLong => 6,
+        AnswersError::UnknownByte => 7,
+    }
+}
+
+/// The place of a denial in its hundred.
+fn denial_number(e: &Denial) -> u32
+    ensures number { result ≡ denial_number_of e.now }
+    ensures place { result < 100 }
+{
+    match e {
+        Denial::NoLine => 0,
+        Denial::NoAuthority => 1,
+        Denial::NotClient => 2,
+        Denial::NotYet => 3,
+        Denial::Expired => 4,
+        Denial::Principal => 5,
+        Denial::CriticalOption => 6,
+        Denial::BadSignature => 7,
+    }
+}
+
+/// That of an error of an agent's state.
+fn state_number(e: &AgentBytesError) -> u32
+    ensures number { result ≡ state_number_of e.now }
+    ensures place { result < 100 }
+{
+    match e {
+        AgentBytesError::TooLong => 0,
+        AgentBytesError::Short => 1,
+        AgentBytesError::NotKept => 2,
+        AgentBytesError::TooMany => 3,
+        AgentBytesError::NotCanonical => 4,
+        AgentBytesError::NoMemory => 5,
     }
 }
 

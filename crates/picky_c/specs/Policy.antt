@@ -1,0 +1,1 @@
+-- Logins, decided by answers.

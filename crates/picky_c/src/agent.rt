@@ -1,0 +1,1 @@
+//! An agent whose state is bytes.

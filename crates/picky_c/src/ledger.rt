@@ -1,0 +1,1 @@
+//! Requests at a ledger, signed by answers.
