@@ -1,3 +1,5 @@
+mod EnteredLemmas
 mod IssuedLemmas
 mod PuttyFileLemmas
+mod SignedReplyLemmas
 mod UnaskedLemmas
