@@ -103,7 +103,7 @@ fn is_part(alloc: Global, row: &Part) -> Result<bool, Fail> {
 #[test]
 fn hands_out_the_parts(rt: HostRuntime) -> Result<(), Fail> {
     for row in &PARTS {
-        assert!(rt; is_part(rt.alloc(), row)?, "{:?} of {}", row.1, row.0);
+        assert!(rt; is_part(rt.alloc(), row)?, "{} at {}", row.0, row.2);
     }
     Ok(())
 }
@@ -117,7 +117,7 @@ static NO_PARTS: [(usize, AgentSecret); 5] = [
     (6, AgentSecret::Ed(EdPart::Public)),
 ];
 
-/// Both calls refuse the message for this, or the second alone, where the first has no part to look for.
+/// Both calls refuse the message for this, or, where the key has no such part, the first alone does.
 fn is_refused(alloc: Global, message: &[u8], part: AgentSecret, why: AgentCallError) -> bool {
     let found = ManuallyDrop::new(agent_secret(alloc, message, part));
     let bare = ManuallyDrop::new(agent_public_add(alloc, message));
@@ -144,15 +144,13 @@ static NO_KEYS: [(&[u8], AgentCallError); 4] = [
 #[test]
 fn refuses_messages_that_add_nothing(rt: HostRuntime) -> Result<(), Fail> {
     for (place, part) in &NO_PARTS {
-        assert!(rt;
-            has_no_part(rt.alloc(), *place, *part)?,
-            "{part:?} of {place}"
-        );
+        assert!(rt; has_no_part(rt.alloc(), *place, *part)?, "{place}");
     }
     for (message, why) in &NO_KEYS {
         assert!(rt;
             is_refused(rt.alloc(), message, AgentSecret::Comment, *why),
-            "{message:?}"
+            "{why} at {}",
+            message.len()
         );
     }
     Ok(())

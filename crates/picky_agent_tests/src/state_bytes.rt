@@ -20,8 +20,7 @@ fn push_key(alloc: Global, state: &mut Vec<u8>, row: &KeyRow) -> Result<(), Fail
     push_string(state, add.as_slice())
 }
 
-// docs/FORMATS.md, "States of an agent", has the layout.
-/// The state with the key of each row.
+/// The state with the key of each row (docs/FORMATS.md, "States of an agent").
 fn all_keys(alloc: Global) -> Result<Vec<u8>, Fail> {
     let mut state = ManuallyDrop::new(Vec::new(alloc));
     for row in &KEYS {
@@ -103,7 +102,7 @@ fn is_no_state(alloc: Global, bytes: &[u8], why: AgentBytesError) -> bool {
 #[test]
 fn refuses_bytes_that_are_no_state(rt: HostRuntime) {
     for (bytes, why) in &NO_STATES {
-        assert!(rt; is_no_state(rt.alloc(), bytes, *why), "{bytes:?}");
+        assert!(rt; is_no_state(rt.alloc(), bytes, *why), "{why}");
     }
 }
 

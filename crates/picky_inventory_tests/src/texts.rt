@@ -218,34 +218,34 @@ fn bad_of_piece(alloc: Global, before: &[u8], piece: &[u8]) -> Option<usize> {
 const SEALED: &[u8] =
     b"sealed AAAAC3NzaC1lZDI1NTE5AAAAIAAAAAAAAAAAAAAAAAAAAAAAAAAAAAAAAAAAAAAAAAAA \n";
 
-// Two texts, what is bad of both as inventories, and what of the second as a piece behind the first.
-static BAD: [(&[u8], &[u8], Option<usize>, Option<usize>); 7] = [
-    (b"\xff", b"\xff", Some(0), Some(0)),
-    (b"", b"\xff", Some(999), Some(0)),
-    (b"\n", b"\n", Some(1), Some(1)),
-    (SEALED, b"sealed\n", Some(2), Some(1)),
-    (SEALED, SEALED, None, Some(1)),
-    (b"", b"public AAAA aw==", Some(1), Some(1)),
-    (SEALED, b"", None, None),
+/// A name, two texts, what is bad of both as inventories, and what of the second as a piece behind the first.
+type Bad = (
+    &'static str,
+    &'static [u8],
+    &'static [u8],
+    Option<usize>,
+    Option<usize>,
+);
+
+static BAD: [Bad; 7] = [
+    ("two that aren't UTF-8", b"\xff", b"\xff", Some(0), Some(0)),
+    ("the right one isn't", b"", b"\xff", Some(999), Some(0)),
+    ("LF alone", b"\n", b"\n", Some(1), Some(1)),
+    ("a word alone", SEALED, b"sealed\n", Some(2), Some(1)),
+    ("one line twice", SEALED, SEALED, None, Some(1)),
+    ("no LF", b"", b"public AAAA aw==", Some(1), Some(1)),
+    ("nothing", SEALED, b"", None, None),
 ];
 
-fn is_bad(
-    alloc: Global,
-    first: &[u8],
-    second: &[u8],
-    of_two: Option<usize>,
-    of_piece: Option<usize>,
-) -> bool {
-    bad_of_two(alloc, first, second) == of_two && bad_of_piece(alloc, first, second) == of_piece
+fn is_bad(alloc: Global, row: &Bad) -> bool {
+    let (_, first, second, of_two, of_piece) = row;
+    bad_of_two(alloc, first, second) == *of_two && bad_of_piece(alloc, first, second) == *of_piece
 }
 
 #[test]
 fn refuses_bad_lines(rt: HostRuntime) {
-    for (first, second, of_two, of_piece) in &BAD {
-        assert!(rt;
-            is_bad(rt.alloc(), first, second, *of_two, *of_piece),
-            "{of_two:?} {of_piece:?}"
-        );
+    for row in &BAD {
+        assert!(rt; is_bad(rt.alloc(), row), "{}", row.0);
     }
 }
 
