@@ -20,8 +20,8 @@
  *
  *   PICKY_OK                 `len` bytes are handed out: they stand at the front of `out`, with a zero byte behind them. What
  *                            follows is as it was.
- *   PICKY_ASKED              the same, and the bytes are a question ("Questions and answers", below); of picky_convert_by and
- *                            picky_seal_by alone.
+ *   PICKY_ASKED              the same, and the bytes are a question ("Questions and answers", below); of calls that take answers
+ *                            alone.
  *   PICKY_BUFFER_TOO_SMALL   there are `len` bytes to hand out, which may be a question, and `out_len` is `len` or less: `out` is
  *                            as it was. Ask again with a buffer of `len` + 1 bytes; the answer is the same then, but for want of
  *                            memory.
