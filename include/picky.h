@@ -14,7 +14,8 @@
  *     picky_answer answer = picky_fingerprint((picky_bytes){line, strlen(line)}, out, sizeof out);
  *     puts(answer.error == PICKY_OK ? out : picky_error_name(answer.error).text);
  *
- * picky/certificate.h has the fields of certificates, picky/authorized.h those of authorized keys, and picky/errors.h all errors.
+ * picky/certificate.h has the fields of certificates and makes certificates, picky/authorized.h has the fields of authorized keys,
+ * and picky/errors.h all errors.
  *
  * What a call does with `out`, of `out_len` bytes:
  *
