@@ -10,8 +10,10 @@ ghost use Rattle.picky_c.specs.Answer.{AnswersCall, Comes};
 use crate::answer::{PickyAnswer, hand, refuse};
 use crate::error::PickyError;
 use crate::given::PickyBytes;
-use picky_agent_bytes::{AgentCallError, AgentSecret, EcPart, EdPart, RsaPart, SkPart};
-use picky_agent_bytes::{agent_next, agent_public_add, agent_question, agent_reply, agent_secret};
+use picky_agent_bytes::{
+    AgentCallError, AgentSecret, EcPart, EdPart, RsaPart, SkPart, agent_next, agent_public_add,
+    agent_question, agent_reply, agent_secret,
+};
 use picky_target::ConvertError;
 use std::alloc::Global;
 
