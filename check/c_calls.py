@@ -144,21 +144,33 @@ def complaint(picky, numbers, call):
         taken = [kind for it in TYPES[call.function] for kind in kinds[it]]
         function.argtypes, function.restype = [*taken, ctypes.c_char_p, ctypes.c_size_t], picky.Answer
     given = list(itertools.chain.from_iterable(passed(picky, it) for it in call.given))
-    refused = isinstance(call.wanted, str)
-    for room in (0, 64) if refused else (0, 1, len(call.wanted), len(call.wanted) + 1, len(call.wanted) + 64):
+    for room in rooms_of(call):
         buffer = ctypes.create_string_buffer(UNTOUCHED * (room + 8), room + 8)
         answer = function(*given, ctypes.cast(buffer, ctypes.c_char_p), room)
-        if refused:
-            error, length, written = numbers[call.wanted], 0, b""
-        elif room <= len(call.wanted):
-            error, length, written = picky.BUFFER_TOO_SMALL, len(call.wanted), b""
-        else:
-            error, length, written = numbers[call.number], len(call.wanted), call.wanted + b"\0"
-        if (answer.error, answer.len) != (error, length):
-            names = [picky.error_name(it) for it in (answer.error, error)]
-            return f"with {room} bytes of room {names[0]} and {answer.len} bytes, not {names[1]} and {length}"
-        if buffer.raw != written.ljust(room + 8, UNTOUCHED):
-            return f"with {room} bytes of room {buffer.raw[:200]!r} in the buffer, not {written[:200]!r}"
+        told = difference(numbers, call, room, (answer.error, answer.len), buffer.raw)
+        if told:
+            return told
+    return ""
+
+
+def rooms_of(call):
+    """How much room for its answer a call is tried with."""
+    return (0, 64) if isinstance(call.wanted, str) else (0, 1, *(len(call.wanted) + it for it in (0, 1, 64)))
+
+
+def difference(numbers, call, room, answer, buffer):
+    """What is wrong with the number and the length that a call answers, and with the buffer; none where nothing is."""
+    if isinstance(call.wanted, str):
+        wanted, written = (numbers[call.wanted], 0), b""
+    elif room <= len(call.wanted):
+        wanted, written = (numbers["BufferTooSmall"], len(call.wanted)), b""
+    else:
+        wanted, written = (numbers[call.number], len(call.wanted)), call.wanted + b"\0"
+    if answer != wanted:
+        (name, length), (wanted_name, wanted_length) = ((header.error_names().get(it, it), length) for it, length in (answer, wanted))
+        return f"with {room} bytes of room {name} and {length} bytes, not {wanted_name} and {wanted_length}"
+    if buffer != written.ljust(len(buffer), UNTOUCHED):
+        return f"with {room} bytes of room {buffer[:200]!r} in the buffer, not {written[:200]!r}"
     return ""
 
 

@@ -1,6 +1,6 @@
 /*
- * picky from C: SSH keys converted, fingerprinted and taken apart. Every call is proved. ./install PREFIX puts this header and the
- * library there, as an archive and as a shared library:
+ * picky from C: SSH keys converted, fingerprinted and taken apart; and certificates, logins, agents, ledgers and inventories. Every
+ * call is proved. ./install PREFIX puts these headers and the library there, as an archive and as a shared library:
  *
  *     cc -IPREFIX/include program.c PREFIX/lib/libpicky.a
  *     cc program.c $(pkg-config --cflags --libs picky)
@@ -14,28 +14,32 @@
  *     picky_answer answer = picky_fingerprint((picky_bytes){line, strlen(line)}, out, sizeof out);
  *     puts(answer.error == PICKY_OK ? out : picky_error_name(answer.error).text);
  *
- * picky/certificate.h has the fields of certificates, picky/authorized.h those of authorized keys, and picky/errors.h all errors.
+ * Other calls stand in headers by subject: picky/certificate.h takes certificates apart and makes them, picky/authorized.h takes
+ * authorized keys apart, picky/policy.h decides who gets in, picky/agent.h answers what an agent is asked, picky/ledger.h applies
+ * requests, picky/inventory.h lists keys. picky/errors.h has all errors.
  *
  * What a call does with `out`, of `out_len` bytes:
  *
  *   PICKY_OK                 `len` bytes are handed out: they stand at the front of `out`, with a zero byte behind them. What
  *                            follows is as it was.
- *   PICKY_ASKED              the same, and the bytes are a question ("Questions and answers", below); of picky_convert_by and
- *                            picky_seal_by alone.
- *   PICKY_BUFFER_TOO_SMALL   there are `len` bytes to hand out, which may be a question, and `out_len` is `len` or less: `out` is
+ *   PICKY_ASKED              the same, and the bytes are a question ("Questions and answers", below), or several; of a call that
+ *                            takes answers alone.
+ *   PICKY_DENIED + ..,       the same, where the call says which bytes come with such a number.
+ *   PICKY_BAD_LINE, ..
+ *   PICKY_BUFFER_TOO_SMALL   there are `len` bytes to hand out, of whichever number, and `out_len` is `len` or less: `out` is
  *                            as it was. Ask again with a buffer of `len` + 1 bytes; the answer is the same then, but for want of
  *                            memory.
  *   any other error          there are no bytes, for the first reason in the order that the call states: `len` is 0, and `out`
  *                            is as it was.
  *
- * What is given determines the answer, but that PICKY_NO_MEMORY may come in its place, and PICKY_NO_CIPHER or PICKY_ASKED where
- * something is to be encrypted or decrypted.
+ * What is given determines the answer, but that PICKY_NO_MEMORY may come in its place, and of this page's calls PICKY_NO_CIPHER
+ * or PICKY_ASKED where something is to be encrypted or decrypted.
  *
  * The calls keep nothing, have no state and take no callback. They may run in any number of threads at once.
  *
  * ---- What is proved, and of which caller
  *
- * The contracts of crates/picky_c/src/exports.rt say the above and what stands at each call, and are proved for every text,
+ * The contracts of the calls, in crates/picky_c/src, say the above and what stands at each call, and are proved for every text,
  * number and length: whatever the bytes, a call ends, and reads and writes nothing else. That it frees what it allocates is
  * tried by check/c, not proved. No proof sees a caller in C. It has to see to this:
  *

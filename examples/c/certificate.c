@@ -32,7 +32,8 @@ static void print_key(const char *before, uint32_t part, const char *behind) {
     picky_bytes key = text;
     if (part == PICKY_CERTIFICATE_ISSUER_LINE) {
         picky_answer line = picky_certificate_part(text, part, 0, field, sizeof field);
-        key = (picky_bytes){field, line.len};
+        key.at = field;
+        key.len = line.len;
     }
     if (picky_fingerprint(key, print, sizeof print).error != PICKY_OK || picky_read_public(key, PICKY_TYPE_NAME, name, sizeof name).error != PICKY_OK)
         return;
@@ -104,7 +105,7 @@ static int print_certificate(const char *name) {
 
 int main(int argc, char **argv) {
     int failed = 0;
-    char *bytes = malloc(LARGEST_FILE);
+    char *bytes = (char *)malloc(LARGEST_FILE);
     if (bytes == NULL)
         return 3;
     for (int i = 1; i < argc; i++) {
@@ -114,7 +115,8 @@ int main(int argc, char **argv) {
             fprintf(stderr, "%s: can't be read\n", argv[i]);
             failed = 1;
         } else {
-            text = (picky_bytes){bytes, len};
+            text.at = bytes;
+            text.len = len;
             failed |= print_certificate(argv[i]);
         }
         if (stream != NULL)

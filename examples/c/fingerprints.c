@@ -20,7 +20,7 @@ enum { LARGEST_FILE = 1 << 24 };
 static picky_bytes read_file(const char *folder, const char *name) {
     picky_bytes file = {NULL, 0};
     size_t room = strlen(folder) + strlen(name) + 2;
-    char *path = malloc(room);
+    char *path = (char *)malloc(room);
     if (path == NULL)
         return file;
     snprintf(path, room, "%s/%s", folder, name);
@@ -28,7 +28,7 @@ static picky_bytes read_file(const char *folder, const char *name) {
     free(path);
     if (stream == NULL)
         return file;
-    char *bytes = malloc(LARGEST_FILE);
+    char *bytes = (char *)malloc(LARGEST_FILE);
     size_t len = bytes == NULL ? 0 : fread(bytes, 1, LARGEST_FILE, stream);
     if (bytes == NULL || ferror(stream) || !feof(stream)) {
         free(bytes);
@@ -46,7 +46,7 @@ static char *part_of(picky_bytes text, uint32_t part) {
     picky_answer answer = picky_read_public(text, part, nothing, 0);
     if (answer.error != PICKY_BUFFER_TOO_SMALL)
         return NULL;
-    char *bytes = malloc(answer.len + 1);
+    char *bytes = (char *)malloc(answer.len + 1);
     if (bytes == NULL)
         return NULL;
     answer = picky_read_public(text, part, bytes, answer.len + 1);

@@ -46,7 +46,7 @@ static void fail(int which, size_t out_len, picky_answer answer, const char *why
 
 /* One call with a buffer of this length, held against the answer with one of any length. */
 static picky_answer attempt(int which, picky_bytes text, size_t out_len, const unsigned char *wanted, picky_answer whole) {
-    unsigned char *out = malloc(out_len > 0 ? out_len : 1);
+    unsigned char *out = (unsigned char *)malloc(out_len > 0 ? out_len : 1);
     if (out == NULL)
         exit(3);
     memset(out, UNTOUCHED, out_len);
@@ -88,7 +88,7 @@ static void try_text(picky_bytes text) {
                 attempt(which, text, out_len, NULL, first);
             continue;
         }
-        unsigned char *wanted = malloc(first.len + 1);
+        unsigned char *wanted = (unsigned char *)malloc(first.len + 1);
         if (wanted == NULL)
             exit(3);
         picky_answer whole = call(which, text, wanted, first.len + 1);
@@ -103,7 +103,8 @@ static void try_text(picky_bytes text) {
     }
 }
 
-static void *try_file(void *path) {
+static void *try_file(void *given) {
+    const char *path = (const char *)given;
     FILE *stream = fopen(path, "rb");
     if (stream == NULL || fseek(stream, 0, SEEK_END) != 0) {
         perror(path);
@@ -111,13 +112,14 @@ static void *try_file(void *path) {
     }
     size_t len = (size_t)ftell(stream);
     rewind(stream);
-    char *bytes = malloc(len > 0 ? len : 1);
+    char *bytes = (char *)malloc(len > 0 ? len : 1);
     if (bytes == NULL || fread(bytes, 1, len, stream) != len)
         exit(3);
     fclose(stream);
-    try_text((picky_bytes){bytes, len});
+    picky_bytes text = {bytes, len}, nothing = {NULL, 0};
+    try_text(text);
     if (len == 0)
-        try_text((picky_bytes){NULL, 0});
+        try_text(nothing);
     free(bytes);
     return NULL;
 }

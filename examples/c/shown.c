@@ -48,7 +48,7 @@ static int print_text(const char *name, picky_bytes text) {
 
 int main(int argc, char **argv) {
     int failed = 0;
-    char *bytes = malloc(LARGEST_FILE);
+    char *bytes = (char *)malloc(LARGEST_FILE);
     if (bytes == NULL)
         return 3;
     for (int i = 1; i < argc; i++) {
@@ -58,7 +58,8 @@ int main(int argc, char **argv) {
             fprintf(stderr, "%s: can't be read\n", argv[i]);
             failed = 1;
         } else {
-            failed |= print_text(argv[i], (picky_bytes){bytes, len});
+            picky_bytes text = {bytes, len};
+            failed |= print_text(argv[i], text);
         }
         if (stream != NULL)
             fclose(stream);

@@ -52,6 +52,62 @@ enum {
  */
 picky_answer picky_certificate_part(picky_bytes text, uint32_t part, size_t place, void *out, size_t out_len);
 
+/*
+ * ---- Certificates that are asked for
+ *
+ * `words` say what is asked for: options, each before its value, in any order. A value may begin with a dash.
+ *
+ *   --type        the type of certificates that is for the key, as "ssh-ed25519-cert-v01@openssh.com"; none is made for NIST P-521
+ *   --kind        "client" for a user's, or "host"
+ *   --after       the first second at which it is valid, since 1970, as "0"; numbers are decimal and below 2^64
+ *   --before      the first at which it is valid no more, as "18446744073709551615"
+ *   --serial      a number; without the word it is 0
+ *   --id          by which the issuer logs it; without the word it is empty
+ *   --principal   a name that it is for; may be there several times, and so may these two:
+ *   --critical    a critical option of a user's, NAME or NAME=TEXT: force-command, source-address or verify-required
+ *   --extension   an extension of a user's, NAME or NAME=TEXT; without the word these are permit-X11-forwarding,
+ *                 permit-agent-forwarding, permit-port-forwarding, permit-pty and permit-user-rc
+ *   --algorithm   how the issuer signs: rsa-sha1, rsa-sha2-256, rsa-sha2-512, ecdsa-sha2-256, ecdsa-sha2-384, ecdsa-sha2-512 or
+ *                 ed25519. Without the word it is by the kind of the key that is certified, and rsa-sha2-256 for RSA: so give it
+ *                 where the issuer's key is of another kind or curve
+ *
+ * The first four have to be there. `issuer` and `key` are key texts, public or private, and read without a passphrase. Of the
+ * issuer's the public key alone counts, and of the key's the public key and the comment, which goes into the line. `fresh` are 32
+ * bytes or more that nobody can guess; the first 32 are the nonce.
+ *
+ * What is handed out has nothing secret in it, also where a text is a private key's.
+ */
+
+/*
+ * What is to be signed of the certificate: its bytes before the signature (OpenSSH's PROTOCOL.certkeys).
+ *
+ * Reasons, in order: PICKY_WORD_NOT_UTF8, or PICKY_TOO_LONG, of the first word that is wrong; PICKY_ISSUER_NOT_UTF8;
+ * PICKY_TEXT_NOT_UTF8, of the key's; PICKY_BAD_WORDS; PICKY_ISSUER_..; PICKY_INPUT_..; PICKY_COMMENT_NOT_CARRIED; PICKY_REQUEST +
+ * PICKY_REQUEST_NO_KEY_TYPE, _UNSUPPORTED_CERTIFICATE_KEY_TYPE, _MISSING_CERTIFICATE_TYPE, _INVALID_TIME,
+ * _HOST_CERTIFICATE_EXTENSIONS, _HOST_CERTIFICATE_CRITICAL_OPTIONS or _INCORRECT_SIGNATURE_ALGORITHM; PICKY_FRESH_TOO_SHORT;
+ * PICKY_TOO_LONG; PICKY_BUFFER_TOO_SMALL.
+ */
+picky_answer picky_certificate_draft(const picky_bytes *words, size_t words_len, picky_bytes issuer, picky_bytes key,
+                                     picky_bytes fresh, void *out, size_t out_len);
+
+/*
+ * The certificate's line, which ends in CR LF; or with PICKY_ASKED the question for its signature, as those of picky.h: string
+ * head, string text. The text is what picky_certificate_draft hands out, and the head is a byte 6, a byte for the kind of the
+ * issuer's key (1 RSA, 2 ECDSA, 3 Ed25519), a byte for the digest (2 SHA-1, 4 SHA-256, 5 SHA-384, 6 SHA-512; 0 of Ed25519), and
+ * string blob, of the issuer's public key. The answer is the signature's bytes behind the name of its format: of RSA the number, as
+ * long as n (RFC 8332, section 3); of ECDSA mpint r, mpint s (RFC 5656, section 3.1.2); of Ed25519 64 bytes (RFC 8709, section 6).
+ *
+ * So two calls are enough: one with no answers, and one with the question and behind it the answer as a string. The first answer to
+ * the question counts, and other entries of the table aren't used. Give both calls the same words, texts and fresh bytes: under
+ * others the question is another one. The answer goes into the line as it is, and nobody looks whether it is a good signature. The
+ * line is read as the key's public part and its comment.
+ *
+ * Reasons, in order: as picky_certificate_draft, but PICKY_ANSWERS_.. of a table that is none come before PICKY_BAD_WORDS, and
+ * PICKY_TOO_LONG of the line last; PICKY_BUFFER_TOO_SMALL, of a question too.
+ */
+picky_answer picky_certify_by(const picky_bytes *words, size_t words_len, picky_bytes issuer, picky_bytes key, picky_bytes fresh,
+                              picky_bytes answers, void *out, size_t out_len);
+
 #ifdef __cplusplus
 }
 #endif

@@ -2,6 +2,8 @@
 #![tactic(auto)]
 
 #[cfg(test)]
+mod added_parts;
+#[cfg(test)]
 mod asked;
 #[cfg(test)]
 mod calls;
@@ -16,8 +18,12 @@ mod keys;
 #[cfg(test)]
 mod locks;
 #[cfg(test)]
+mod question;
+#[cfg(test)]
 mod serving;
 #[cfg(test)]
 mod signing;
+#[cfg(test)]
+mod state_bytes;
 #[cfg(test)]
 mod talks;

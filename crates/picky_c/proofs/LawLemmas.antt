@@ -17,7 +17,7 @@ use Rattle.picky_c.specs.Refusal.{refusal_of}
 use Rattle.picky_c.specs.Number.{IsAnswered}
 use Rattle.picky_c.specs.declared.error.PickyError.TheVariants as calls
 
-own_is_answered : (e : ConvertError) → IsOwnConvert e → IsAnswered e
+pub own_is_answered : (e : ConvertError) → IsOwnConvert e → IsAnswered e
 own_is_answered e own = record { no_memory = own.0; no_fault = own.1 }
 
 pub reading_answered : (r : Reader) (text : List ℕ) (e : ReadError) → reading r text ≡ Err e → IsAnswered (errors.Input e)

@@ -7,3 +7,4 @@ pub mod GivenLemmas
 pub mod ShownLemmas
 pub mod CommentLemmas
 pub mod RefusedLemmas
+pub mod CertifyLemmas

@@ -2,6 +2,7 @@ pub mod Refusal
 pub mod Number
 pub mod Name
 pub mod Answer
+pub mod Told
 pub mod Given
 pub mod Target
 pub mod Part

@@ -18,10 +18,7 @@ pub struct PickyBytes<'a> {
 }
 
 /// The bytes of each. Refuses: `NoMemory`.
-pub fn bytes_of<'a>(
-    alloc: Global,
-    given: &[PickyBytes<'a>],
-) -> Result<Vec<&'a [u8]>, PickyError>
+pub fn bytes_of<'a>(alloc: Global, given: &[PickyBytes<'a>]) -> Result<Vec<&'a [u8]>, PickyError>
     ensures { Gives PickyError.NoMemory (λ list. map (λ bytes. bytes.now) list.items) result (Ok (bytes_given given.now)) }
 {
     let mut list = Vec::new(alloc);

@@ -16,6 +16,8 @@ ghost use Rattle.picky_ask.specs.Known.{Agrees, with_hmac};
 ghost use Rattle.picky_conversion.specs.Convert.{IsConversion, conversion};
 ghost use Rattle.picky_conversion.specs.Outside.{Outside};
 ghost use Rattle.picky_convert.specs.Report.{name, path};
+ghost use Rattle.picky_certify.specs.Certify.{Given as Texts, certified_in, draft_in};
+ghost use Rattle.picky_certify.specs.declared.error.CertifyError.TheVariants as certify;
 ghost use Rattle.picky_c.specs.declared.error.PickyError.TheVariants as errors;
 ghost use Rattle.picky_c.specs.declared.error.PickyError.{PickyError as Reason};
 ghost use Rattle.picky_c.specs.declared.round.Round.{Round as ARound};
@@ -41,6 +43,13 @@ pub fn refusals_are_answered()
     ensures shown { (text : List ℕ) (e : ReadRefusal) → shows plain text ≡ Err e → IsAnswered (refusals.Input e) }
     ensures comment { (comment text : List ℕ) (e : Refusal) → commented_text plain comment text ≡ Err e → IsAnswered e }
     ensures refusal { (e : Refusal) → IsAnswered e → refusal_of e ≡ errors.Refused e }
+{}
+
+/// What is refused of a certificate that is asked for is answered as a refusal, too, whether its signed bytes are asked for or its line.
+#[tactic(auto, using(crate::proofs::CertifyLemmas::draft_answered, crate::proofs::CertifyLemmas::line_answered))]
+pub fn refusals_of_certificates_are_answered()
+    ensures draft { (g : Texts) (e : Refusal) → draft_in g ≡ Err (certify.Refused e) → IsAnswered e }
+    ensures line { (g : Texts) (answers : List ℕ) (e : Refusal) → certified_in g answers ≡ Err (certify.Refused e) → IsAnswered e }
 {}
 
 /// Where each answer is what some meanings give, a conversion by the answers is one under these, with the library's MACs: its text,

@@ -26,3 +26,4 @@ mod sealing;
 mod shown;
 mod shown_part;
 mod target;
+mod told;

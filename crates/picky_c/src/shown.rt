@@ -220,7 +220,7 @@ fn number(alloc: Global, number: Option<u32>) -> Result<Vec<u8>, PickyError>
 }
 
 /// The number in decimal. Refuses: `NoMemory`.
-fn digits(alloc: Global, number: usize) -> Result<Vec<u8>, PickyError>
+pub fn digits(alloc: Global, number: usize) -> Result<Vec<u8>, PickyError>
     ensures { Gives PickyError.NoMemory (λ bytes. bytes.items) result (Ok (decimal number)) }
 {
     match format!(in alloc; "{number}") {

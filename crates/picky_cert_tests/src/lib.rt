@@ -14,6 +14,8 @@ mod cert_streams;
 #[cfg(test)]
 mod certificate_and_view;
 #[cfg(test)]
+mod certificate_field;
+#[cfg(test)]
 mod conversion;
 #[cfg(test)]
 mod line;

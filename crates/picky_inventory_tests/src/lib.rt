@@ -19,3 +19,5 @@ mod run_and_status;
 mod runs;
 #[cfg(test)]
 mod sealed_parts;
+#[cfg(test)]
+mod texts;

@@ -2,6 +2,8 @@
 #![tactic(auto)]
 
 #[cfg(test)]
+mod certifying;
+#[cfg(test)]
 mod devices;
 #[cfg(test)]
 mod issued;

@@ -7,17 +7,17 @@ use std::mem::ManuallyDrop;
 use std::test::Fail;
 
 /// What is asked, the signature of its first so many bytes, and the line.
-struct OpenSshRow {
-    name: &'static str,
-    words: &'static [&'static str],
-    source: &'static str,
-    signed_len: usize,
-    signature: &'static [u8],
-    line: &'static str,
+pub struct OpenSshRow {
+    pub name: &'static str,
+    pub words: &'static [&'static str],
+    pub source: &'static str,
+    pub signed_len: usize,
+    pub signature: &'static [u8],
+    pub line: &'static str,
 }
 
 // The nonce: bytes(range(32)).
-const FRESH: &[u8] = &[
+pub const FRESH: &[u8] = &[
     0, 1, 2, 3, 4, 5, 6, 7, 8, 9, 10, 11, 12, 13, 14, 15, 16, 17, 18, 19, 20, 21, 22, 23, 24, 25,
     26, 27, 28, 29, 30, 31,
 ];
@@ -135,7 +135,7 @@ static BY_P256: OpenSshRow = OpenSshRow {
     line: "ecdsa-sha2-nistp256-cert-v01@openssh.com AAAAKGVjZHNhLXNoYTItbmlzdHAyNTYtY2VydC12MDFAb3BlbnNzaC5jb20AAAAgAAECAwQFBgcICQoLDA0ODxAREhMUFRYXGBkaGxwdHh8AAAAIbmlzdHAyNTYAAABBBF7079ieXa0iDCHGU2U3UTtqkHqhAD/9v/MiI1qmDc2OUiDZsZmtdNGhzF1TnOQEk568QeCAa6vMJJa3A7yv7PMAAAAAAAAAAAAAAAIAAAAAAAAAFAAAABBob3N0LmV4YW1wbGUub3JnAAAAAAAAAAD//////////wAAAAAAAAAAAAAAAAAAAGgAAAATZWNkc2Etc2hhMi1uaXN0cDI1NgAAAAhuaXN0cDI1NgAAAEEEKpI3MFPBrEAuFP8Qkf+Qcz7Ch8b2MGDHt4RoppR5NcRz+4XS3IDPaMvBiJRUv9uQsUIswWVKu/090skyrK7UQgAAAGUAAAATZWNkc2Etc2hhMi1uaXN0cDI1NgAAAEoAAAAhAOjaL/iytczrsvlw+zav2F8bzALWmdwlSj+B9ddj/2C0AAAAIQDhQdNwpiSgyaund/O0cmRGUAUOtUWjYMnr4DCKxBhXbA== host.example.org\r\n",
 };
 
-fn openssh_row(number: usize) -> &'static OpenSshRow {
+pub fn openssh_row(number: usize) -> &'static OpenSshRow {
     match number {
         0 => ed25519_row(),
         1 => rsa_row(),

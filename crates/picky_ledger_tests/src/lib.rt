@@ -6,6 +6,8 @@ mod answer_and_status;
 #[cfg(test)]
 mod apply;
 #[cfg(test)]
+mod apply_requests;
+#[cfg(test)]
 mod asked;
 #[cfg(test)]
 mod calls;
