@@ -327,7 +327,6 @@ pub use Rattle.picky_ledger.specs.Runs
 pub use Rattle.picky_ledger.specs.State as LedgerState
 pub use Rattle.picky_ledger_by.specs.Applied
 pub use Rattle.picky_ledger_by.specs.Lacked
-pub use Rattle.picky_ask.specs.declared.lookup.Mode as ModeType
 pub use Rattle.picky_cert_parts.specs.declared.known_extension.KnownExtension as KnownExtensionType
 pub use Rattle.picky_convert.specs.declared.command.Command as CommandType
 pub use Rattle.picky_issuing.specs.declared.option_word.OptionWord as OptionWordType

@@ -1,12 +1,17 @@
 -- One request at a ledger is a run of one request.
-use Rattle.std.proofs.Common.{◌≡◌, ℕ, List, [], ◌∷◌, Result, Ok, Err, refl, sym, subst, length, arith}
+use Rattle.std.proofs.Common.{◌≡◌, ◌⊎◌, ℕ, List, [], ◌∷◌, Result, Ok, Err, inl, inr, refl, sym, subst, length, arith}
 use Rattle.std.proofs.lemmas.List.{take_all}
 use Rattle.picky.specs.Apply.{Applies, SignatureAsked, judged_request_line}
 use Rattle.picky.specs.LedgerState.{IsLedger, State}
 use Rattle.picky.specs.Runs.{IsAfter, Runs, Step, terms_by}
 use Rattle.picky.specs.Signs.{SignRelation}
+use Rattle.picky.specs.LedgerText.{ledger_written, read}
+use Rattle.picky.specs.declared.ledger.LedgerError.{LedgerError}
+use Rattle.picky.specs.declared.ledger.LedgerError.TheVariants as errors
 use Rattle.picky.specs.declared.ledger.Reply.{Reply}
 use Rattle.picky.specs.declared.ssh.SshBasePublicKey.{SshBasePublicKey}
+use Rattle.picky.specs.declared.wire.SizeError.{SizeError}
+use Rattle.picky_callers.specs.Entered.{IsEntered}
 
 -- a reply says nothing of the signer's count
 replied : (signs : SignRelation) (old new : State) (line : List ℕ) (says : Result SignatureAsked Reply) (rose : Type 0) (reply : Reply)
@@ -14,7 +19,7 @@ replied : (signs : SignRelation) (old new : State) (line : List ℕ) (says : Res
 replied signs old new line (Ok asked) rose reply applies = applies
 replied signs old new line (Err answer) rose reply applies = applies
 
-pub applied_step : (signs : SignRelation) (issuer : SshBasePublicKey) (old new : State) (nonce line : List ℕ) (rose : Type 0)
+applied_step : (signs : SignRelation) (issuer : SshBasePublicKey) (old new : State) (nonce line : List ℕ) (rose : Type 0)
     (reply : Reply) → length nonce ≡ 32
     → Applies signs old line (judged_request_line (record { issuer = issuer; nonce = nonce }) old line) rose (Ok reply) new
     → Step signs issuer old nonce line new reply
@@ -24,6 +29,29 @@ applied_step signs issuer old new nonce line rose reply len applies =
     (sym (take_all 32 nonce (omega (arith, len))))
     (replied signs old new line (judged_request_line (record { issuer = issuer; nonce = nonce }) old line) rose reply applies)
 
-pub step_runs : (signs : SignRelation) (issuer : SshBasePublicKey) (old new : State) (nonce line : List ℕ) (reply : Reply)
+step_runs : (signs : SignRelation) (issuer : SshBasePublicKey) (old new : State) (nonce line : List ℕ) (reply : Reply)
     → Step signs issuer old nonce line new reply → Runs signs issuer old nonce (line ∷ []) new (reply ∷ [])
 step_runs signs issuer old new nonce line reply step = (new, reply, [], step, (refl, refl), refl)
+
+pub entered : (signs : SignRelation) (issuer : SshBasePublicKey) (old new : State) (nonce ledger request : List ℕ) (rose : Type 0)
+    (reply : Reply) (written : Result (List ℕ) SizeError) → read ledger ≡ Ok old → IsLedger old → length nonce ≡ 32
+    → ((state : State) (rs : List Reply) → Runs signs issuer old nonce (request ∷ []) state rs
+    → IsAfter signs issuer old (request ∷ []) state rs)
+    → Applies signs old request (judged_request_line (record { issuer = issuer; nonce = nonce }) old request) rose (Ok reply) new
+    → ledger_written new ≡ written → IsEntered signs issuer nonce ledger request reply written
+entered signs issuer old new nonce ledger request rose reply written is_read is len law applies is_written =
+    let step = applied_step signs issuer old new nonce request rose reply len applies in
+    record {
+      old = old;
+      new = new;
+      is_read = is_read;
+      step = step;
+      after = law new (reply ∷ []) (step_runs signs issuer old new nonce request reply step);
+      is_written = is_written;
+    }
+
+pub why_unentered : (signs : SignRelation) (old new : State) (line : List ℕ) (says : Result SignatureAsked Reply) (rose : Type 0)
+    (e : LedgerError) → Applies signs old line says rose (Err e) new → (e ≡ errors.NoMemory) ⊎ ((e ≡ errors.SignerFault) × rose)
+why_unentered signs old new line (Ok asked) rose errors.SignerFault fault = inr (refl, fault.0)
+why_unentered signs old new line (Err answer) rose errors.SignerFault never = absurd never
+why_unentered signs old new line says rose errors.NoMemory stays = inl refl
