@@ -55,3 +55,7 @@ pub why_unentered : (signs : SignRelation) (old new : State) (line : List ℕ) (
 why_unentered signs old new line (Ok asked) rose errors.SignerFault fault = inr (refl, fault.0)
 why_unentered signs old new line (Err answer) rose errors.SignerFault never = absurd never
 why_unentered signs old new line says rose errors.NoMemory stays = inl refl
+
+pub unwritten : {A B C : Type 0} → (B → C) → A ⊎ B → A ⊎ C
+unwritten then (inl want) = inl want
+unwritten then (inr refused) = inr (then refused)

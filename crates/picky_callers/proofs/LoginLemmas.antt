@@ -23,11 +23,14 @@ chosen false entries given e is = absurd (cc is)
 pub read_entries : (text : List ℕ) (given : List AuthEntry) → keys_in text ≡ Ok given → entries_in text ≡ given
 read_entries text given is = chosen (is_short text) (entries_in text) given _ is
 
+abbrev pub answered : Decision → Result Decision DecideError
+answered decision = Ok decision
+
 pub decision_is : (verifies : VerifyRelation) (entries : List AuthEntry) (offer : Offer) (user : List ℕ) (moment : Timestamp)
     (asked : Bool) (rose : Type 0) (decision : Decision)
     → Decides (Accepts verifies offer) (decided entries offer user moment) asked rose (Ok decision)
-    → ((grant : Grant) → Result.Ok {_} {_} {Decision} {DecideError} decision ≡ Ok (decisions.Granted grant) → Allows verifies entries offer user moment grant)
-    → ((why : Denial) (grant : Grant) → Result.Ok {_} {_} {Decision} {DecideError} decision ≡ Ok (decisions.Denied why)
+    → ((grant : Grant) → answered decision ≡ Ok (decisions.Granted grant) → Allows verifies entries offer user moment grant)
+    → ((why : Denial) (grant : Grant) → answered decision ≡ Ok (decisions.Denied why)
     → Allows verifies entries offer user moment grant → ⊥)
     → IsDecision verifies entries offer user moment decision
 decision_is verifies entries offer user moment asked rose decision decides granted denied = record {
