@@ -1,6 +1,6 @@
 -- What a decision says of who is let in.
 use Rattle.std.proofs.Common.{◌≡◌, ◌⊎◌, ℕ, Bool, true, false, List, Result, Ok, Err, ap, inl, inr, refl, sym, if◌then◌else◌}
-use Rattle.picky.specs.Decided.{Accepts, Allows, Decides, IsDecision, decided}
+use Rattle.picky.specs.Decided.{Accepts, Allows, IsDecision, IsDecisionBy, decided}
 use Rattle.picky.specs.Entries.{entries_in, keys_in}
 use Rattle.picky.specs.SshPublicLineRefusal.{is_short}
 use Rattle.picky.specs.Verifies.{VerifyRelation}
@@ -27,19 +27,13 @@ abbrev pub answered : Decision → Result Decision DecideError
 answered decision = Ok decision
 
 pub decision_is : (verifies : VerifyRelation) (entries : List AuthEntry) (offer : Offer) (user : List ℕ) (moment : Timestamp)
-    (asked : Bool) (rose : Type 0) (decision : Decision)
-    → Decides (Accepts verifies offer) (decided entries offer user moment) asked rose (Ok decision)
+    (decision : Decision) → IsDecisionBy (Accepts verifies offer) (decided entries offer user moment) decision
     → ((grant : Grant) → answered decision ≡ Ok (decisions.Granted grant) → Allows verifies entries offer user moment grant)
     → ((why : Denial) (grant : Grant) → answered decision ≡ Ok (decisions.Denied why)
     → Allows verifies entries offer user moment grant → ⊥)
     → IsDecision verifies entries offer user moment decision
-decision_is verifies entries offer user moment asked rose decision decides granted denied = record {
+decision_is verifies entries offer user moment decision decides granted denied = record {
   answers = decides;
   granted = λ grant is. granted grant (ap Ok is);
   denied = λ why grant is. denied why grant (ap Ok is);
 }
-
-pub why_undecided : (accepts : Type 0) (says : Result Grant Denial) (asked : Bool) (rose : Type 0) (e : DecideError)
-    → Decides accepts says asked rose (Err e) → (e ≡ errors.NoMemory) ⊎ ((e ≡ errors.VerifierFault) × rose)
-why_undecided accepts says asked rose errors.VerifierFault fault = inr (refl, fault.1)
-why_undecided accepts says asked rose errors.NoMemory want = inl refl

@@ -83,11 +83,11 @@ pub failure_steps : {E : Type 0} (signs : SignRelation) (kept : Kept) (before af
     → ((asked : SignRequest) → request_of message ≡ Sign asked → IsQuestion kept asked question
     → Step signs (machine kept before) message failure (machine kept (count_one before)))
     → IfOk result (λ reply. reply ≡ failure) → IfOk result (StepsTo signs (machine kept before) message kept may_sign after)
-failure_steps signs kept before after message question may_sign (Ok reply) no is law fails =
+failure_steps signs kept before after message question may_sign (Ok reply) without is law fails =
     let asked = asks kept (request_of message) question is in (
       count_one before,
-      λ yes. absurd (cc (sym no, yes)),
+      λ yes. absurd (cc (sym without, yes)),
       subst (λ (r : List ℕ). Step signs (machine kept before) message r (machine kept (count_one before))) (sym fails)
           (law asked.0 asked.1 asked.2),
     )
-failure_steps signs kept before after message question may_sign (Err e) no is law fails = tt
+failure_steps signs kept before after message question may_sign (Err e) without is law fails = tt

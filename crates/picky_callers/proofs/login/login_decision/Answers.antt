@@ -16,6 +16,6 @@ returns-in-Ok-decide-clause-ok g c =
       (c.text_is_one_offer.ensures c.args.offer.now offer small).0 c.in-Ok-from_str.ensures,
       subst (λ (entries : List AuthEntry). IsDecision verifies entries offer c.args.user.now c.args.now c.in-Ok-decide.decision)
           (sym (read_entries c.args.authorized_keys.now c.in-Ok.entries c.in-Ok.ensures.gives))
-          (decision_is verifies c.in-Ok.entries offer c.args.user.now c.args.now _ _ c.in-Ok-decide.decision
+          (decision_is verifies c.in-Ok.entries offer c.args.user.now c.args.now c.in-Ok-decide.decision
           c.in-Ok-decide.ensures.decides c.in-Ok-decide.ensures.granted c.in-Ok-decide.ensures.denied),
     )
