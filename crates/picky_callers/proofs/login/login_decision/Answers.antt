@@ -10,8 +10,7 @@ pub returns-in-Ok-decide-clause-ok : goal.returns-in-Ok-decide-clause-ok
 returns-in-Ok-decide-clause-ok g c =
     let verifies = g.V.Verifier.verifies c.args.verifier.now in
     let offer = c.in-Ok-from_str.offer in
-    let small : IsBytes c.args.offer.now = λ i. let fits = c.type_inv.offer i in omega (arith, fits) in
-    (
+    let small : IsBytes c.args.offer.now = λ i. let fits = c.type_inv.offer i in omega (arith, fits) in (
       offer,
       (c.text_is_one_offer.ensures c.args.offer.now offer small).0 c.in-Ok-from_str.ensures,
       subst (λ (entries : List AuthEntry). IsDecision verifies entries offer c.args.user.now c.args.now c.in-Ok-decide.decision)
