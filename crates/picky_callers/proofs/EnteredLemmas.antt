@@ -3,11 +3,9 @@ use Rattle.std.proofs.Common.{◌≡◌, ◌⊎◌, ℕ, List, [], ◌∷◌, Re
 use Rattle.std.proofs.lemmas.List.{take_all}
 use Rattle.picky.specs.Apply.{Applies, SignatureAsked, judged_request_line}
 use Rattle.picky.specs.LedgerState.{IsLedger, State}
-use Rattle.picky.specs.Runs.{IsAfter, Runs, Step, terms_by}
+use Rattle.picky.specs.Runs.{IsAfter, Runs, Step}
 use Rattle.picky.specs.Signs.{SignRelation}
 use Rattle.picky.specs.LedgerText.{ledger_written, read}
-use Rattle.picky.specs.declared.ledger.LedgerError.{LedgerError}
-use Rattle.picky.specs.declared.ledger.LedgerError.TheVariants as errors
 use Rattle.picky.specs.declared.ledger.Reply.{Reply}
 use Rattle.picky.specs.declared.ssh.SshBasePublicKey.{SshBasePublicKey}
 use Rattle.picky.specs.declared.wire.SizeError.{SizeError}
@@ -49,12 +47,6 @@ entered signs issuer old new nonce ledger request rose reply written is_read is 
       after = law new (reply ∷ []) (step_runs signs issuer old new nonce request reply step);
       is_written = is_written;
     }
-
-pub why_unentered : (signs : SignRelation) (old new : State) (line : List ℕ) (says : Result SignatureAsked Reply) (rose : Type 0)
-    (e : LedgerError) → Applies signs old line says rose (Err e) new → (e ≡ errors.NoMemory) ⊎ ((e ≡ errors.SignerFault) × rose)
-why_unentered signs old new line (Ok asked) rose errors.SignerFault fault = inr (refl, fault.0)
-why_unentered signs old new line (Err answer) rose errors.SignerFault never = absurd never
-why_unentered signs old new line says rose errors.NoMemory stays = inl refl
 
 pub unwritten : {A B C : Type 0} → (B → C) → A ⊎ B → A ⊎ C
 unwritten then (inl want) = inl want

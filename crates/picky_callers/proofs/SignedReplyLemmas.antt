@@ -49,22 +49,11 @@ answer_is_signed signs old new message asked (Ok reply) request step =
     step_is_signed signs old new message reply asked request step
 answer_is_signed signs old new message asked (Err e) request step = tt
 
-pub failure_is_unsigned : {E : Type 0} (signs : SignRelation) (asked : SignRequest) (result : Result (List ℕ) E)
-    → IfOk result (λ reply. reply ≡ failure) → IfOk result (FailsOrIsSigned signs asked)
-failure_is_unsigned signs asked (Ok reply) fails = inl fails
-failure_is_unsigned signs asked (Err e) fails = tt
-
 -- ---- the reply is the agent's
 
 abbrev pub StepsTo : SignRelation → (old : Machine) → (message : List ℕ) → Kept → (may_sign : Bool) → (after : ℕ) → (reply : List ℕ) → Type 0
 StepsTo signs old message kept may_sign after reply =
     (faults : ℕ) × (IsTrue may_sign → faults ≡ after) × Step signs old message reply (machine kept faults)
-
-pub answer_steps : {E : Type 0} (signs : SignRelation) (old : Machine) (message : List ℕ) (kept : Kept) (may_sign : Bool) (after : ℕ)
-    (result : Result (List ℕ) E) → IfOk result (λ reply. Step signs old message reply (machine kept after))
-    → IfOk result (StepsTo signs old message kept may_sign after)
-answer_steps signs old message kept may_sign after (Ok reply) step = (after, λ yes. refl, step)
-answer_steps signs old message kept may_sign after (Err e) step = tt
 
 -- only what asks for a signature has a question
 asks : (kept : Kept) (request : Request) (question : Question) → IsQuestionOn kept request question
