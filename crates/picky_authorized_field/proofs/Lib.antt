@@ -1,4 +1,3 @@
-pub mod TextLemmas
 pub mod OrderLaws
 pub mod SaidLemmas
 pub mod KeyLineLaws

@@ -8,8 +8,8 @@ use crate::error::{AuthFieldError, keys_refusal};
 use crate::field::AuthField;
 use crate::key::digits;
 use crate::layout::entries_bytes;
-use crate::text::as_text;
 use picky_authorized::{AuthEntry, read_keys};
+use picky_utf8::as_text;
 use picky_wire::List;
 use std::alloc::Global;
 

@@ -11,7 +11,6 @@ mod key;
 pub mod laws;
 mod layout;
 mod state;
-mod text;
 
 pub use call::authorized_field;
 pub use error::AuthFieldError;

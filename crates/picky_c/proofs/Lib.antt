@@ -3,7 +3,6 @@ pub mod CallLemmas
 pub mod LawLemmas
 pub mod RoundLemmas
 pub mod NamedLemmas
-pub mod GivenLemmas
 pub mod ShownLemmas
 pub mod CommentLemmas
 pub mod RefusedLemmas

@@ -7,9 +7,9 @@ ghost use Rattle.picky_changed.specs.Comment.{IsCommented};
 ghost use Rattle.picky_c.specs.Comment.{commented as commented_of};
 
 use crate::error::{PickyError, refusal};
-use crate::given::as_text;
 use picky_changed::with_comment;
 use picky_suite::PlainSuite;
+use picky_utf8::as_text;
 use std::alloc::Global;
 
 /// The text with another comment.

@@ -2,13 +2,13 @@
 
 ghost use Rattle.std.specs.Prelude.{◌≡◌, true, false, map, Ok, MatchOption};
 ghost use Rattle.std.specs.Option.{option_copied};
-ghost use Rattle.std.specs.Str.{IsUtf8, is_utf8};
+ghost use Rattle.std.specs.Str.{is_utf8};
 ghost use Rattle.picky_wire_base.specs.Gives.{Gives};
 ghost use Rattle.picky_c.specs.Given.{bytes_given, pass_of};
 
 use crate::error::PickyError;
+use picky_utf8::as_text;
 use std::alloc::Global;
-use std::str;
 
 /// Bytes that the caller keeps.
 #[repr(C)]
@@ -39,28 +39,6 @@ pub struct Given<'a> {
     pub pass_out: &'a [u8],
     pub fresh: &'a [u8],
     pub answers: &'a [u8],
-}
-
-/// The bytes as a text, where they are UTF-8.
-#[tactic(auto, using(picky_wire_base::proofs::TextLemmas::is_no_text, crate::proofs::GivenLemmas::is_text))]
-pub fn as_text(bytes: &[u8]) -> Option<&str>
-    ensures { MatchOption result (is_utf8 bytes.now ≡ false) (λ text. (text.now ≡ bytes.now) × (is_utf8 bytes.now ≡ true)) }
-{
-    match of_utf8(bytes) {
-        Some(text) => Some(text),
-        None => None,
-    }
-}
-
-/// The same. What a caller in C gives as no bytes may point nowhere, and then no text is made of it.
-#[tactic(auto, using(crate::proofs::GivenLemmas::nothing_is_text))]
-fn of_utf8(bytes: &[u8]) -> Option<&str>
-    ensures { MatchOption result (IsUtf8 bytes.now → ⊥) (λ text. (text.now ≡ bytes.now) × IsUtf8 bytes.now) }
-{
-    match bytes {
-        [] => Some(""),
-        bytes => str::from_utf8(bytes).ok(),
-    }
 }
 
 /// The bytes as a passphrase, where they are UTF-8; no bytes are none.

@@ -8,13 +8,13 @@ ghost use Rattle.picky_c.specs.Calls.{IsFingerprint, IsPart, IsPublicKey, finger
 ghost use Rattle.picky_c.specs.Calls.{public_key as public_key_of, public_part_in};
 
 use crate::error::{PickyError, refusal};
-use crate::given::as_text;
 use crate::part::{part_by_number, part_of};
 use base64::engine::general_purpose::STANDARD_NO_PAD;
 use picky_conversion::input_refusal;
 use picky_key_text::{Meaning, ReadError, public_key, read_text};
 use picky_keys::SshPublicKey;
 use picky_suite::PlainSuite;
+use picky_utf8::as_text;
 use std::alloc::{AllocError, Global};
 
 /// The SHA-256 fingerprint of the key that a text means, as `ssh-keygen -l` prints it.

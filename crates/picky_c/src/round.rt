@@ -13,10 +13,11 @@ ghost use Rattle.picky_c.specs.Round.{ConvertsRound, GivesRound, HandsRound, IfT
 
 use crate::answer::{PickyAnswer, hand_out, refuse};
 use crate::error::{AnswersError, PickyError, refusal, table_refusal};
-use crate::given::{Given, as_pass, as_text};
+use crate::given::{Given, as_pass};
 use picky_ask::{AnsweredSuite, Known, Missing, Question, Table};
 use picky_conversion::{ConversionGiven, convert_key_text};
 use picky_target::KeyTarget;
+use picky_utf8::as_text;
 use picky_wire::SizeError;
 use std::alloc::Global;
 use std::marker::Brand;

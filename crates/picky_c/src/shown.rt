@@ -11,7 +11,6 @@ ghost use Rattle.picky_c.specs.Shown.{number_text, part_shown as part_of_shown, 
 ghost use Rattle.picky_c.specs.Shown.{salt_len_in as salt_len_of, shown_line as line_of_key, shown_of, shown_part_in};
 
 use crate::error::{PickyError, refusal};
-use crate::given::as_text;
 use crate::part::{Part, copy_of, part_of};
 use crate::public::print_digest;
 use crate::shown_part::{ShownPart, shown_part_by_number};
@@ -21,6 +20,7 @@ use picky_ppk::{Argon2Flavour, PpkEncryptionConfig};
 use picky_shown::{Shown, ShownSealing, key_bits, show_text};
 use picky_suite::PlainSuite;
 use picky_target::{ConvertError, KeyTarget, carries_comment};
+use picky_utf8::as_text;
 use std::alloc::Global;
 
 /// The name of no cipher, and of no derivation.

@@ -1,4 +1,3 @@
-mod TextLemmas
 mod SignatureLemmas
 mod SignedLemmas
 mod NumberLaws

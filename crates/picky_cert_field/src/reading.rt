@@ -1,7 +1,6 @@
 //! One field of a certificate's line.
 
-ghost use Rattle.std.specs.Prelude.{◌≡◌, Ok, IfOk, MatchOption, true, false};
-ghost use Rattle.std.specs.Str.{IsUtf8, is_utf8};
+ghost use Rattle.std.specs.Prelude.{◌≡◌, Ok, IfOk};
 ghost use Rattle.picky_wire_base.specs.Gives.{Gives};
 ghost use Rattle.picky_cert.specs.LineRefusal.{cert_line_meaning};
 ghost use Rattle.picky_cert_field.specs.Fields.{IsFieldOfLine, field_in, field_of as field_of_certificate, signed_in_line};
@@ -17,8 +16,8 @@ use crate::parts::{
 };
 use crate::signed::signed_part;
 use picky_cert::SshCertificate;
+use picky_utf8::as_text;
 use std::alloc::Global;
-use std::str;
 
 /// A field of the certificate that a line means, as bytes.
 ///
@@ -117,28 +116,5 @@ fn field_of(
         CertField::PrincipalList => list_of(alloc, certificate.valid_principals.as_slice()),
         CertField::CriticalOptionList => list_of(alloc, certificate.critical_options.as_slice()),
         CertField::ExtensionList => list_of(alloc, certificate.extensions.as_slice()),
-    }
-}
-
-/// The bytes as a text, where they are UTF-8. What a caller in C gives as no bytes may point nowhere, and then no text is made
-/// of it.
-#[tactic(auto, using(picky_wire_base::proofs::TextLemmas::is_no_text, crate::proofs::TextLemmas::is_text))]
-fn as_text(bytes: &[u8]) -> Option<&str>
-    ensures { MatchOption result (is_utf8 bytes.now ≡ false) (λ text. (text.now ≡ bytes.now) × (is_utf8 bytes.now ≡ true)) }
-{
-    match of_utf8(bytes) {
-        Some(text) => Some(text),
-        None => None,
-    }
-}
-
-/// The same.
-#[tactic(auto, using(crate::proofs::TextLemmas::nothing_is_text))]
-fn of_utf8(bytes: &[u8]) -> Option<&str>
-    ensures { MatchOption result (IsUtf8 bytes.now → ⊥) (λ text. (text.now ≡ bytes.now) × IsUtf8 bytes.now) }
-{
-    match bytes {
-        [] => Some(""),
-        bytes => str::from_utf8(bytes).ok(),
     }
 }

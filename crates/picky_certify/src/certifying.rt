@@ -10,14 +10,14 @@ ghost use Rattle.picky_certify.specs.Certify.{drafted_texts, entries_in, given, 
 ghost use Rattle.picky_certify.specs.Certified.{GivesCertified, IfLine, SignedBy};
 
 use crate::asked::{meaning_of, request_of};
-use crate::drafting::draft_line;
 use crate::error::{CertifyError, conversion_refusal, table_refusal};
 use crate::signing::{Certified, sign_draft};
-use crate::texts::{as_text, texts_of};
+use crate::texts::texts_of;
 use picky_ask::Table;
 use picky_cert_builder::CertificateDraft;
-use picky_conversion::{CertRequest, ConversionGiven, bytes_to_sign, is_given};
+use picky_conversion::{CertRequest, ConversionGiven, bytes_to_sign, draft_line, is_given};
 use picky_suite::PlainSuite;
+use picky_utf8::as_text;
 use picky_wire::Text;
 use std::alloc::Global;
 use std::marker::Brand;

@@ -5,7 +5,6 @@
 
 mod asked;
 mod certifying;
-mod drafting;
 mod error;
 pub mod laws;
 mod signing;

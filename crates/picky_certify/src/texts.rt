@@ -1,14 +1,13 @@
-//! What a caller gives: bytes, and texts among them.
+//! Words as texts.
 
-ghost use Rattle.std.specs.Prelude.{◌≡◌, true, false, map, MatchOption};
-ghost use Rattle.std.specs.Str.{IsUtf8, is_utf8};
+ghost use Rattle.std.specs.Prelude.{map};
 ghost use Rattle.picky_wire_base.specs.Gives.{Gives};
 ghost use Rattle.picky_certify.specs.Texts.{word_judged, words_judged};
 
 use crate::error::CertifyError;
+use picky_utf8::as_text;
 use picky_wire::{SizeError, Text};
 use std::alloc::Global;
-use std::str;
 
 /// The words as texts. Refuses, at the first word where one is wrong, in order: `WordNotUtf8`, `TooLong`.
 pub fn texts_of(alloc: Global, words: &[&[u8]]) -> Result<Vec<Text>, CertifyError>
@@ -39,28 +38,5 @@ fn text_of(alloc: Global, word: &[u8]) -> Result<Text, CertifyError>
             Err(SizeError::NoMemory) => Err(CertifyError::NoMemory),
         },
         None => Err(CertifyError::WordNotUtf8),
-    }
-}
-
-/// The bytes as a text, where they are UTF-8. What a caller in C gives as no bytes may point nowhere, and then no text is made
-/// of it.
-#[tactic(auto, using(picky_wire_base::proofs::TextLemmas::is_no_text, crate::proofs::TextLemmas::is_text))]
-pub fn as_text(bytes: &[u8]) -> Option<&str>
-    ensures { MatchOption result (is_utf8 bytes.now ≡ false) (λ text. (text.now ≡ bytes.now) × (is_utf8 bytes.now ≡ true)) }
-{
-    match of_utf8(bytes) {
-        Some(text) => Some(text),
-        None => None,
-    }
-}
-
-/// The same.
-#[tactic(auto, using(crate::proofs::TextLemmas::nothing_is_text))]
-fn of_utf8(bytes: &[u8]) -> Option<&str>
-    ensures { MatchOption result (IsUtf8 bytes.now → ⊥) (λ text. (text.now ≡ bytes.now) × IsUtf8 bytes.now) }
-{
-    match bytes {
-        [] => Some(""),
-        bytes => str::from_utf8(bytes).ok(),
     }
 }

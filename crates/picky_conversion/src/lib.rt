@@ -17,7 +17,7 @@ pub use certificate::write_certificate;
 pub use conversion::{
     bytes_to_sign, convert, convert_key_text, convert_owned, input_refusal, is_given,
 };
-pub use drafting::write_signed_bytes;
+pub use drafting::{draft_line, write_signed_bytes};
 pub use given::ConversionGiven;
 pub use issuing::{issue, print_signed};
 pub use picky_target::{DEFAULT_ROUNDS, KeyTarget};

@@ -1,4 +1,3 @@
-mod GivenLemmas
 mod LineLemmas
 mod GoodLineLemmas
 mod SealedLemmas

@@ -3,7 +3,6 @@
 //! Read first: `specs/Listed.antt`, `specs/Texts.antt` and `specs/Pieces.antt`; then `src/listing.rt` and `src/laws.rt`.
 #![tactic(auto)]
 
-mod given;
 mod good_lines;
 pub mod laws;
 mod line;

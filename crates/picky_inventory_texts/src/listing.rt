@@ -11,12 +11,12 @@ ghost use Rattle.picky_key_text.specs.declared.meaning.Meaning.{Meaning};
 ghost use Rattle.picky_shown.specs.Shown.{shows};
 ghost use Rattle.picky_suite.specs.Meanings.{plain};
 
-use crate::given::as_text;
 use crate::line::sealed_line;
 use picky_inventory::{is_blank, joined_lines, line_of, sorted_lines};
 use picky_key_text::{ReadError, read_text};
 use picky_shown::show_text;
 use picky_suite::PlainSuite;
+use picky_utf8::as_text;
 use picky_wire::NoMemory;
 use std::alloc::Global;
 

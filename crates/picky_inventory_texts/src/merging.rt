@@ -4,9 +4,9 @@ ghost use Rattle.std.specs.Prelude.{◌≡◌, IfOk};
 ghost use Rattle.picky_wire_base.specs.Gives.{Gives};
 ghost use Rattle.picky_inventory_texts.specs.Merging.{bad_line as bad_line_of, merging};
 
-use crate::given::as_text;
 use crate::good_lines::first_bad;
 use picky_inventory::{ended_lines, merge_texts};
+use picky_utf8::as_text;
 use picky_wire::NoMemory;
 use std::alloc::Global;
 

@@ -7,9 +7,9 @@ ghost use Rattle.picky_inventory.specs.Merging.{or_empty as bytes_or_empty};
 ghost use Rattle.picky_inventory.specs.OrderedText.{last_before};
 ghost use Rattle.picky_inventory_texts.specs.Pieces.{checked, line_given as line_given_in};
 
-use crate::given::as_text;
 use crate::good_lines::{first_bad, line_before};
 use picky_inventory::ended_lines;
+use picky_utf8::as_text;
 use picky_wire::NoMemory;
 use std::alloc::Global;
 

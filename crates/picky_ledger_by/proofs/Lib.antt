@@ -1,4 +1,3 @@
-mod GivenLemmas
 mod DraftLemmas
 mod LineLemmas
 mod RunLemmas

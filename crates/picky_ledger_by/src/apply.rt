@@ -6,12 +6,12 @@ ghost use Rattle.picky_ledger.specs.State.{IsLedger};
 ghost use Rattle.picky_ledger_by.specs.Applied.{ComesOf, GivesApplied, asked_by, if_fresh, issuer_refusal as refusal_of_issuer};
 ghost use Rattle.picky_ledger_by.specs.Applied.{table_refusal as refusal_of_table, text_refusal as refusal_of_text};
 
-use crate::given::as_text;
 use crate::line::NONCE_LEN;
 use crate::requests::{answer_requests, count_of};
 use picky_ask::{Table, TableError};
 use picky_keys::{SshPublicKey, SshPublicKeyError};
 use picky_ledger::{Ledger, LedgerTextError};
+use picky_utf8::as_text;
 use std::alloc::Global;
 
 /// What requests come to.

@@ -5,7 +5,6 @@
 
 mod apply;
 mod asked;
-mod given;
 pub mod laws;
 mod line;
 mod reply_line;

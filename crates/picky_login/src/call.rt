@@ -9,10 +9,10 @@ ghost use Rattle.picky_login.specs.Login.{login_by, login_given, login_in, login
 use crate::error::{LoginError, keys_refusal, offer_refusal, table_refusal};
 use crate::judged::judged_login;
 use crate::login::Login;
-use crate::text::as_text;
 use picky_ask::Table;
 use picky_authorized::{AuthEntry, read_keys};
 use picky_policy::Offer;
+use picky_utf8::as_text;
 use picky_wire::{List, Timestamp};
 use std::alloc::Global;
 

@@ -9,7 +9,6 @@ mod error;
 mod judged;
 mod login;
 mod printed;
-mod text;
 mod trusting;
 mod verdict;
 
