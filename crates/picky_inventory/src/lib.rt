@@ -21,7 +21,7 @@ pub use bad_lines::bad_line;
 pub use command::{Command, command_of};
 pub use ended::ended_lines;
 pub use item_line::is_item_line;
-pub use lines::{is_blank, line_of};
+pub use lines::{is_blank, line_of, words_line};
 pub use listing::{Unread, list_lines, list_text};
 pub use merging::{Unmerged, merge, merge_texts};
 pub use parted::parts;

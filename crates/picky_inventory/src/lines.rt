@@ -55,7 +55,12 @@ fn public_blob(alloc: Global, key: &Key) -> Result<Vec<u8>, NoMemory>
 }
 
 /// A word, and two byte strings in base64, parted by spaces, and LF. Refuses: `NoMemory`.
-fn words_line(alloc: Global, word: &str, blob: &[u8], comment: &[u8]) -> Result<Vec<u8>, NoMemory>
+pub fn words_line(
+    alloc: Global,
+    word: &str,
+    blob: &[u8],
+    comment: &[u8],
+) -> Result<Vec<u8>, NoMemory>
     ensures { IfOk result (λ line. line.items ≡ word.now ++ 32 ∷ (base64_of blob.now ++ 32 ∷ (base64_of comment.now ++ 10 ∷ []))) }
 {
     let mut line = Vec::new(alloc);

@@ -5,9 +5,8 @@ ghost use Rattle.picky_text.specs.Base64.{base64_of};
 ghost use Rattle.picky_inventory.specs.ItemLine.{cut_at, is_key_end};
 ghost use Rattle.picky_inventory_texts.specs.Listed.{is_listed_line as is_line_of, listed_line, sealed_item};
 
-use picky_inventory::is_item_line;
+use picky_inventory::{is_item_line, words_line};
 use picky_keys::{SshPublicKey, bytes_of};
-use picky_text::encode;
 use picky_wire::NoMemory;
 use std::alloc::Global;
 
@@ -70,33 +69,10 @@ pub fn sealed_line(alloc: Global, key: &SshPublicKey) -> Result<Vec<u8>, NoMemor
     ensures { IfOk result (λ line. line.items ≡ listed_line (sealed_item key.now)) }
 {
     let blob = bytes_of(alloc, &key.inner_key)?;
-    let mut line = Vec::new(alloc);
-    push(&mut line, SEALED.as_bytes())?;
-    push_base64(alloc, &mut line, blob.as_slice())?;
-    push_base64(alloc, &mut line, key.comment.as_str().as_bytes())?;
-    push(&mut line, b"\n")?;
-    Ok(line)
-}
-
-/// Adds a space and the base64 of bytes. Refuses: `NoMemory`.
-fn push_base64(alloc: Global, line: &mut Vec<u8>, bytes: &[u8]) -> Result<(), NoMemory>
-    ensures { OnOk result (line.new.items ≡ line.old.items ++ 32 ∷ base64_of bytes.now) }
-{
-    match encode(alloc, bytes) {
-        Ok(text) => {
-            push(line, b" ")?;
-            push(line, text.as_bytes())
-        }
-        Err(_) => Err(NoMemory),
-    }
-}
-
-/// Adds bytes. Refuses: `NoMemory`.
-fn push(line: &mut Vec<u8>, bytes: &[u8]) -> Result<(), NoMemory>
-    ensures { OnOk result (line.new.items ≡ line.old.items ++ bytes.now) }
-{
-    match line.extend_from_slice(bytes) {
-        Ok(()) => Ok(()),
-        Err(_) => Err(NoMemory),
-    }
+    words_line(
+        alloc,
+        SEALED,
+        blob.as_slice(),
+        key.comment.as_str().as_bytes(),
+    )
 }

@@ -161,7 +161,7 @@ impl Ledger {
 
 /// The entry with this id, where there is one.
 #[tactic(auto, unfolding(crate::specs::State::entry_named))]
-fn entry_named<'a>(id: &str, entries: &'a [Entry]) -> Option<&'a Entry>
+pub fn entry_named<'a>(id: &str, entries: &'a [Entry]) -> Option<&'a Entry>
     ensures { option_copied result ≡ entry_with_id id.now entries.now }
 {
     let mut rest = entries;

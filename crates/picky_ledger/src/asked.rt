@@ -102,7 +102,7 @@ fn issuer_of(alloc: Global, line: &str) -> Result<SshPublicKey, LedgerStatus>
 }
 
 /// How many lines of a text aren't empty.
-fn count_of(text: &str) -> usize
+pub fn count_of(text: &str) -> usize
     ensures { result ≡ length (requests_in text.now) }
 {
     let mut lines = LineReader::new(text);

@@ -17,9 +17,12 @@ mod requests;
 mod run;
 mod status;
 
-pub use apply::LedgerError;
+pub use apply::{LedgerError, entry_named};
+pub use asked::count_of;
 pub use entry::Entry;
 pub use ledger::{Ledger, LedgerTextError};
+pub use reading::id_of;
 pub use reply::Reply;
+pub use reply_line::push_reply;
 pub use run::run_ledger;
 pub use status::LedgerStatus;

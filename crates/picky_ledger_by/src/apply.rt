@@ -7,10 +7,10 @@ ghost use Rattle.picky_ledger_by.specs.Applied.{ComesOf, GivesApplied, asked_by,
 ghost use Rattle.picky_ledger_by.specs.Applied.{table_refusal as refusal_of_table, text_refusal as refusal_of_text};
 
 use crate::line::NONCE_LEN;
-use crate::requests::{answer_requests, count_of};
+use crate::requests::answer_requests;
 use picky_ask::{Table, TableError};
 use picky_keys::{SshPublicKey, SshPublicKeyError};
-use picky_ledger::{Ledger, LedgerTextError};
+use picky_ledger::{Ledger, LedgerTextError, count_of};
 use picky_utf8::as_text;
 use std::alloc::Global;
 

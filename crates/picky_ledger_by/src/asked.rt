@@ -1,15 +1,13 @@
 //! The certificate that a request line asks for.
 
 ghost use Rattle.std.specs.Prelude.{◌≡◌, Some, IfOk};
-ghost use Rattle.std.specs.Option.{option_copied};
 ghost use Rattle.picky_request.specs.Request.{request_in};
 ghost use Rattle.picky_ledger.specs.Apply.{issuing, judged_request_line};
-ghost use Rattle.picky_ledger.specs.State.{entry_named as entry_with_id};
 ghost use Rattle.picky_ledger_by.specs.inner.Line.{IsDraftFor};
 
 use picky_cert_builder::{CertificateDraft, SshCertificateGenerationError};
 use picky_keys::SshPublicKey;
-use picky_ledger::{Entry, Ledger};
+use picky_ledger::{Ledger, entry_named};
 use picky_request::CertRequestLine;
 use picky_wire::NoMemory;
 use std::alloc::Global;
@@ -63,19 +61,4 @@ fn new_draft(
             Ok(None)
         }
     }
-}
-
-/// The entry with this id, where there is one.
-#[tactic(auto, unfolding(picky_ledger::specs::State::entry_named))]
-fn entry_named<'a>(id: &str, entries: &'a [Entry]) -> Option<&'a Entry>
-    ensures { option_copied result ≡ entry_with_id id.now entries.now }
-{
-    let mut rest = entries;
-    'entries: while let [entry, more @ ..] = rest {
-        if entry.id.as_str() == id {
-            return Some(entry);
-        }
-        rest = more;
-    }
-    None
 }

@@ -7,7 +7,6 @@ mod apply;
 mod asked;
 pub mod laws;
 mod line;
-mod reply_line;
 mod requests;
 mod signature;
 

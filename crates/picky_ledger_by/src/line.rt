@@ -8,11 +8,10 @@ ghost use Rattle.picky_ledger.specs.declared.reply.Reply.{Reply as AReply};
 ghost use Rattle.picky_ledger_by.specs.inner.Line.{AnswersLine, EntersLine};
 
 use crate::apply::LedgerByError;
-use crate::reply_line::{id_of, push_reply};
 use crate::signature::signature_for;
 use picky_ask::Table;
 use picky_keys::SshPublicKey;
-use picky_ledger::{Ledger, LedgerError};
+use picky_ledger::{Ledger, LedgerError, id_of, push_reply};
 use picky_suite::HandedSigner;
 use picky_wire::{Bytes, NoMemory};
 use std::alloc::Global;

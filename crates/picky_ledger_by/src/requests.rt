@@ -86,17 +86,3 @@ fn applied(alloc: Global, ledger: Ledger, replies: String) -> Result<Applied, Le
         }
     }
 }
-
-/// How many lines of a text aren't empty.
-pub fn count_of(text: &str) -> usize
-    ensures { result ≡ length (requests_in text.now) }
-{
-    let mut lines = LineReader::new(text);
-    let mut count = 0;
-    'lines: while let Some(line) = lines.next_line() {
-        if !line.is_empty() {
-            count += 1;
-        }
-    }
-    count
-}
