@@ -1,5 +1,52 @@
-"""SSH keys of OpenSSH and PuTTY, read and written by a proved library."""
-from .errors import Error, LibraryMissing, PassphraseNeeded, WrongPassphrase
-from .keys import PrivateKey, Target
+"""SSH keys of OpenSSH and PuTTY, certificates and authorized keys, read and written by a proved library."""
+from .errors import (
+    BadIssuer,
+    BadKey,
+    BadLine,
+    BadRequest,
+    BadSealing,
+    BadSignature,
+    CommentNotCarried,
+    Error,
+    LibraryFault,
+    LibraryMissing,
+    NoMemory,
+    NoPrivateKey,
+    NotUtf8,
+    PassphraseNeeded,
+    SignerFault,
+    TooCostly,
+    TooLong,
+    Unsupported,
+    WrongPassphrase,
+)
+from .keys import Fingerprints, PrivateKey, PublicKey, Sealing, Shown, Target, shown
 
-__all__ = ["Error", "LibraryMissing", "PassphraseNeeded", "PrivateKey", "Target", "WrongPassphrase"]
+__all__ = [
+    "BadIssuer",
+    "BadKey",
+    "BadLine",
+    "BadRequest",
+    "BadSealing",
+    "BadSignature",
+    "CommentNotCarried",
+    "Error",
+    "Fingerprints",
+    "LibraryFault",
+    "LibraryMissing",
+    "NoMemory",
+    "NoPrivateKey",
+    "NotUtf8",
+    "PassphraseNeeded",
+    "PrivateKey",
+    "PublicKey",
+    "Sealing",
+    "Shown",
+    "SignerFault",
+    "Target",
+    "TooCostly",
+    "TooLong",
+    "Unsupported",
+    "WrongPassphrase",
+    "shown",
+]

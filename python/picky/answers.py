@@ -1,55 +1,92 @@
-"""The answers to the library's questions, by cryptography, bcrypt and argon2 (picky.h, "Questions and answers")."""
+"""The answers to the library's questions, by cryptography, bcrypt and argon2 (picky.h, "Questions and answers").
+
+Questions and answers have secrets in them, so they stand in bytearrays, which are wiped. What bcrypt and argon2 take and give are
+bytes of Python, which can't be wiped: a copy of the passphrase and of the derived key stays in memory that was freed.
+"""
 from __future__ import annotations
 
-from typing import Callable, List, Tuple
+from typing import Callable, Tuple, Union
 
+import argon2.exceptions
 import argon2.low_level
 import bcrypt
 from cryptography.hazmat.primitives.ciphers import Cipher, algorithms, modes
 
-from . import _library
 from ._library import ASKED, Data, Handed
-from .errors import Error
+from .errors import BadSealing, LibraryFault, TooCostly
 
 BCRYPT, ARGON2, CBC_SEAL, CBC_OPEN, CTR = 1, 2, 3, 4, 5
 FLAVOURS = (argon2.low_level.Type.D, argon2.low_level.Type.I, argon2.low_level.Type.ID)
 # A conversion asks four questions at most.
 MOST_QUESTIONS = 4
+# What a derivation may take: Argon2's memory in KiB, this times its passes, and bcrypt's rounds. A file says what it wants, and
+# whoever made it may have asked for a week.
+MOST_MEMORY, MOST_MEMORY_PASSES, MOST_ROUNDS = 1 << 20, 1 << 26, 1 << 16
 
 
-def _string(content: memoryview, at: int) -> Tuple[memoryview, int]:
+def string(content: memoryview, at: int) -> Tuple[memoryview, int]:
+    """The string of RFC 4251, section 5, at a place, and the place behind it."""
     begin = at + 4
-    end = begin + int.from_bytes(content[at:begin], "big")
+    end = begin + uint32(content, at)
+    if end > len(content):
+        raise LibraryFault("a field is longer than what it stands in")
     return content[begin:end], end
 
 
-def _uint32(content: memoryview, at: int) -> int:
+def uint32(content: memoryview, at: int) -> int:
+    """The uint32 at a place."""
     return int.from_bytes(content[at : at + 4], "big")
 
 
 def answer_to(question: Data) -> bytearray:
-    """The answer to a question: what bcrypt-pbkdf or Argon2 derives, or what AES gives."""
-    whole = memoryview(question)
-    head, at = _string(whole, 0)
-    text, _ = _string(whole, at)
-    operation = head[0]
-    if operation == BCRYPT:
-        salt, _ = _string(head, 9)
-        length, rounds = _uint32(head, 1), _uint32(head, 5)
-        return bytearray(bcrypt.kdf(bytes(text), bytes(salt), length, rounds, True))
-    if operation == ARGON2:
-        salt, _ = _string(head, 14)
-        memory, passes, lanes = _uint32(head, 2), _uint32(head, 6), _uint32(head, 10)
-        return bytearray(
-            argon2.low_level.hash_secret_raw(
-                bytes(text), bytes(salt), passes, memory, lanes, 80, FLAVOURS[head[1]], 0x13
-            )
+    """The answer to a question: what bcrypt-pbkdf or Argon2 derives, or what AES gives.
+
+    Refuses what takes too much (`TooCostly`), and what bcrypt or Argon2 refuses (`BadSealing`).
+    """
+    with memoryview(question) as whole:
+        head, at = string(whole, 0)
+        text, _ = string(whole, at)
+        operation = head[0]
+        if operation == BCRYPT:
+            return _bcrypt(head, text)
+        if operation == ARGON2:
+            return _argon2(head, text)
+        if operation in (CBC_SEAL, CBC_OPEN, CTR):
+            return _aes(operation, head, text)
+    raise LibraryFault(f"the library asks for operation {operation}")
+
+
+def _bcrypt(head: memoryview, text: memoryview) -> bytearray:
+    length, rounds_wanted = uint32(head, 1), uint32(head, 5)
+    salt, _ = string(head, 9)
+    if rounds_wanted > MOST_ROUNDS:
+        raise TooCostly(f"bcrypt is to run {rounds_wanted} rounds")
+    try:
+        return bytearray(bcrypt.kdf(bytes(text), bytes(salt), length, rounds_wanted, True))
+    except ValueError as fault:
+        raise BadSealing(f"bcrypt refuses: {fault}") from None
+
+
+def _argon2(head: memoryview, text: memoryview) -> bytearray:
+    flavour, memory, passes, lanes = head[1], uint32(head, 2), uint32(head, 6), uint32(head, 10)
+    salt, _ = string(head, 14)
+    if memory > MOST_MEMORY or memory * passes > MOST_MEMORY_PASSES:
+        raise TooCostly(f"Argon2 is to run {passes} passes over {memory} KiB")
+    kind = FLAVOURS[flavour]
+    try:
+        derived = argon2.low_level.hash_secret_raw(
+            bytes(text), bytes(salt), passes, memory, lanes, 80, kind, 0x13
         )
-    if operation not in (CBC_SEAL, CBC_OPEN, CTR):
-        raise Error(f"the library asks for the operation {operation}")
-    key, at = _string(head, 1)
-    iv, _ = _string(head, at)
-    cipher = Cipher(algorithms.AES(key), modes.CTR(iv) if operation == CTR else modes.CBC(iv))
+    except argon2.exceptions.HashingError as fault:
+        raise BadSealing(f"Argon2 refuses: {fault}") from None
+    return bytearray(derived)
+
+
+def _aes(operation: int, head: memoryview, text: memoryview) -> bytearray:
+    key, at = string(head, 1)
+    iv, _ = string(head, at)
+    mode: Union[modes.CTR, modes.CBC] = modes.CTR(iv) if operation == CTR else modes.CBC(iv)
+    cipher = Cipher(algorithms.AES(key), mode)
     side = cipher.decryptor() if operation == CBC_OPEN else cipher.encryptor()
     out = bytearray(len(text) + 15)
     side.update_into(text, out)
@@ -63,28 +100,39 @@ def wipe(secret: bytearray) -> None:
     secret[:] = bytes(len(secret))
 
 
-def rounds(call: Callable[[bytearray], Handed]) -> Tuple[bytearray, int]:
-    """What a call hands out once its questions are answered, and how many these were.
+def entry(question: Data, answer: Data) -> bytearray:
+    """The entry of a table of answers: the question, and behind it the answer as a string."""
+    return _joined(question, len(answer).to_bytes(4, "big"), answer)
 
-    `call` takes the answers that there are, and is called again with one more for each question.
+
+def rounds(
+    call: Callable[[bytearray], Handed], answer: Callable[[Data], bytearray] = answer_to
+) -> bytearray:
+    """What a call hands out once its questions are answered.
+
+    `call` takes the answers that there are, and is called again with one more as long as it asks. They are wiped at the end.
     """
-    table, asked = bytearray(), 0
+    table = bytearray()
     try:
-        while True:
+        for _ in range(MOST_QUESTIONS + 1):
             number, content = call(table)
             if number != ASKED:
-                return content, asked
-            if asked == MOST_QUESTIONS:
-                raise Error("the library asks a fifth question")
-            asked += 1
-            answer = answer_to(content)
-            longer = bytearray(len(table) + len(content) + 4 + len(answer))
-            at = 0
-            for part in (table, content, len(answer).to_bytes(4, "big"), answer):
-                longer[at : at + len(part)] = part
-                at += len(part)
-            for secret in (table, content, answer):
+                return content
+            answered = answer(content)
+            added = entry(content, answered)
+            longer = _joined(table, added)
+            for secret in (table, content, answered, added):
                 wipe(secret)
             table = longer
     finally:
         wipe(table)
+    raise LibraryFault("the library asks more questions than its header says")
+
+
+def _joined(*parts: Data) -> bytearray:
+    """The parts in a bytearray of their length, so that no copy is left where one grew."""
+    whole, at = bytearray(sum(map(len, parts))), 0
+    for part in parts:
+        whole[at : at + len(part)] = part
+        at += len(part)
+    return whole
