@@ -1,4 +1,7 @@
 """SSH keys of OpenSSH and PuTTY, certificates and authorized keys, read and written by a proved library."""
+from .agent import Agent, AgentSigner
+from .authorized import Entry, LineOption, authorized_keys
+from .certificates import Certificate, Draft, Option, Signer
 from .errors import (
     BadIssuer,
     BadKey,
@@ -21,32 +24,43 @@ from .errors import (
     WrongPassphrase,
 )
 from .keys import Fingerprints, PrivateKey, PublicKey, Sealing, Shown, Target, shown
+from .signatures import KeySigner
 
 __all__ = [
+    "Agent",
+    "AgentSigner",
     "BadIssuer",
     "BadKey",
     "BadLine",
     "BadRequest",
     "BadSealing",
     "BadSignature",
+    "Certificate",
     "CommentNotCarried",
+    "Draft",
+    "Entry",
     "Error",
     "Fingerprints",
+    "KeySigner",
     "LibraryFault",
     "LibraryMissing",
+    "LineOption",
     "NoMemory",
     "NoPrivateKey",
     "NotUtf8",
+    "Option",
     "PassphraseNeeded",
     "PrivateKey",
     "PublicKey",
     "Sealing",
     "Shown",
+    "Signer",
     "SignerFault",
     "Target",
     "TooCostly",
     "TooLong",
     "Unsupported",
     "WrongPassphrase",
+    "authorized_keys",
     "shown",
 ]
