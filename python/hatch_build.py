@@ -5,7 +5,7 @@ from typing import Any, Dict
 from hatchling.builders.hooks.plugin.interface import BuildHookInterface
 
 
-class LibraryHook(BuildHookInterface):  # type: ignore[misc]
+class LibraryHook(BuildHookInterface[Any]):
     """Puts the library of dist/ into what is built in a checkout."""
 
     def initialize(self, version: str, build_data: Dict[str, Any]) -> None:
