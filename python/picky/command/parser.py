@@ -1,0 +1,64 @@
+"""The words of the command, and how it ends."""
+from __future__ import annotations
+
+import argparse
+import os
+import signal
+import sys
+from typing import Any, List, Optional
+
+from .. import _library
+from ..errors import Error
+from . import comment, convert, passphrase, show
+from .said import Refusal, Status, refusal_of, say
+
+SUBCOMMANDS = (
+    ("convert", convert, "write keys in another form"),
+    ("passphrase", passphrase, "set another passphrase, or none"),
+    ("comment", comment, "set another comment"),
+    ("show", show, "what files are: kinds, fingerprints, certificates"),
+)
+
+
+def _formatter(prog: str) -> argparse.HelpFormatter:
+    return argparse.HelpFormatter(prog, max_help_position=27, width=79)
+
+
+def parser() -> argparse.ArgumentParser:
+    """The parser of the command's words; what it gives has `run`, which takes it."""
+    whole = argparse.ArgumentParser(
+        "picky",
+        usage="picky COMMAND [OPTION..] [FILE..]",
+        description="SSH keys of OpenSSH and PuTTY. `picky COMMAND --help` has more.",
+        formatter_class=_formatter,
+        allow_abbrev=False,
+    )
+    version = f"picky {_library.version()}"
+    whole.add_argument("--version", action="version", version=version)
+    commands = whole.add_subparsers(metavar="COMMAND", required=True, title="commands")
+    for name, module, summary in SUBCOMMANDS:
+        one = commands.add_parser(
+            name, help=summary, formatter_class=_formatter, allow_abbrev=False
+        )
+        one.usage = f"picky {name} {module.USAGE}"
+        one.set_defaults(run=module.add(one))
+    return whole
+
+
+def main(words: Optional[List[str]] = None) -> int:
+    """Runs the command, by default with the words of the process, and answers its exit status."""
+    for number in (signal.SIGTERM, signal.SIGHUP):
+        signal.signal(number, _end)
+    try:
+        arguments = parser().parse_args(words)
+        return int(arguments.run(arguments))
+    except KeyboardInterrupt:
+        return Status.INTERRUPTED
+    except (Refusal, Error, MemoryError) as error:
+        refusal = refusal_of(error)
+        say(refusal.sentence)
+        return refusal.status
+
+
+def _end(number: int, frame: Any) -> None:
+    sys.exit(128 + number)
