@@ -12,7 +12,7 @@ from ..keys import PrivateKey, Target
 from . import files
 from .passphrases import Passphrases, add_new_options, add_options, apart, new
 from .said import Refusal, Status, each, hand_out, printable
-from .sources import PRIVATE, Source, first, private_key, public_key
+from .sources import PRIVATE, Source, first, foreign_text, private_key, public_key
 
 TARGETS = {
     "ppk3": Target.PPK3,
@@ -42,9 +42,9 @@ def add(parser: argparse.ArgumentParser) -> Callable[[argparse.Namespace], int]:
     """Adds the options."""
     parser.description = (
         "Write keys of OpenSSH, PuTTY, PEM and PKCS #8 in another form, with their comments. An encrypted key stays "
-        "encrypted, under its passphrase."
+        "encrypted, under its passphrase. FILE - is standard input."
     )
-    parser.add_argument("files", metavar="FILE", nargs="+", help="a key's file; - is input")
+    parser.add_argument("files", metavar="FILE", nargs="+", help=argparse.SUPPRESS)
     parser.add_argument(
         "--to",
         choices=tuple(TARGETS),
@@ -103,7 +103,7 @@ def run(parser: argparse.ArgumentParser, arguments: argparse.Namespace) -> int:
                         new_passphrase = new(arguments)
                     passphrase = new_passphrase
                 content = apart(lambda: private_text(key, TARGETS[arguments.to], passphrase))
-        content = with_line_ends(content, arguments.line_ends)
+        content = files.with_line_ends(content, crlf=arguments.line_ends == "crlf")
         if arguments.into is not None or arguments.output is not None:
             try:
                 files.put(path, content, force=arguments.force)
@@ -166,23 +166,4 @@ def private_text(
     """The text of a private key, encrypted where there is a passphrase. Without a target it is PKCS #8."""
     if target is not None:
         return key.write(target, passphrase)
-    encryption: serialization.KeySerializationEncryption = serialization.NoEncryption()
-    if passphrase is not None:
-        encryption = serialization.BestAvailableEncryption(bytes(passphrase))
-    text: bytes = key.key().private_bytes(
-        serialization.Encoding.PEM, serialization.PrivateFormat.PKCS8, encryption
-    )
-    return bytearray(text)
-
-
-def with_line_ends(text: bytearray, ends: str) -> bytearray:
-    """The text with its lines ended otherwise.
-
-    Refuses a text of which a comment ends in CR, that LF would leave out.
-    """
-    unix = text.replace(b"\r\n", b"\n")
-    if ends == "crlf":
-        return unix.replace(b"\n", b"\r\n")
-    if b"\r\n" in unix:
-        raise Refusal("its comment ends in CR, which needs --line-ends crlf", Status.REFUSED)
-    return unix
+    return foreign_text(key, serialization.PrivateFormat.PKCS8, passphrase)

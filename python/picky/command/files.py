@@ -5,7 +5,7 @@ import errno
 import os
 import stat
 import tempfile
-from typing import Optional
+from typing import Optional, Union
 
 from .said import Refusal, Status
 
@@ -73,6 +73,19 @@ def _all_of(descriptor: int) -> bytearray:
     finally:
         room[:] = bytes(_AT_ONCE)
     raise Refusal("it has more than 16,777,216 bytes")
+
+
+def with_line_ends(text: Union[bytes, bytearray], *, crlf: bool) -> bytearray:
+    """The text with its lines ended in CR LF, or in LF.
+
+    Refuses a text of which a comment ends in CR, that LF would leave out.
+    """
+    unix = bytearray(text).replace(b"\r\n", b"\n")
+    if crlf:
+        return unix.replace(b"\n", b"\r\n")
+    if b"\r\n" in unix:
+        raise Refusal("its comment ends in CR, which lines that end in LF can't have")
+    return unix
 
 
 def put(path: str, content: bytes, *, force: bool = False) -> None:

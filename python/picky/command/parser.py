@@ -21,7 +21,7 @@ SUBCOMMANDS = (
 
 
 def _formatter(prog: str) -> argparse.HelpFormatter:
-    return argparse.HelpFormatter(prog, max_help_position=27, width=79)
+    return argparse.HelpFormatter(prog, max_help_position=29, width=79)
 
 
 def parser() -> argparse.ArgumentParser:
@@ -32,15 +32,23 @@ def parser() -> argparse.ArgumentParser:
         description="SSH keys of OpenSSH and PuTTY. `picky COMMAND --help` has more.",
         formatter_class=_formatter,
         allow_abbrev=False,
+        add_help=False,
     )
+    whole.add_argument("-h", "--help", action="help", help="show this text")
     version = f"picky {_library.version()}"
-    whole.add_argument("--version", action="version", version=version)
+    whole.add_argument("--version", action="version", version=version, help="show the version")
     commands = whole.add_subparsers(metavar="COMMAND", required=True, title="commands")
     for name, module, summary in SUBCOMMANDS:
         one = commands.add_parser(
-            name, help=summary, formatter_class=_formatter, allow_abbrev=False
+            name,
+            prog=f"picky {name}",
+            usage=f"picky {name} {module.USAGE}",
+            help=summary,
+            formatter_class=_formatter,
+            allow_abbrev=False,
+            add_help=False,
         )
-        one.usage = f"picky {name} {module.USAGE}"
+        one.add_argument("-h", "--help", action="help", help="show this text")
         one.set_defaults(run=module.add(one))
     return whole
 

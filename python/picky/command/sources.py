@@ -100,10 +100,12 @@ def alone(name: str) -> Source:
 
     Refuses as `sources`, and a file that has more than one key, which would be lost.
     """
+    if name == "-":
+        raise Refusal("standard input can't be replaced")
     content = files.read(name)
     found = sources_of(name, content)[0]
     if content.strip() != found.text.strip():
-        raise Refusal("it has more than one key, which would be lost")
+        raise Refusal("it has more than a key, which would be lost")
     return found
 
 
@@ -114,11 +116,15 @@ def private_key(given: Source, passphrases: Passphrases) -> Tuple[PrivateKey, Op
     """
     if given.form not in PRIVATE:
         raise Refusal("it has no private key")
-    read = _foreign_key if given.form in FOREIGN else PrivateKey.read
+    read = foreign_key if given.form in FOREIGN else PrivateKey.read
     return passphrases.open(given.name, lambda passphrase: read(given.text, passphrase))
 
 
-def _foreign_key(text: bytes, passphrase: Optional[Passphrase]) -> PrivateKey:
+def foreign_key(text: bytes, passphrase: Optional[Passphrase]) -> PrivateKey:
+    """The private key of PEM or PKCS #8.
+
+    Refuses an encrypted one without its passphrase, and what isn't read.
+    """
     password = None
     if passphrase is not None:
         password = passphrase.encode() if isinstance(passphrase, str) else bytes(passphrase)
@@ -154,3 +160,20 @@ def _foreign_public(text: bytes) -> PublicKey:
     except (ValueError, UnsupportedAlgorithm) as error:
         raise Refusal(f"it isn't read: {error}") from None
     return PublicKey.read(line)
+
+
+def foreign_text(
+    key: PrivateKey, layout: serialization.PrivateFormat, passphrase: Optional[bytearray]
+) -> bytearray:
+    """The PEM of a private key, encrypted where there is a passphrase.
+
+    Refuses keys that cryptography hasn't.
+    """
+    encryption: serialization.KeySerializationEncryption = serialization.NoEncryption()
+    if passphrase is not None:
+        encryption = serialization.BestAvailableEncryption(bytes(passphrase))
+    try:
+        text: bytes = key.key().private_bytes(serialization.Encoding.PEM, layout, encryption)
+    except (ValueError, UnsupportedAlgorithm) as error:
+        raise Refusal(f"it isn't written: {error}") from None
+    return bytearray(text)
