@@ -17,6 +17,14 @@ Opening = Callable[[Optional[bytearray]], T]
 TRIES = 3
 
 
+def descriptor(text: str) -> int:
+    """The number of a descriptor."""
+    number = int(text)
+    if not 0 <= number < 1 << 31:
+        raise ValueError(text)
+    return number
+
+
 def add_options(parser: argparse.ArgumentParser) -> None:
     """Adds the options for the passphrase that opens the files."""
     one = parser.add_mutually_exclusive_group()
@@ -24,7 +32,7 @@ def add_options(parser: argparse.ArgumentParser) -> None:
         "--passphrase-file", metavar="FILE", help="open by the first line of FILE, - is input"
     )
     one.add_argument(
-        "--passphrase-fd", metavar="N", type=int, help="open by the first line of descriptor N"
+        "--passphrase-fd", metavar="N", type=descriptor, help="open by the first line of descriptor N"
     )
 
 
@@ -35,7 +43,7 @@ def add_new_options(parser: argparse.ArgumentParser, asks: bool) -> None:
         one.add_argument("--new-passphrase", action="store_true", help="ask for another passphrase")
     one.add_argument("--new-passphrase-file", metavar="FILE", help="set the first line of FILE")
     one.add_argument(
-        "--new-passphrase-fd", metavar="N", type=int, help="set the first line of descriptor N"
+        "--new-passphrase-fd", metavar="N", type=descriptor, help="set the first line of descriptor N"
     )
     one.add_argument("--no-passphrase", action="store_true", help="write without a passphrase")
 

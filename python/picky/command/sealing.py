@@ -2,13 +2,14 @@
 from __future__ import annotations
 
 import argparse
+from dataclasses import replace
 from typing import Dict, Tuple
 
 from ..keys import Sealing, shown
 from .said import Refusal
 from .sources import Form, Source
 
-FLAVOURS = {"d": 0, "i": 1, "id": 2}
+FLAVOURS = ("d", "i", "id")
 OPTIONS = ("rounds", "argon2", "memory", "passes", "lanes")
 _OF_FORM: Dict[Form, Tuple[str, ...]] = {Form.OPENSSH: OPTIONS[:1], Form.PPK3: OPTIONS[1:]}
 
@@ -27,7 +28,7 @@ def add_options(parser: argparse.ArgumentParser) -> None:
     """Adds the options: bcrypt's of OpenSSH's form, Argon2's of PuTTY's version 3."""
     parser.add_argument("--rounds", metavar="N", type=_number, help="rounds of bcrypt, of OpenSSH")
     parser.add_argument(
-        "--argon2", choices=tuple(FLAVOURS), help="kind of Argon2, of PuTTY's version 3"
+        "--argon2", choices=FLAVOURS, help="kind of Argon2, of PuTTY's version 3"
     )
     parser.add_argument("--memory", metavar="KIB", type=_number, help="its memory")
     parser.add_argument("--passes", metavar="N", type=_number, help="its passes")
@@ -43,14 +44,8 @@ def check(given: Source, arguments: argparse.Namespace) -> None:
 
 def chosen(given: Source, arguments: argparse.Namespace) -> Sealing:
     """What a file is encrypted with, and the usual where it isn't, changed by the options."""
-    usual, now = Sealing(), shown(given.text)
-    flavour = FLAVOURS.get(now.derivation.replace("Argon2", ""), usual.flavour)
+    numbers = {name: getattr(arguments, name) for name in ("rounds", "memory", "passes", "lanes")}
+    changed = {name: number for name, number in numbers.items() if number is not None}
     if arguments.argon2 is not None:
-        flavour = FLAVOURS[arguments.argon2]
-    return Sealing(
-        rounds=arguments.rounds or now.rounds or usual.rounds,
-        flavour=flavour,
-        memory=arguments.memory or now.memory or usual.memory,
-        passes=arguments.passes or now.passes or usual.passes,
-        lanes=arguments.lanes or now.lanes or usual.lanes,
-    )
+        changed["flavour"] = f"Argon2{arguments.argon2}"
+    return replace(shown(given.text).sealing, **changed)

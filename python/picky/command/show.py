@@ -8,7 +8,6 @@ import sys
 from datetime import datetime, timezone
 from typing import Any, Callable, Dict, Iterator, List, Optional, Tuple
 
-from ..certificates import Certificate
 from ..errors import Error, PassphraseNeeded
 from ..keys import PublicKey, Shown, shown
 from .said import Refusal, Status, hand_out_text, printable, refusal_of, say
@@ -81,6 +80,8 @@ def of_source(source: Source) -> Record:
     if source.before:
         record["before"] = source.before.decode(errors="backslashreplace")
     if source.form == Form.CERTIFICATE:
+        from ..certificates import Certificate
+
         certificate = Certificate.read(source.text)
         return {**record, **of_public(certificate.subject), **of_certificate(certificate)}
     if source.form in FOREIGN and source.form in PRIVATE:
