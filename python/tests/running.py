@@ -122,10 +122,28 @@ class Terminal:
 
 
 def ssh_key(
-    path: Path, *words: Word, passphrase: str = "", comment: str = "a comment", kind: str = "ed25519"
+    path: Path,
+    *words: Word,
+    passphrase: str = "",
+    comment: str = "a comment",
+    kind: str = "ed25519",
 ) -> Path:
     """A key that ssh-keygen makes, with few rounds."""
-    tool("ssh-keygen", "-q", "-t", kind, "-a", "1", "-N", passphrase, "-C", comment, "-f", path, *words)
+    tool(
+        "ssh-keygen",
+        "-q",
+        "-t",
+        kind,
+        "-a",
+        "1",
+        "-N",
+        passphrase,
+        "-C",
+        comment,
+        "-f",
+        path,
+        *words,
+    )
     return path
 
 

@@ -37,7 +37,11 @@ ROWS: List[Tuple[str, bytes, List[Tuple[int, bytes, bytes, bool]]]] = [
         BLOCK + KEY + b"\n" + KEY,
         [(1, BLOCK, b"", True), (3, KEY + b"\n", b"", True), (4, KEY, b"", True)],
     ),
-    ("a block without an end", BLOCK[:-1] + b"\n" + KEY, [(1, BLOCK[:-1] + b"\n" + KEY, b"", True)]),
+    (
+        "a block without an end",
+        BLOCK[:-1] + b"\n" + KEY,
+        [(1, BLOCK[:-1] + b"\n" + KEY, b"", True)],
+    ),
     (
         "two of PuTTY's files",
         PPK % b"a" + PPK % b"b",

@@ -32,7 +32,10 @@ def add_options(parser: argparse.ArgumentParser) -> None:
         "--passphrase-file", metavar="FILE", help="open by the first line of FILE, - is input"
     )
     one.add_argument(
-        "--passphrase-fd", metavar="N", type=descriptor, help="open by the first line of descriptor N"
+        "--passphrase-fd",
+        metavar="N",
+        type=descriptor,
+        help="open by the first line of descriptor N",
     )
 
 
@@ -43,7 +46,10 @@ def add_new_options(parser: argparse.ArgumentParser, asks: bool) -> None:
         one.add_argument("--new-passphrase", action="store_true", help="ask for another passphrase")
     one.add_argument("--new-passphrase-file", metavar="FILE", help="set the first line of FILE")
     one.add_argument(
-        "--new-passphrase-fd", metavar="N", type=descriptor, help="set the first line of descriptor N"
+        "--new-passphrase-fd",
+        metavar="N",
+        type=descriptor,
+        help="set the first line of descriptor N",
     )
     one.add_argument("--no-passphrase", action="store_true", help="write without a passphrase")
 

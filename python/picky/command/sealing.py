@@ -27,9 +27,7 @@ _number.__name__ = "number from 1 to 4294967295"
 def add_options(parser: argparse.ArgumentParser) -> None:
     """Adds the options: bcrypt's of OpenSSH's form, Argon2's of PuTTY's version 3."""
     parser.add_argument("--rounds", metavar="N", type=_number, help="rounds of bcrypt, of OpenSSH")
-    parser.add_argument(
-        "--argon2", choices=FLAVOURS, help="kind of Argon2, of PuTTY's version 3"
-    )
+    parser.add_argument("--argon2", choices=FLAVOURS, help="kind of Argon2, of PuTTY's version 3")
     parser.add_argument("--memory", metavar="KIB", type=_number, help="its memory")
     parser.add_argument("--passes", metavar="N", type=_number, help="its passes")
     parser.add_argument("--lanes", metavar="N", type=_number, help="its lanes")

@@ -8,6 +8,7 @@ import sys
 from datetime import datetime, timezone
 from typing import Any, Callable, Dict, Iterator, List, Optional, Tuple
 
+from ..certificates import FOREVER, Certificate, Option
 from ..errors import Error, PassphraseNeeded
 from ..keys import PublicKey, Shown, shown
 from .said import Refusal, Status, hand_out_text, printable, refusal_of, say
@@ -16,8 +17,6 @@ from .sources import FOREIGN, PRIVATE, Form, Source, foreign_key, public_key, so
 USAGE = "[--json] FILE.."
 Record = Dict[str, Any]
 Row = Tuple[str, str]
-# The end of a certificate's time that it never reaches.
-FOREVER = (1 << 64) - 1
 
 
 def add(parser: argparse.ArgumentParser) -> Callable[[argparse.Namespace], int]:
@@ -64,8 +63,8 @@ def of_file(name: str) -> Iterator[Tuple[Record, Optional[Refusal]]]:
         try:
             yield {**record, **of_source(source)}, None
         except (Refusal, Error, MemoryError) as error:
-            refusal = refusal_of(error)
-            yield {**record, "error": refusal.sentence}, refusal
+            why = refusal_of(error)
+            yield {**record, "error": why.sentence}, why
 
 
 def named(name: str) -> Record:
@@ -80,10 +79,9 @@ def of_source(source: Source) -> Record:
     if source.before:
         record["before"] = source.before.decode(errors="backslashreplace")
     if source.form == Form.CERTIFICATE:
-        from ..certificates import Certificate
-
         certificate = Certificate.read(source.text)
-        return {**record, **of_public(certificate.subject), **of_certificate(certificate)}
+        record.update(of_public(certificate.subject), certificate=of_certificate(certificate))
+        return record
     if source.form in FOREIGN and source.form in PRIVATE:
         try:
             with foreign_key(source.text, None) as key:
@@ -133,8 +131,32 @@ def as_text(record: Record) -> str:
 
 
 def of_certificate(certificate: Certificate) -> Record:
-    """Each field of a certificate, and whether its signature is good."""
-    return {}
+    """Each field of a certificate, and whether its signature is good. Times are in seconds since 1970."""
+    issuer = certificate.issuer
+    return {
+        "type": certificate.type,
+        "for": certificate.kind,
+        "serial": certificate.serial,
+        "key_id": certificate.key_id,
+        "principals": list(certificate.principals),
+        "valid_after": certificate.valid_after,
+        "valid_before": certificate.valid_before,
+        "critical_options": [of_option(it) for it in certificate.critical_options],
+        "extensions": [of_option(it) for it in certificate.extensions],
+        "issuer": {"kind": issuer.kind, "bits": issuer.bits, "sha256": issuer.fingerprints.sha256},
+        "nonce": certificate.nonce.hex(),
+        "signature_format": certificate.signature_format,
+        "signature_good": certificate.verify(),
+    }
+
+
+def of_option(option: Option) -> Record:
+    """The name of an option, and its text, or where its data aren't one, these in hexadecimal digits."""
+    if not option.payload:
+        return {"name": option.name}
+    if option.value is not None:
+        return {"name": option.name, "value": option.value}
+    return {"name": option.name, "hex": option.payload.hex()}
 
 
 def title(record: Record) -> str:
@@ -159,8 +181,36 @@ def rows(record: Record) -> List[Row]:
     elif record["form"] in _PRIVATE_NAMES:
         found.append(("encrypted", "no"))
     if record["certificate"] is not None:
-        found += _certificate_rows(record["certificate"])
+        found += certificate_rows(record["certificate"])
     return [(label, printable(str(value))) for label, value in found]
+
+
+def certificate_rows(given: Record) -> List[Tuple[str, object]]:
+    """What is shown of a certificate."""
+    found: List[Tuple[str, object]] = [("type", given["type"]), ("for", f"a {given['for']}")]
+    found += [("serial", given["serial"]), ("key id", given["key_id"])]
+    found += [("principal", name) for name in given["principals"]] or [("principal", "all")]
+    found += [("valid from", moment(given["valid_after"]))]
+    found += [("valid before", moment(given["valid_before"]))]
+    for label, name in (("critical", "critical_options"), ("extension", "extensions")):
+        for option in given[name]:
+            found.append((label, "=".join(str(it) for it in option.values())))
+    issuer = given["issuer"]
+    found.append(("issuer", f"{issuer['kind']} {issuer['bits']} {issuer['sha256']}"))
+    found.append(("nonce", given["nonce"]))
+    found.append(("signed by", given["signature_format"]))
+    found.append(("signature", "good" if given["signature_good"] else "bad"))
+    return found
+
+
+def moment(seconds: int) -> str:
+    """A time of a certificate."""
+    if seconds == FOREVER:
+        return "forever"
+    try:
+        return datetime.fromtimestamp(seconds, timezone.utc).strftime("%Y-%m-%d %H:%M:%S UTC")
+    except (ValueError, OverflowError, OSError):
+        return f"{seconds} seconds since 1970"
 
 
 _PRIVATE_NAMES = {form.value for form in PRIVATE}
@@ -189,8 +239,8 @@ def show_tables(records: List[Record]) -> None:
         console.print(table)
 
 
-def _certificate_rows(certificate: Record) -> List[Row]:
-    return []
-
-
-_STYLES = {("encrypted", "no"): "yellow", ("signature", "good"): "green", ("signature", "bad"): "red"}
+_STYLES = {
+    ("encrypted", "no"): "yellow",
+    ("signature", "good"): "green",
+    ("signature", "bad"): "red",
+}

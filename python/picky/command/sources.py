@@ -6,7 +6,7 @@ from __future__ import annotations
 
 import re
 from enum import Enum
-from typing import List, NamedTuple, Optional, Tuple, Union
+from typing import Any, List, NamedTuple, Optional, Tuple, Union
 
 from cryptography.exceptions import UnsupportedAlgorithm
 from cryptography.hazmat.primitives import serialization
@@ -116,8 +116,13 @@ def private_key(given: Source, passphrases: Passphrases) -> Tuple[PrivateKey, Op
     """
     if given.form not in PRIVATE:
         raise Refusal("it has no private key")
-    read = foreign_key if given.form in FOREIGN else PrivateKey.read
-    return passphrases.open(given.name, lambda passphrase: read(given.text, passphrase))
+
+    def read(passphrase: Optional[bytearray]) -> PrivateKey:
+        if given.form in FOREIGN:
+            return foreign_key(given.text, passphrase)
+        return PrivateKey.read(given.text, passphrase)
+
+    return passphrases.open(given.name, read)
 
 
 def foreign_key(text: bytes, passphrase: Optional[Passphrase]) -> PrivateKey:
@@ -154,9 +159,7 @@ def public_key(given: Source) -> PublicKey:
 def _foreign_public(text: bytes) -> PublicKey:
     try:
         key = serialization.load_pem_public_key(text)
-        line = key.public_bytes(
-            serialization.Encoding.OpenSSH, serialization.PublicFormat.OpenSSH
-        )
+        line = key.public_bytes(serialization.Encoding.OpenSSH, serialization.PublicFormat.OpenSSH)
     except (ValueError, UnsupportedAlgorithm) as error:
         raise Refusal(f"it isn't read: {error}") from None
     return PublicKey.read(line)
@@ -173,7 +176,9 @@ def foreign_text(
     if passphrase is not None:
         encryption = serialization.BestAvailableEncryption(bytes(passphrase))
     try:
-        text: bytes = key.key().private_bytes(serialization.Encoding.PEM, layout, encryption)
+        # The type stubs of cryptography differ on which of its keys are written.
+        written: Any = key.key()
+        text: bytes = written.private_bytes(serialization.Encoding.PEM, layout, encryption)
     except (ValueError, UnsupportedAlgorithm) as error:
         raise Refusal(f"it isn't written: {error}") from None
     return bytearray(text)
