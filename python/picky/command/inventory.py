@@ -61,30 +61,37 @@ def run(parser: argparse.ArgumentParser, arguments: argparse.Namespace) -> int:
     for path in (arguments.output, arguments.html):
         if path is not None:
             check_free(path, arguments.force)
+    placed = arguments.places or (arguments.html is not None and not arguments.merge)
     try:
-        with tempfile.TemporaryDirectory(prefix="picky-") as folder, Found(folder) as found:
-            earlier = os.path.join(folder, "earlier")
-            with Bar() as bar:
-                if arguments.since is not None:
-                    copy_inventory(arguments.since, earlier, found)
-                if arguments.merge:
-                    merge(arguments.paths, found, bar)
-                else:
-                    find(arguments.paths, found, bar, places=arguments.places or arguments.html)
-                bar.stage("sorting")
-                found.sort()
-            since = earlier if os.path.exists(earlier) else None
-            try:
-                write(arguments, found, since)
-            finally:
-                status = say_unread(found)
-            return status
+        with tempfile.TemporaryDirectory(prefix="picky-") as folder:
+            with Found(folder, placed=placed) as found:
+                return run_with(arguments, found)
     except OSError as error:
         where = f"{printable(str(error.filename))}: " if error.filename else ""
         raise Refusal(f"{where}{error.strerror}", Status.NOT_WRITTEN) from None
 
 
-def find(paths: List[str], found: Found, bar: Bar, *, places: bool) -> None:
+def run_with(arguments: argparse.Namespace, found: Found) -> int:
+    """The same, with a place for what is found."""
+    since: Optional[str] = None
+    with Bar() as bar:
+        if arguments.since is not None:
+            since = os.path.join(found.folder, "since")
+            copy_inventory(arguments.since, since, found)
+        if arguments.merge:
+            merge(arguments.paths, found, bar)
+        else:
+            find(arguments.paths, found, bar)
+        bar.stage("sorting")
+        found.sort()
+    try:
+        write(arguments, found, since)
+    finally:
+        status = say_unread(found)
+    return status
+
+
+def find(paths: List[str], found: Found, bar: Bar) -> None:
     """Finds the keys of files and folders."""
     bar.stage("looking")
     count = 0
@@ -95,7 +102,7 @@ def find(paths: List[str], found: Found, bar: Bar, *, places: bool) -> None:
             count += 1
             bar.step()
     bar.stage("reading", count)
-    lister = Lister(found.runs, places=places)
+    lister = Lister(found.runs, placed=found.placed)
     with open(names, "rb") as spool:
         batches: Iterator[List[bytes]] = iter(lambda: list(islice(spool, BATCH)), [])
         with Processes(lister, min(processors(), -(-count // BATCH))) as processes:
@@ -113,7 +120,7 @@ def merge(paths: List[str], found: Found, bar: Bar) -> None:
 
 
 def copy_inventory(path: str, copy: str, found: Found) -> None:
-    """Copies an inventory that the library finds in order. There is no copy of one that isn't read."""
+    """Copies an inventory that the library finds in order. The copy of one that isn't read is empty."""
     line = 1
     try:
         with open(files.opened(path), "rb") as source, open(copy, "xb") as target:
@@ -128,14 +135,15 @@ def copy_inventory(path: str, copy: str, found: Found) -> None:
     except (Refusal, Error, MemoryError) as error:
         cause = refusal_of(error).sentence
     found.refuse(path, line, cause)
-    if os.path.exists(copy):
-        os.unlink(copy)
+    with open(copy, "wb"):
+        pass
 
 
 def write(arguments: argparse.Namespace, found: Found, since: Optional[str]) -> None:
     """Writes the page, and the inventory in the form that is asked for."""
     if arguments.html is not None:
-        files.put(arguments.html, in_pieces(as_page(found, since)), force=arguments.force)
+        page = as_page(found, since, arguments.paths)
+        files.put(arguments.html, in_pieces(page), force=arguments.force)
     if arguments.json:
         lines = as_json(found.keys, found.unread, places=arguments.places)
     elif arguments.csv:

@@ -96,8 +96,8 @@ class Report(NamedTuple):
 class Lister:
     """Lists batches of files. It keeps the records of their keys, and writes them, sorted, to files in a folder."""
 
-    def __init__(self, folder: str, *, places: bool) -> None:
-        self.folder, self.places = folder, places
+    def __init__(self, folder: str, *, placed: bool) -> None:
+        self.folder, self.placed = folder, placed
         self.kept: List[bytes] = []
         self.size = self.written = 0
 
@@ -108,7 +108,7 @@ class Lister:
             file = File(*json.loads(record))
 
             def take(at: int, line: bytes) -> None:
-                places = [place_record(file.name, at)] if self.places else []
+                places = [place_record(file.name, at)] if self.placed else []
                 self.kept.append(key_record(line, *places))
                 self.size += len(self.kept[-1])
 

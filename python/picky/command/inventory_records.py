@@ -30,11 +30,11 @@ class Place(NamedTuple):
 
 class Found:
     """What a run finds, in files of a folder: in `runs` any number of files of sorted records, and in the end all keys, sorted, in
-    `keys`; in `unread` what isn't read. It is a context manager, which closes them.
+    `keys`; in `unread` what isn't read. `placed` says whether keys have places. It is a context manager, which closes the files.
     """
 
-    def __init__(self, folder: str) -> None:
-        self.folder = folder
+    def __init__(self, folder: str, *, placed: bool) -> None:
+        self.folder, self.placed = folder, placed
         self.runs = os.path.join(folder, "runs")
         self.keys = os.path.join(folder, "keys")
         self.unread = os.path.join(folder, "unread")
