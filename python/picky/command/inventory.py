@@ -2,7 +2,6 @@
 from __future__ import annotations
 
 import argparse
-import json
 import os
 import sys
 import tempfile
@@ -14,12 +13,12 @@ from ..errors import BadLine, Error
 from . import files
 from .convert import check_free
 from .inventory_bar import Bar
-from .inventory_keys import Lister
+from .inventory_keys import Lister, file_record
 from .inventory_output import as_csv, as_json, as_text, fields_of
 from .inventory_page import as_page
 from .inventory_processes import Processes, processors
 from .inventory_records import Found, checked, in_pieces, lines_of, unread_of
-from .inventory_walk import files_of
+from .inventory_walk import File, files_of
 from .said import Refusal, Status, hand_out, printable, refusal_of, say
 from .show import title
 
@@ -35,7 +34,8 @@ def add(parser: argparse.ArgumentParser) -> Callable[[argparse.Namespace], int]:
     parser.description = (
         "List which keys files have, each once: those that are named, and of folders the files that have a key file's name or "
         "begin as a key does. Encrypted private keys are listed by the public key that they show. The list is an inventory, "
-        "as of keyinventory(1), and on a terminal one to read. Each file that isn't read is said, and the status is 1 then."
+        "as of keyinventory(1), and on a terminal one to read. Each file that isn't read is said, and the status is 1 then. "
+        "PATH - is standard input."
     )
     parser.add_argument("paths", metavar="PATH", nargs="+", help=argparse.SUPPRESS)
     parser.add_argument("--merge", action="store_true", help="merge inventories, the PATHs")
@@ -72,7 +72,7 @@ def run(parser: argparse.ArgumentParser, arguments: argparse.Namespace) -> int:
 
 
 def run_with(arguments: argparse.Namespace, found: Found) -> int:
-    """The same, with a place for what is found."""
+    """Finds the keys, writes what is asked for, and says what isn't read."""
     since: Optional[str] = None
     with Bar() as bar:
         if arguments.since is not None:
@@ -98,11 +98,15 @@ def find(paths: List[str], found: Found, bar: Bar) -> None:
     names = os.path.join(found.folder, "names")
     with open(names, "xb") as spool:
         for file in files_of(paths, lambda name, cause: found.refuse(name, 1, cause)):
-            spool.write(json.dumps(file).encode() + b"\n")
+            spool.write(file_record(file))
             count += 1
             bar.step()
     bar.stage("reading", count)
     lister = Lister(found.runs, placed=found.placed)
+    if "-" in paths:
+        # Other processes have no standard input.
+        for batch in ([file_record(File("-", True))], None):
+            found.refuse_all(lister(batch).unread)
     with open(names, "rb") as spool:
         batches: Iterator[List[bytes]] = iter(lambda: list(islice(spool, BATCH)), [])
         with Processes(lister, min(processors(), -(-count // BATCH))) as processes:

@@ -18,6 +18,7 @@ from .sources import FOREIGN, PRIVATE, Source, foreign_key, form_of, public_key
 
 # How much of a file is read to see whether it begins as a key.
 BEGINNING = 4096
+NO_KEY = "it is no key"
 # What a process keeps before it writes it.
 KEPT = 1 << 22
 Take = Callable[[int, bytes], None]
@@ -47,10 +48,9 @@ def list_file(file: File, take: Take, refuse: Refuse) -> None:
             others += 1
             first = piece.line if others == 1 else first
     if not keys and not LIST.fullmatch(os.path.basename(file.name)):
-        refuse(1, "it is no key" if content else "it is empty")
+        refuse(1, NO_KEY if content else "it is empty")
     elif others:
-        more = f", nor are {others - 1:,} lines behind it" if others > 1 else ""
-        refuse(first, f"it is no key{more}")
+        refuse(first, f"{NO_KEY} ({others:,} such lines)" if others > 1 else NO_KEY)
     wipe(content)
 
 
@@ -84,6 +84,11 @@ def line_of(text: bytes) -> bytes:
     line = Inventory.of([opened]).text
     wipe(opened)
     return line
+
+
+def file_record(file: File) -> bytes:
+    """A file, as `Lister` takes it."""
+    return json.dumps(file).encode() + b"\n"
 
 
 class Report(NamedTuple):

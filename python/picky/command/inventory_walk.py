@@ -24,13 +24,15 @@ class File(NamedTuple):
 
 
 def files_of(paths: Iterable[str], refuse: Refuse) -> Iterator[File]:
-    """The files that are named, and those in folders that are. In folders links aren't followed, and of pipes, sockets and devices
-    only those stand here that have a key file's name.
+    """The files that are named, but for standard input ("-"), and those in folders that are. In folders links aren't followed, and of
+    pipes, sockets and devices only those stand here that have a key file's name.
 
     A folder that can't be read is refused, and the others go on.
     """
     for path in paths:
-        if path != "-" and os.path.isdir(path):
+        if path == "-":
+            continue
+        if os.path.isdir(path):
             yield from _files_below(path, refuse)
         else:
             yield File(path, True)
