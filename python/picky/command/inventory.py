@@ -42,7 +42,9 @@ def add(parser: argparse.ArgumentParser) -> Callable[[argparse.Namespace], int]:
     form = parser.add_mutually_exclusive_group()
     form.add_argument("--json", action="store_true", help="write JSON")
     form.add_argument("--csv", action="store_true", help="write CSV")
-    parser.add_argument("--places", action="store_true", help="with each key's files and lines")
+    parser.add_argument(
+        "--places", action="store_true", help="list each key's files and lines, too"
+    )
     parser.add_argument("-o", dest="output", metavar="FILE", help="write FILE, not to output")
     parser.add_argument("--html", metavar="PAGE", help="write a page about the keys, too")
     parser.add_argument(

@@ -42,7 +42,7 @@ h2 { margin: 2.5rem 0 .25rem; font-size: 1.25rem; }
 p { margin: .25rem 0 .75rem; max-width: 44rem; }
 code { font: .8125rem/1.4 ui-monospace, monospace; }
 .soft { color: var(--soft); font-weight: 400; }
-.tiles { display: grid; grid-template-columns: repeat(auto-fill, minmax(9.5rem, 1fr)); gap: .75rem; margin: 1.5rem 0;
+.tiles { display: grid; grid-template-columns: repeat(auto-fill, minmax(8rem, 1fr)); gap: .75rem; margin: 1.5rem 0;
   padding: 0; list-style: none; }
 .tiles a { display: block; height: 100%; padding: .75rem; border-radius: .5rem; background: var(--calm); color: inherit;
   text-decoration: none; line-height: 1.3; }

@@ -28,14 +28,19 @@ class Processes(Generic[Given, Done]):
         context = get_context("fork")
         self._ends: List[Any] = []
         self._processes = []
-        for _ in range(count):
-            here, there = context.Pipe()
-            self._ends.append(here)
-            process = context.Process(target=_serve, args=(work, there, list(self._ends)))
-            process.daemon = True
-            process.start()
-            there.close()
-            self._processes.append(process)
+        # Ctrl-C reaches each process of a terminal; this one ends the others.
+        blocked = signal.pthread_sigmask(signal.SIG_BLOCK, [signal.SIGINT])
+        try:
+            for _ in range(count):
+                here, there = context.Pipe()
+                self._ends.append(here)
+                given = work, there, list(self._ends)
+                process = context.Process(target=_serve, args=given, daemon=True)
+                process.start()
+                there.close()
+                self._processes.append(process)
+        finally:
+            signal.pthread_sigmask(signal.SIG_SETMASK, blocked)
 
     def each(self, batches: Iterator[Given]) -> Iterator[Done]:
         """What the work gives of each batch, as it comes, and in each process at last of None.
@@ -78,8 +83,6 @@ class Processes(Generic[Given, Done]):
 
 
 def _serve(work: Callable[[Any], Any], end: "Connection", others: "List[Connection]") -> None:
-    # Ctrl-C reaches each process of a terminal. The first one ends the others.
-    signal.signal(signal.SIGINT, signal.SIG_IGN)
     for number in (signal.SIGTERM, signal.SIGHUP):
         signal.signal(number, signal.SIG_DFL)
     for other in others:
