@@ -5,7 +5,7 @@ import errno
 import os
 import stat
 import tempfile
-from typing import Optional, Union
+from typing import Iterable, Optional, Union
 
 from .said import Refusal, Status
 
@@ -17,22 +17,32 @@ _AT_ONCE = 1 << 16
 def read(name: str) -> bytearray:
     """What a file has; "-" is standard input.
 
-    Refuses what isn't there or can't be read, what is no regular file, and more than 16,777,216 bytes.
+    Refuses as `opened`, and more than 16,777,216 bytes.
+    """
+    descriptor = opened(name)
+    try:
+        return _all_of(descriptor)
+    finally:
+        os.close(descriptor)
+
+
+def opened(name: str) -> int:
+    """A descriptor of a file; "-" is standard input.
+
+    Refuses what isn't there or can't be read, and what is no regular file.
     """
     if name == "-":
-        return _all_of(0)
+        return os.dup(0)
     try:
         # A pipe without a writer would be waited for.
         descriptor = os.open(name, os.O_RDONLY | os.O_NONBLOCK | os.O_NOCTTY | os.O_CLOEXEC)
     except OSError as error:
         raise Refusal(not_opened(name, error)) from None
-    try:
-        what = kind_of(os.fstat(descriptor).st_mode)
-        if what is not None:
-            raise Refusal(f"it is {what}, and no file")
-        return _all_of(descriptor)
-    finally:
+    what = kind_of(os.fstat(descriptor).st_mode)
+    if what is not None:
         os.close(descriptor)
+        raise Refusal(f"it is {what}, and no file")
+    return descriptor
 
 
 def kind_of(mode: int) -> Optional[str]:
@@ -88,8 +98,8 @@ def with_line_ends(text: Union[bytes, bytearray], *, crlf: bool) -> bytearray:
     return unix
 
 
-def put(path: str, content: bytes, *, force: bool = False) -> None:
-    """Makes a file with mode 600, whole or not at all.
+def put(path: str, content: Union[bytes, Iterable[bytes]], *, force: bool = False) -> None:
+    """Makes a file with mode 600 of its content, or of pieces of that, whole or not at all.
 
     Refuses a file that is there, where it isn't forced, what is no regular file, and what can't be written.
     """
@@ -97,7 +107,8 @@ def put(path: str, content: bytes, *, force: bool = False) -> None:
     try:
         if force:
             _check_regular(target)
-        temporary = _written_beside(target, content)
+        pieces = [content] if isinstance(content, (bytes, bytearray)) else content
+        temporary = _written_beside(target, pieces)
         try:
             if force:
                 os.rename(temporary, target)
@@ -122,7 +133,7 @@ def replace(path: str, content: bytes, *, private: bool) -> None:
     target = os.path.realpath(path)
     try:
         old = os.stat(target)
-        temporary = _written_beside(target, content)
+        temporary = _written_beside(target, [content])
         try:
             new = os.stat(temporary)
             if (old.st_uid, old.st_gid) != (new.st_uid, new.st_gid):
@@ -148,14 +159,15 @@ def _check_regular(target: str) -> None:
         raise Refusal(f"it is {what}, and stays", Status.NOT_WRITTEN)
 
 
-def _written_beside(target: str, content: bytes) -> str:
-    """The name of a temporary file with the content, in the folder of the target."""
+def _written_beside(target: str, pieces: Iterable[bytes]) -> str:
+    """The name of a temporary file of the pieces, in the folder of the target."""
     descriptor, temporary = tempfile.mkstemp(prefix=".picky-", dir=os.path.dirname(target) or ".")
     try:
         try:
-            at = 0
-            while at < len(content):
-                at += os.write(descriptor, memoryview(content)[at:])
+            for content in pieces:
+                at = 0
+                while at < len(content):
+                    at += os.write(descriptor, memoryview(content)[at:])
             os.fsync(descriptor)
         finally:
             os.close(descriptor)

@@ -9,7 +9,7 @@ from typing import Any, List, Optional
 
 from .. import _library
 from ..errors import Error
-from . import comment, convert, passphrase, show
+from . import comment, convert, inventory, passphrase, show
 from .said import Refusal, Status, refusal_of, say
 
 SUBCOMMANDS = (
@@ -17,6 +17,7 @@ SUBCOMMANDS = (
     ("passphrase", passphrase, "set another passphrase, or none"),
     ("comment", comment, "set another comment"),
     ("show", show, "what files are: kinds, fingerprints, certificates"),
+    ("inventory", inventory, "list the keys of files and folders"),
 )
 
 
