@@ -10,21 +10,17 @@ import sys
 import tempfile
 import termios
 import time
+from itertools import chain
 from pathlib import Path
-from typing import Any, Dict, List, Optional, Tuple, Union
+from typing import Dict, List, Optional, Sequence, Tuple, Union
 
-from cryptography.hazmat.primitives.serialization import (
-    Encoding,
-    NoEncryption,
-    PrivateFormat,
-    load_pem_private_key,
-    load_ssh_private_key,
-)
+from cryptography.hazmat.primitives.serialization import load_pem_private_key
+from tools import loaded, numbers
 
 PACKAGE = Path(__file__).resolve().parent.parent
 LIBRARY = PACKAGE.parent / "dist/x86_64-linux/libpicky.so.0"
 SECONDS = 60
-Word = Union[str, bytes, Path]
+PICKY = [sys.executable, "-m", "picky"]
 
 
 def variables() -> Dict[str, str]:
@@ -39,13 +35,17 @@ def variables() -> Dict[str, str]:
     }
 
 
+def words_of(words: Sequence[object]) -> List[Union[str, bytes]]:
+    """The words of a command: bytes as they are, and the texts of all others."""
+    return [it if isinstance(it, bytes) else str(it) for it in words]
+
+
 def picky(
-    *words: Word, given: bytes = b"", cwd: Optional[Path] = None
+    *words: object, given: bytes = b"", cwd: Optional[Path] = None
 ) -> "subprocess.CompletedProcess[bytes]":
     """The command, run to its end without a terminal."""
-    command: List[Word] = [sys.executable, "-m", "picky", *words]
     return subprocess.run(
-        command,
+        words_of([*PICKY, *words]),
         input=given,
         capture_output=True,
         env=variables(),
@@ -55,25 +55,32 @@ def picky(
     )
 
 
-def tool(*words: Word, given: bytes = b"") -> bytes:
+def tool(*words: object, given: bytes = b"") -> bytes:
     """What another program writes to standard output. It has to end with status 0."""
     run = subprocess.run(
-        [*words], input=given, capture_output=True, timeout=SECONDS, start_new_session=True
+        words_of(words), input=given, capture_output=True, timeout=SECONDS, start_new_session=True
     )
     assert run.returncode == 0, (words, run.stderr)
     return run.stdout
 
 
+def by_shell(script: str) -> Tuple[int, str]:
+    """The status and standard error of a shell's script, in which picky_ is the command."""
+    start = f'picky_() {{ {sys.executable} -m picky "$@"; }}\n'
+    run = subprocess.run(["sh", "-c", start + script], capture_output=True, env=variables())
+    return run.returncode, run.stderr.decode()
+
+
 class Terminal:
     """The command on a terminal of its own."""
 
-    def __init__(self, *words: Word, cwd: Optional[Path] = None) -> None:
+    def __init__(self, *words: object, cwd: Optional[Path] = None) -> None:
         self.shown = b""
         self.process, self.terminal = pty.fork()
         if self.process == 0:
             if cwd is not None:
                 os.chdir(cwd)
-            os.execve(sys.executable, [sys.executable, "-m", "picky", *words], variables())
+            os.execve(sys.executable, words_of([*PICKY, *words]), variables())
 
     def shows(self, text: str) -> None:
         """Waits until the terminal shows a text behind what was waited for before."""
@@ -123,27 +130,24 @@ class Terminal:
 
 def ssh_key(
     path: Path,
-    *words: Word,
+    *words: object,
     passphrase: str = "",
     comment: str = "a comment",
     kind: str = "ed25519",
 ) -> Path:
     """A key that ssh-keygen makes, with few rounds."""
-    tool(
-        "ssh-keygen",
-        "-q",
-        "-t",
-        kind,
-        "-a",
-        "1",
-        "-N",
-        passphrase,
-        "-C",
-        comment,
-        "-f",
-        path,
-        *words,
-    )
+    named = {"-t": kind, "-a": 1, "-N": passphrase, "-C": comment, "-f": path}
+    tool("ssh-keygen", "-q", *chain.from_iterable(named.items()), *words)
+    return path
+
+
+def putty_key(
+    path: Path, key: Path, passphrase: str = "", param: str = "passes=1,memory=64"
+) -> Path:
+    """The PPK that puttygen makes of a key that isn't encrypted."""
+    new = written(path.with_suffix(".new"), passphrase)
+    words = ["--ppk-param", param, "-O", "private", "-o", path, "--new-passphrase", new]
+    tool("puttygen", key, *words)
     return path
 
 
@@ -157,16 +161,15 @@ def opened(path: Path, passphrase: str = "") -> bytes:
     """The PKCS #8 that cryptography makes of an OpenSSH or PEM private key: the same for the same secret."""
     text = path.read_bytes()
     password = passphrase.encode() if passphrase else None
-    read = load_ssh_private_key if text.startswith(b"-----BEGIN OPENSSH") else load_pem_private_key
-    key: Any = read(text, password)
-    der: bytes = key.private_bytes(Encoding.DER, PrivateFormat.PKCS8, NoEncryption())
-    return der
+    if text.startswith(b"-----BEGIN OPENSSH"):
+        return numbers(loaded(text, password))
+    return numbers(load_pem_private_key(text, password))
 
 
 def opened_by_puttygen(path: Path, passphrase: str = "") -> bytes:
     """The same of a PPK that puttygen reads."""
     folder = Path(tempfile.mkdtemp(dir=path.parent))
     old, new = written(folder / "old", passphrase), written(folder / "new", "")
-    words: List[Word] = ["puttygen", path, "-O", "private-openssh-new", "-o", folder / "key"]
+    words = ["puttygen", path, "-O", "private-openssh-new", "-o", folder / "key"]
     tool(*words, "--old-passphrase", old, "--new-passphrase", new)
     return opened(folder / "key")

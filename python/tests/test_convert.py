@@ -7,7 +7,7 @@ from pathlib import Path
 from typing import List, Tuple
 
 import pytest
-from running import opened, opened_by_puttygen, picky, ssh_key, tool, written
+from running import by_shell, opened, opened_by_puttygen, picky, ssh_key, tool, written
 
 SECRET = "a secret"
 KINDS: List[Tuple[str, List[str]]] = [
@@ -137,7 +137,9 @@ def test_sets_another_passphrase_or_none(tmp_path: Path) -> None:
     old, new = written(tmp_path / "old", SECRET), written(tmp_path / "new", "another")
     opening = ["convert", key, "--passphrase-file", old, "-o"]
     ppk = tmp_path / "ppk"
-    for words, wanted in ((["--new-passphrase-file", new], "another"), (["--no-passphrase"], "")):
+    rows: List[Tuple[List[object], str]]
+    rows = [(["--new-passphrase-file", new], "another"), (["--no-passphrase"], "")]
+    for words, wanted in rows:
         assert picky(*opening, ppk, *words).returncode == 0
         assert opened_by_puttygen(ppk, wanted) == opened(key, SECRET)
         ppk.unlink()
@@ -236,9 +238,8 @@ def test_says_what_is_wrong_and_goes_on(tmp_path: Path) -> None:
         (wrong, "the passphrase is wrong"),
         (cut, "input.private.PemError"),
     ]
-    names = [name if isinstance(name, bytes) else str(name) for name, _ in rows]
     words = ["--into", folder, "--passphrase-file", secret]
-    run = picky("convert", *names, good, *words)
+    run = picky("convert", *[name for name, _ in rows], good, *words)
     said = run.stderr.decode().splitlines()
     assert (run.returncode, run.stdout, len(said)) == (1, b"", len(rows)), said
     for line, (name, why) in zip(said, rows):
@@ -248,7 +249,7 @@ def test_says_what_is_wrong_and_goes_on(tmp_path: Path) -> None:
 
 
 def test_wants_a_folder_for_several_files_and_other_words(tmp_path: Path) -> None:
-    rows = [
+    rows: List[Tuple[List[str], str]] = [
         (["convert"], "FILE"),
         (["convert", "a", "b"], "--into"),
         (["convert", "a", "b", "-o", "c"], "--into"),
@@ -269,22 +270,10 @@ def test_wants_a_folder_for_several_files_and_other_words(tmp_path: Path) -> Non
 
 def test_says_that_output_fails(tmp_path: Path) -> None:
     key = ssh_key(tmp_path / "key", kind="ecdsa")
-    run = tool_status(f"picky_ convert {key} > /dev/full")
+    run = by_shell(f"picky_ convert {key} > /dev/full")
     assert run == (4, f"picky: {key}: standard output: No space left on device\n")
-    run = tool_status(f"picky_ show {key} > /dev/full")
+    run = by_shell(f"picky_ show {key} > /dev/full")
     assert run == (4, "picky: standard output: No space left on device\n")
-
-
-def tool_status(script: str) -> Tuple[int, str]:
-    """The status and standard error of a shell's script, in which picky_ is the command."""
-    import subprocess
-    import sys
-
-    from running import variables
-
-    start = f'picky_() {{ {sys.executable} -m picky "$@"; }}\n'
-    run = subprocess.run(["sh", "-c", start + script], capture_output=True, env=variables())
-    return run.returncode, run.stderr.decode()
 
 
 def test_leaves_no_part_of_a_file(tmp_path: Path) -> None:
@@ -292,7 +281,7 @@ def test_leaves_no_part_of_a_file(tmp_path: Path) -> None:
     folder = tmp_path / "folder"
     folder.mkdir()
     # No file may get longer than no bytes.
-    status, said = tool_status(f"ulimit -f 0; picky_ convert {key} -o {folder}/key.ppk")
+    status, said = by_shell(f"ulimit -f 0; picky_ convert {key} -o {folder}/key.ppk")
     assert status == 4
     assert said == f"picky: {key}: {folder}/key.ppk: it can't be written: File too large\n"
     assert os.listdir(folder) == []

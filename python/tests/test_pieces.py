@@ -57,8 +57,8 @@ ROWS: List[Tuple[str, bytes, List[Tuple[int, bytes, bytes, bool]]]] = [
 
 def test_cuts_a_file_into_key_texts() -> None:
     for name, content, wanted in ROWS:
-        for kind in (bytes, bytearray):
-            assert [tuple(it) for it in pieces(kind(content))] == wanted, name
+        for given in (content, bytearray(content)):
+            assert [tuple(it) for it in pieces(given)] == wanted, name
 
 
 def test_takes_a_long_line_in_linear_time() -> None:
