@@ -5,6 +5,7 @@ import csv
 import io
 import json
 import os
+import signal
 import subprocess
 import sys
 from pathlib import Path
@@ -171,6 +172,7 @@ def test_goes_on_past_bad_input(tmp_path: Path) -> None:
         (sealed, "pem", "it is encrypted, and shows no public key"),
         (tmp_path / "pipe", "pipe", "it is a pipe, and no file"),
         ("/dev/zero", "/dev/zero", "it is a device, and no file"),
+        ("/proc/self/mem", "/proc/self/mem", "it can't be read: Input/output error"),
         (name, "\\xff\\n.pub", NO_KEY),
     ]
     words = [it for it, _, _ in rows]
@@ -287,13 +289,17 @@ def _folders(tmp_path: Path, monkeypatch: pytest.MonkeyPatch) -> Tuple[Path, Pat
     return keys, temporary
 
 
-def test_leaves_nothing_when_it_is_interrupted(folders: Tuple[Path, Path], tmp_path: Path) -> None:
+def test_leaves_nothing_when_it_is_ended(folders: Tuple[Path, Path], tmp_path: Path) -> None:
     keys, temporary = folders
-    terminal = Terminal("inventory", keys, "-o", tmp_path / "out", "--html", tmp_path / "page")
-    terminal.shows("reading")
-    terminal.interrupt()
-    status, shown = terminal.end()
-    assert status == 130
-    assert "Traceback" not in shown and "picky:" not in shown
-    assert list(temporary.iterdir()) == []
-    assert sorted(tmp_path.iterdir()) == [keys, temporary]
+    for number, wanted in ((signal.SIGINT, 130), (signal.SIGTERM, 143)):
+        terminal = Terminal("inventory", keys, "-o", tmp_path / "out", "--html", tmp_path / "page")
+        terminal.shows("reading")
+        if number == signal.SIGINT:
+            terminal.interrupt()
+        else:
+            os.kill(terminal.process, number)
+        status, shown = terminal.end()
+        assert status == wanted
+        assert "Traceback" not in shown and "picky:" not in shown
+        assert list(temporary.iterdir()) == []
+        assert sorted(tmp_path.iterdir()) == [keys, temporary]

@@ -8,10 +8,11 @@ from pathlib import Path
 from typing import List, Optional, Set, Tuple
 
 import pytest
-from hypothesis import given, settings
+from hypothesis import given
 from hypothesis import strategies as st
 from inventories import entry, text
 from picky.command import inventory_records as records
+from picky.command.inventory_keys import list_file
 from picky.command.inventory_processes import Processes
 from picky.command.inventory_summary import differences
 from picky.command.inventory_walk import File, files_of
@@ -30,7 +31,6 @@ LINES = st.sampled_from(
 
 
 @given(st.lists(st.tuples(LINES, PLACES)))
-@settings(max_examples=50, deadline=None)
 def test_sorts_records_and_reads_them_again(rows: List[Tuple[bytes, Tuple[str, int]]]) -> None:
     with tempfile.TemporaryDirectory() as folder, records.Found(folder, placed=True) as found:
         for number in range(3):
@@ -59,7 +59,6 @@ def test_tells_what_differs(earlier: Set[bytes], later: Set[bytes]) -> None:
 
 
 @given(st.lists(st.binary(min_size=1, max_size=1 << 18), max_size=12))
-@settings(deadline=None)
 def test_joins_lines_to_pieces(lines: List[bytes]) -> None:
     pieces = list(records.in_pieces(lines))
     assert b"".join(pieces) == b"".join(lines)
@@ -101,6 +100,14 @@ def test_says_that_a_folder_is_too_deep(tmp_path: Path) -> None:
     causes: List[str] = []
     assert list(files_of([str(tmp_path)], lambda _, cause: causes.append(cause))) == []
     assert causes == ["it can't be read: File name too long"]
+
+
+def test_says_that_a_file_vanished(tmp_path: Path) -> None:
+    for sure in (True, False):
+        said: List[object] = []
+        gone = File(str(tmp_path / "gone"), sure)
+        list_file(gone, lambda *it: said.append(it), lambda *it: said.append(it))
+        assert said == [(1, "there is no such file")]
 
 
 def test_gives_work_to_processes() -> None:
