@@ -246,7 +246,7 @@ def test_writes_files_whole_or_not_at_all(tmp_path: Path) -> None:
     assert out.read_text().startswith("held,")
     missing = tmp_path / "none/out"
     assert refused(key, "-o", missing, status=4)[1] == [
-        "it can't be written: No such file or directory"
+        f"{missing}: it can't be written: No such file or directory"
     ]
     usages: List[List[Any]] = [
         ["--since", out, key],

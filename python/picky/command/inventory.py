@@ -7,7 +7,7 @@ import sys
 import tempfile
 from functools import partial
 from itertools import islice
-from typing import Callable, Iterator, List, Optional
+from typing import Callable, Iterable, Iterator, List, Optional
 
 from ..errors import BadLine, Error
 from . import files
@@ -27,6 +27,7 @@ USAGE = "[--merge] [--json | --csv] [OPTION..] PATH.."
 BATCH = 64
 # No line of an inventory is longer, since no key text is longer than `files.LARGEST`.
 LONGEST_LINE = 2 * files.LARGEST
+BAD_LINE = "it is no line of an inventory, or isn't greater than the one before"
 
 
 def add(parser: argparse.ArgumentParser) -> Callable[[argparse.Namespace], int]:
@@ -78,8 +79,8 @@ def run_with(arguments: argparse.Namespace, found: Found) -> int:
     since: Optional[str] = None
     with Bar() as bar:
         if arguments.since is not None:
-            since = os.path.join(found.folder, "since")
-            copy_inventory(arguments.since, since, found)
+            copy = os.path.join(found.folder, "since")
+            since = copy if copy_inventory(arguments.since, copy, found) else None
         if arguments.merge:
             merge(arguments.paths, found, bar)
         else:
@@ -125,31 +126,27 @@ def merge(paths: List[str], found: Found, bar: Bar) -> None:
         bar.step()
 
 
-def copy_inventory(path: str, copy: str, found: Found) -> None:
-    """Copies an inventory that the library finds in order. The copy of one that isn't read is empty."""
+def copy_inventory(path: str, copy: str, found: Found) -> bool:
+    """Copies an inventory that the library finds in order, and says whether it is read. The copy of one that isn't is empty."""
     line = 1
     try:
         with open(files.opened(path), "rb") as source, open(copy, "xb") as target:
             lines = iter(partial(source.readline, LONGEST_LINE), b"")
             target.writelines(checked(in_pieces(lines)))
-        return
+        return True
     except BadLine as refusal:
-        line, cause = (
-            refusal.line,
-            "it is no line of an inventory, or isn't greater than the one before",
-        )
+        line, cause = refusal.line, BAD_LINE
     except (Refusal, Error, MemoryError) as error:
         cause = refusal_of(error).sentence
     found.refuse(path, line, cause)
     with open(copy, "wb"):
-        pass
+        return False
 
 
 def write(arguments: argparse.Namespace, found: Found, since: Optional[str]) -> None:
     """Writes the page, and the inventory in the form that is asked for."""
     if arguments.html is not None:
-        page = as_page(found, since, arguments.paths)
-        files.put(arguments.html, in_pieces(page), force=arguments.force)
+        put(arguments.html, as_page(found, since, arguments.paths), arguments.force)
     if arguments.json:
         lines = as_json(found.keys, found.unread, places=arguments.places)
     elif arguments.csv:
@@ -159,10 +156,18 @@ def write(arguments: argparse.Namespace, found: Found, since: Optional[str]) -> 
     else:
         lines = lines_of(found.keys)
     if arguments.output is not None:
-        files.put(arguments.output, in_pieces(lines), force=arguments.force)
+        put(arguments.output, lines, arguments.force)
     else:
         for piece in in_pieces(lines):
             hand_out(piece)
+
+
+def put(path: str, lines: Iterable[bytes], force: bool) -> None:
+    """Makes a file of lines."""
+    try:
+        files.put(path, in_pieces(lines), force=force)
+    except Refusal as refusal:
+        raise Refusal(f"{printable(path)}: {refusal.sentence}", refusal.status) from None
 
 
 def say_unread(found: Found) -> Status:

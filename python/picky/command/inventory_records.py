@@ -11,7 +11,7 @@ import subprocess
 from itertools import groupby
 from typing import Iterable, Iterator, List, NamedTuple, Tuple
 
-from ..errors import BadLine
+from ..errors import BadLine, LibraryFault
 from ..inventory import Inventory, Item
 from .said import Refusal, Status
 
@@ -55,8 +55,11 @@ class Found:
         runs = [os.path.join(self.runs, name) for name in os.listdir(self.runs)]
         sort(self.keys, runs, "--merge", "--unique")
         sort(self.unread, [self.unread])
-        for _ in checked(in_pieces(lines_of(self.keys))):
-            pass
+        try:
+            for _ in checked(in_pieces(lines_of(self.keys))):
+                pass
+        except BadLine as fault:
+            raise LibraryFault(f"what was listed is no inventory: {fault.cause}") from None
 
     def __enter__(self) -> Found:
         return self
