@@ -23,7 +23,10 @@ from .errors import (
     Unsupported,
     WrongPassphrase,
 )
+from .inventory import Inventory, Item
 from .keys import Fingerprints, PrivateKey, PublicKey, Sealing, Shown, Target, shown
+from .ledger import Issued, Ledger, Reply
+from .policy import Denial, Grant, decide
 from .signatures import KeySigner
 
 __all__ = [
@@ -37,11 +40,17 @@ __all__ = [
     "BadSignature",
     "Certificate",
     "CommentNotCarried",
+    "Denial",
     "Draft",
     "Entry",
     "Error",
     "Fingerprints",
+    "Grant",
+    "Inventory",
+    "Issued",
+    "Item",
     "KeySigner",
+    "Ledger",
     "LibraryFault",
     "LibraryMissing",
     "LineOption",
@@ -52,6 +61,7 @@ __all__ = [
     "PassphraseNeeded",
     "PrivateKey",
     "PublicKey",
+    "Reply",
     "Sealing",
     "Shown",
     "Signer",
@@ -62,5 +72,6 @@ __all__ = [
     "Unsupported",
     "WrongPassphrase",
     "authorized_keys",
+    "decide",
     "shown",
 ]

@@ -4,7 +4,6 @@ The private keys stay in the agent, or in the device behind it.
 """
 from __future__ import annotations
 
-import base64
 import os
 import socket
 from types import TracebackType
@@ -124,9 +123,6 @@ class AgentSigner:
 def _key(blob: bytes, comment: bytes) -> Optional[PublicKey]:
     """The key of a blob; none of a certificate's, and where it isn't read here."""
     try:
-        kind = bytes(Fields(blob).string())
-        key = PublicKey.read(kind + b" " + base64.b64encode(blob))
-    except (BadKey, LibraryFault, Unsupported):
+        return PublicKey.of(blob, comment.decode("utf-8", "replace"))
+    except (BadKey, Unsupported):
         return None
-    text = comment.decode("utf-8", "replace")
-    return key.with_comment(text) if key.kind.encode() == kind else None

@@ -1,7 +1,7 @@
 """Certificates (OpenSSH's PROTOCOL.certkeys): read, verified, and made."""
 from __future__ import annotations
 
-import os
+import secrets
 from dataclasses import dataclass, field
 from typing import NamedTuple, Optional, Protocol, Sequence, Tuple
 
@@ -149,18 +149,19 @@ class Certificate:
         principals: Sequence[str] = (),
         critical_options: Sequence[str] = (),
         extensions: Optional[Sequence[str]] = None,
-        type: Optional[str] = None,
     ) -> Draft:
         """What is to be signed for a key, beside the key's comment. `kind` is "user" or "host"; times are in seconds since 1970;
         a critical option is force-command=TEXT, source-address=TEXT or verify-required, and so an extension is a name, or with =TEXT.
-        Without extensions a user's certificate has the five that ssh-keygen gives; an empty list isn't another one.
+        Without a list of extensions a user's certificate has the five that ssh-keygen gives.
 
-        Refuses what no certificate is made of (`BadRequest`), a comment that a line can't hold (`CommentNotCarried`), and what is too
+        Refuses what no certificate is made of (`BadRequest`), as a user's with an empty list of extensions, a comment that a line can't hold (`CommentNotCarried`), and what is too
         long (`TooLong`). None is made for a key of NIST P-521, and none is signed by a security key.
         """
         if issuer.kind not in ALGORITHMS:
             raise BadRequest(f"a key of {issuer.kind} issues nothing here")
-        words = ["--type", type or key.kind.replace("@openssh.com", "") + SUFFIX]
+        if kind == "user" and extensions is not None and not extensions:
+            raise BadRequest("a user's certificate without extensions isn't made here")
+        words = ["--type", key.kind.replace("@openssh.com", "") + SUFFIX]
         words += ["--kind", "client" if kind == "user" else kind, "--serial", str(serial)]
         words += ["--after", str(after), "--before", str(before)]
         words += ["--id", key_id, "--algorithm", ALGORITHMS[issuer.kind][0]]
@@ -173,7 +174,7 @@ class Certificate:
             for value in values:
                 words += [name, value]
         encoded = tuple(bytes(data_of(it)) for it in words)
-        fresh = os.urandom(NONCE_LEN)
+        fresh = secrets.token_bytes(NONCE_LEN)
         lines = issuer.with_comment("").write(), key.write()
         content = bytes(_library.certificate_draft(encoded, lines[0], lines[1], fresh))
         return Draft(content, issuer, encoded, lines, fresh)

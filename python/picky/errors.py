@@ -5,13 +5,16 @@ error that this package finds itself has the number 0 and no name.
 """
 from __future__ import annotations
 
-from typing import Dict, Type
+from typing import Dict, Optional, Type
 
 
 class Error(Exception):
-    """A refusal: `cause` says it in words, `number` and `name` are the library's."""
+    """A refusal: `cause` says it in words, `number` and `name` are the library's. Where one of several texts is refused, `place` is its
+    place among them, counted from 0.
+    """
 
     said = "the library refuses it"
+    place: Optional[int] = None
 
     def __init__(self, cause: str = "", number: int = 0, name: str = "") -> None:
         super().__init__(cause, number, name)

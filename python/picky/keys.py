@@ -8,7 +8,7 @@ from __future__ import annotations
 
 import base64
 import hashlib
-import os
+import secrets
 from dataclasses import astuple, dataclass, field
 from enum import Enum
 from types import TracebackType
@@ -23,7 +23,8 @@ from cryptography.hazmat.primitives.asymmetric.rsa import RSAPrivateKey
 from . import _library
 from ._library import Data, Handed
 from .answers import rounds, wipe
-from .errors import BadKey, BadSealing, Unsupported, WrongPassphrase
+from .errors import BadKey, BadSealing, LibraryFault, Unsupported, WrongPassphrase
+from .wire import Fields
 
 Text = Union[bytes, bytearray, str]
 Passphrase = Union[str, bytes, bytearray]
@@ -108,6 +109,18 @@ class PublicKey:
         given = data_of(text)
         _library.read_public(given, 1)
         return _shown_key(given)
+
+    @classmethod
+    def of(cls, blob: Data, comment: str = "") -> PublicKey:
+        """The public key of a blob. Refuses one of a certificate (`BadKey`), and what is none (`BadKey`, `Unsupported`)."""
+        try:
+            kind = bytes(Fields(blob).string())
+        except LibraryFault:
+            raise BadKey() from None
+        key = cls.read(kind + b" " + base64.b64encode(blob))
+        if key.kind.encode() != kind:
+            raise BadKey()
+        return key.with_comment(comment)
 
     @property
     def fingerprints(self) -> Fingerprints:
@@ -265,14 +278,14 @@ class PrivateKey:
         """
         pass_out = data_of(passphrase)
         if sealing is None:
-            fresh = os.urandom(FRESH) if pass_out else b""
+            fresh = secrets.token_bytes(FRESH) if pass_out else b""
             return rounds(
                 lambda answers: _library.convert_by(
                     self._text, target.value, b"", pass_out, fresh, answers
                 )
             )
         numbers = sealing.numbers(target)
-        fresh = os.urandom(FRESH + sealing.salt_len) if pass_out else b""
+        fresh = secrets.token_bytes(FRESH + sealing.salt_len) if pass_out else b""
         return rounds(
             lambda answers: _library.seal_by(self._text, numbers, b"", pass_out, fresh, answers)
         )

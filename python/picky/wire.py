@@ -38,8 +38,11 @@ class Fields:
         return bytes(self.string()).decode()
 
     def mpint(self) -> int:
-        """An mpint, taken for a number that isn't negative."""
-        return int.from_bytes(self.string(), "big")
+        """An mpint that isn't negative."""
+        content = self.string()
+        if content and content[0] >= 0x80:
+            raise LibraryFault("an mpint is negative")
+        return int.from_bytes(content, "big")
 
     def strings(self) -> List[memoryview]:
         """All strings that are left."""
