@@ -75,7 +75,7 @@ def run(parser: argparse.ArgumentParser, arguments: argparse.Namespace) -> int:
 
 
 def run_with(arguments: argparse.Namespace, found: Found) -> int:
-    """Finds the keys, writes what is asked for, and says what isn't read."""
+    """Finds the keys, says what isn't read, and writes what is asked for."""
     since: Optional[str] = None
     with Bar() as bar:
         if arguments.since is not None:
@@ -87,10 +87,19 @@ def run_with(arguments: argparse.Namespace, found: Found) -> int:
             find(arguments.paths, found, bar)
         bar.stage("sorting")
         found.sort()
-    try:
-        write(arguments, found, since)
-    finally:
-        status = say_unread(found)
+    status = Status.DONE
+    for place, cause in unread_of(found.unread):
+        say(f"{title(fields_of(place))}: {cause}")
+        status = Status.REFUSED
+    with Bar() as bar:
+        bar.stage("writing")
+        if arguments.html is not None:
+            put(arguments.html, as_page(found, since, arguments.paths), arguments.force)
+        if arguments.output is not None:
+            put(arguments.output, listed(arguments, found), arguments.force)
+    if arguments.output is None:
+        for piece in in_pieces(listed(arguments, found)):
+            hand_out(piece)
     return status
 
 
@@ -143,23 +152,15 @@ def copy_inventory(path: str, copy: str, found: Found) -> bool:
         return False
 
 
-def write(arguments: argparse.Namespace, found: Found, since: Optional[str]) -> None:
-    """Writes the page, and the inventory in the form that is asked for."""
-    if arguments.html is not None:
-        put(arguments.html, as_page(found, since, arguments.paths), arguments.force)
+def listed(arguments: argparse.Namespace, found: Found) -> Iterator[bytes]:
+    """The keys in the form that is asked for, in lines or smaller pieces."""
     if arguments.json:
-        lines = as_json(found.keys, found.unread, places=arguments.places)
-    elif arguments.csv:
-        lines = as_csv(found.keys, places=arguments.places)
-    elif arguments.places or (arguments.output is None and sys.stdout.isatty()):
-        lines = as_text(found.keys)
-    else:
-        lines = lines_of(found.keys)
-    if arguments.output is not None:
-        put(arguments.output, lines, arguments.force)
-    else:
-        for piece in in_pieces(lines):
-            hand_out(piece)
+        return as_json(found.keys, found.unread, places=arguments.places)
+    if arguments.csv:
+        return as_csv(found.keys, places=arguments.places)
+    if arguments.places or (arguments.output is None and sys.stdout.isatty()):
+        return as_text(found.keys)
+    return lines_of(found.keys)
 
 
 def put(path: str, lines: Iterable[bytes], force: bool) -> None:
@@ -168,12 +169,3 @@ def put(path: str, lines: Iterable[bytes], force: bool) -> None:
         files.put(path, in_pieces(lines), force=force)
     except Refusal as refusal:
         raise Refusal(f"{printable(path)}: {refusal.sentence}", refusal.status) from None
-
-
-def say_unread(found: Found) -> Status:
-    """Says what isn't read, and answers how the run ends."""
-    status = Status.DONE
-    for place, cause in unread_of(found.unread):
-        say(f"{title(fields_of(place))}: {cause}")
-        status = Status.REFUSED
-    return status
