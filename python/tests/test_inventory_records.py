@@ -11,12 +11,14 @@ import pytest
 from hypothesis import given
 from hypothesis import strategies as st
 from inventories import entry, text
+from picky import Inventory
 from picky.command import inventory_records as records
 from picky.command.inventory_keys import list_file
 from picky.command.inventory_processes import Processes
 from picky.command.inventory_summary import differences
 from picky.command.inventory_walk import File, files_of
 from picky.command.said import Refusal, Status
+from running import ssh_key, tool, written
 
 NAMES = st.binary(min_size=1, max_size=20).filter(lambda it: b"\0" not in it).map(os.fsdecode)
 PLACES = st.tuples(NAMES, st.integers(1, 20_000_000))
@@ -108,6 +110,41 @@ def test_says_that_a_file_vanished(tmp_path: Path) -> None:
         gone = File(str(tmp_path / "gone"), sure)
         list_file(gone, lambda *it: said.append(it), lambda *it: said.append(it))
         assert said == [(1, "there is no such file")]
+
+
+@pytest.fixture(scope="module")
+def key_files(tmp_path_factory: pytest.TempPathFactory) -> List[bytes]:
+    """Key files of ssh-keygen in several forms."""
+    folder = tmp_path_factory.mktemp("keys")
+    for form in ("RFC4716", "PEM", "PKCS8"):
+        for passphrase in ("", "a secret"):
+            name = f"{form}{len(passphrase)}"
+            ssh_key(folder / name, "-m", form, kind="ecdsa", passphrase=passphrase)
+    for form in ("RFC4716", "PKCS8"):
+        public = tool("ssh-keygen", "-e", "-m", form, "-f", folder / "PEM0.pub")
+        written(folder / f"public {form}", public)
+    return [it.read_bytes() for it in sorted(folder.iterdir())]
+
+
+@given(st.data())
+def test_takes_or_refuses_what_a_file_has(key_files: List[bytes], data: st.DataObject) -> None:
+    changed = bytearray(b"".join(data.draw(st.lists(st.sampled_from(key_files), max_size=3))))
+    for _ in range(data.draw(st.integers(0, 3))):
+        at = data.draw(st.integers(0, len(changed)))
+        end = at + data.draw(st.integers(0, 40))
+        changed[at:end] = data.draw(st.binary(max_size=40) | st.text(max_size=9).map(str.encode))
+    with tempfile.TemporaryDirectory() as folder:
+        file = written(Path(folder, "file"), bytes(changed))
+        lines: List[bytes] = []
+        causes: List[str] = []
+        for sure in (True, False):
+            list_file(
+                File(str(file), sure),
+                lambda _, line: lines.append(line),
+                lambda _, cause: causes.append(cause),
+            )
+    assert all(len(list(Inventory.read(line))) == 1 for line in lines)
+    assert lines or causes
 
 
 def test_gives_work_to_processes() -> None:
