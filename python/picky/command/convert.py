@@ -11,7 +11,7 @@ from ..answers import wipe
 from ..keys import PrivateKey, Target
 from . import files
 from .passphrases import Passphrases, add_new_options, add_options, apart, new
-from .said import Refusal, Status, each, hand_out, printable
+from .said import Refusal, Status, each, printable
 from .sources import PRIVATE, Source, first, foreign_text, private_key, public_key
 
 TARGETS = {
@@ -82,14 +82,14 @@ def run(parser: argparse.ArgumentParser, arguments: argparse.Namespace) -> int:
 
     def convert(name: str) -> None:
         nonlocal new_passphrase
+        path: Optional[str] = arguments.output
         if arguments.into is not None:
             path = os.path.join(arguments.into, name_of(name, arguments.to))
             if path in made:
                 raise Refusal(f"{printable(path)} was made of another file", Status.NOT_WRITTEN)
-            check_free(path, arguments.force)
-        elif arguments.output is not None:
-            path = arguments.output
-            check_free(path, arguments.force)
+        if path is not None:
+            files.check_free(path, arguments.force)
+        given = first(name)
         given = first(name)
         if arguments.to in PUBLIC:
             content = public_text(given, passphrases, TARGETS[arguments.to])
@@ -104,14 +104,9 @@ def run(parser: argparse.ArgumentParser, arguments: argparse.Namespace) -> int:
                     passphrase = new_passphrase
                 content = apart(lambda: private_text(key, TARGETS[arguments.to], passphrase))
         content = files.with_line_ends(content, crlf=arguments.line_ends == "crlf")
-        if arguments.into is not None or arguments.output is not None:
-            try:
-                files.put(path, content, force=arguments.force)
-            except Refusal as refusal:
-                raise Refusal(f"{printable(path)}: {refusal.sentence}", refusal.status) from None
+        files.deliver(path, content, force=arguments.force)
+        if path is not None:
             made.add(path)
-        else:
-            hand_out(content)
         wipe(content)
 
     if arguments.into is not None:
@@ -140,14 +135,6 @@ def name_of(name: str, form: str) -> str:
             base = base[: -len(end)]
             break
     return base + ENDS[form]
-
-
-def check_free(path: str, force: bool) -> None:
-    """Refuses a file that is there, before a passphrase is asked for."""
-    if not force and os.path.lexists(path):
-        raise Refusal(
-            f"{printable(path)}: it is there already; --force replaces it", Status.NOT_WRITTEN
-        )
 
 
 def public_text(given: Source, passphrases: Passphrases, target: Optional[Target]) -> bytearray:

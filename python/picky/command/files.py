@@ -7,7 +7,7 @@ import stat
 import tempfile
 from typing import Iterable, Optional, Union
 
-from .said import Refusal, Status
+from .said import Refusal, Status, hand_out, printable
 
 # What the programs read at most.
 LARGEST = 16_777_216
@@ -21,7 +21,7 @@ def read(name: str) -> bytearray:
     """
     descriptor = opened(name)
     try:
-        return _all_of(descriptor)
+        return content_of(descriptor)
     finally:
         os.close(descriptor)
 
@@ -67,7 +67,8 @@ def not_opened(name: str, error: OSError) -> str:
     return f"it is {what}, and no file" if what else f"it can't be read: {error.strerror}"
 
 
-def _all_of(descriptor: int) -> bytearray:
+def content_of(descriptor: int) -> bytearray:
+    """What is read of a descriptor, up to its end. Refuses more than 16,777,216 bytes."""
     content = bytearray()
     room = bytearray(_AT_ONCE)
     try:
@@ -148,6 +149,25 @@ def replace(path: str, content: bytes, *, private: bool) -> None:
         _keep_names(target)
     except OSError as error:
         raise Refusal(f"it can't be written: {error.strerror}", Status.NOT_WRITTEN) from None
+
+
+def check_free(path: str, force: bool) -> None:
+    """Refuses a file that is there, before anything is asked for or done."""
+    if not force and os.path.lexists(path):
+        raise Refusal(
+            f"{printable(path)}: it is there already; --force replaces it", Status.NOT_WRITTEN
+        )
+
+
+def deliver(path: Optional[str], content: bytes, *, force: bool) -> None:
+    """Makes a file, as `put`; without a path writes to standard output."""
+    if path is None:
+        hand_out(content)
+        return
+    try:
+        put(path, content, force=force)
+    except Refusal as refusal:
+        raise Refusal(f"{printable(path)}: {refusal.sentence}", refusal.status) from None
 
 
 def _check_regular(target: str) -> None:

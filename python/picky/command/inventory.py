@@ -11,7 +11,6 @@ from typing import Callable, Iterable, Iterator, List, Optional
 
 from ..errors import BadLine, Error
 from . import files
-from .convert import check_free
 from .inventory_bar import Bar
 from .inventory_keys import Lister, file_record
 from .inventory_output import as_csv, as_json, as_text, fields_of
@@ -63,7 +62,7 @@ def run(parser: argparse.ArgumentParser, arguments: argparse.Namespace) -> int:
         parser.error("--since is for --html")
     for path in (arguments.output, arguments.html):
         if path is not None:
-            check_free(path, arguments.force)
+            files.check_free(path, arguments.force)
     placed = arguments.places or (arguments.html is not None and not arguments.merge)
     try:
         with tempfile.TemporaryDirectory(prefix="picky-") as folder:

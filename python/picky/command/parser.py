@@ -9,7 +9,7 @@ from typing import Any, List, Optional
 
 from .. import _library
 from ..errors import Error
-from . import comment, convert, inventory, passphrase, show
+from . import authorize, certify, comment, convert, inventory, ledger, passphrase, show
 from .said import Refusal, Status, refusal_of, say
 
 SUBCOMMANDS = (
@@ -18,11 +18,18 @@ SUBCOMMANDS = (
     ("comment", comment, "set another comment"),
     ("show", show, "what files are: kinds, fingerprints, certificates"),
     ("inventory", inventory, "list the keys of files and folders"),
+    ("certify", certify, "issue a certificate"),
+    ("ledger", ledger, "issue certificates, no serial twice"),
+    ("authorize", authorize, "who gets in, for sshd"),
 )
 
 
 def _formatter(prog: str) -> argparse.HelpFormatter:
     return argparse.HelpFormatter(prog, max_help_position=29, width=79)
+
+
+def _raw_formatter(prog: str) -> argparse.HelpFormatter:
+    return argparse.RawDescriptionHelpFormatter(prog, width=79)
 
 
 def parser() -> argparse.ArgumentParser:
@@ -31,20 +38,20 @@ def parser() -> argparse.ArgumentParser:
         "picky",
         usage="picky COMMAND [OPTION..] [FILE..]",
         description="SSH keys of OpenSSH and PuTTY. `picky COMMAND --help` has more.",
-        formatter_class=_formatter,
+        epilog="commands:\n" + "\n".join(f"  {name:<12}{what}" for name, _, what in SUBCOMMANDS),
+        formatter_class=_raw_formatter,
         allow_abbrev=False,
         add_help=False,
     )
     whole.add_argument("-h", "--help", action="help", help="show this text")
     version = f"picky {_library.version()}"
     whole.add_argument("--version", action="version", version=version, help="show the version")
-    commands = whole.add_subparsers(metavar="COMMAND", required=True, title="commands")
-    for name, module, summary in SUBCOMMANDS:
+    commands = whole.add_subparsers(metavar="COMMAND", required=True, help=argparse.SUPPRESS)
+    for name, module, _ in SUBCOMMANDS:
         one = commands.add_parser(
             name,
             prog=f"picky {name}",
             usage=f"picky {name} {module.USAGE}",
-            help=summary,
             formatter_class=_formatter,
             allow_abbrev=False,
             add_help=False,
