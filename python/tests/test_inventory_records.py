@@ -6,6 +6,7 @@ import signal
 import tempfile
 from pathlib import Path
 from typing import List, Optional, Set, Tuple
+from unittest.mock import patch
 
 import pytest
 from hypothesis import given
@@ -34,12 +35,13 @@ LINES = st.sampled_from(
 
 @given(st.lists(st.tuples(LINES, PLACES)))
 def test_sorts_records_and_reads_them_again(rows: List[Tuple[bytes, Tuple[str, int]]]) -> None:
-    with tempfile.TemporaryDirectory() as folder, records.Found(folder, placed=True) as found:
-        for number in range(3):
-            made = [
-                records.key_record(line, records.place_record(*it)) for line, it in rows[number::3]
-            ]
-            Path(found.runs, str(number)).write_bytes(b"".join(sorted(made)))
+    with tempfile.TemporaryDirectory() as folder:
+        found = records.Found(folder, placed=True)
+        with patch.object(records, "KEPT", 200):
+            runs = records.Runs(found.key_runs)
+            for line, place in rows:
+                runs.add(records.key_record(line, records.place_record(*place)))
+            runs.write()
         for _, place in rows:
             found.refuse(*place, "\n\tit")
         found.sort()
@@ -48,8 +50,8 @@ def test_sorts_records_and_reads_them_again(rows: List[Tuple[bytes, Tuple[str, i
             kept = list(file)
         pairs = zip(map(records.line_of, kept), records.places_of(kept))
         assert sorted(pairs) == sorted(set(rows))
-        unread = [(place, cause) for place, cause in records.unread_of(found.unread)]
-        assert sorted(unread) == sorted((place, "\n\tit") for _, place in rows)
+        unread = set(records.unread_of(found.unread))
+        assert unread == {(place, "\n\tit") for _, place in rows}
 
 
 @given(st.sets(LINES), st.sets(LINES))

@@ -66,8 +66,7 @@ def run(parser: argparse.ArgumentParser, arguments: argparse.Namespace) -> int:
     placed = arguments.places or (arguments.html is not None and not arguments.merge)
     try:
         with tempfile.TemporaryDirectory(prefix="picky-") as folder:
-            with Found(folder, placed=placed) as found:
-                return run_with(arguments, found)
+            return run_with(arguments, Found(folder, placed=placed))
     except OSError as error:
         where = f"{printable(str(error.filename))}: " if error.filename else ""
         raise Refusal(f"{where}{error.strerror}", Status.NOT_WRITTEN) from None
@@ -113,24 +112,23 @@ def find(paths: List[str], found: Found, bar: Bar) -> None:
             count += 1
             bar.step()
     bar.stage("reading", count)
-    lister = Lister(found.runs, placed=found.placed)
+    lister = Lister(found)
     if "-" in paths:
         # Other processes have no standard input.
-        for batch in ([file_record(File("-", True))], None):
-            found.refuse_all(lister(batch).unread)
+        lister([file_record(File("-", True))])
+        lister(None)
     with open(names, "rb") as spool:
         batches: Iterator[List[bytes]] = iter(lambda: list(islice(spool, BATCH)), [])
         with Processes(lister, min(processors(), -(-count // BATCH))) as processes:
-            for report in processes.each(batches):
-                found.refuse_all(report.unread)
-                bar.step(report.files)
+            for files_done in processes.each(batches):
+                bar.step(files_done)
 
 
 def merge(paths: List[str], found: Found, bar: Bar) -> None:
     """Takes the lines of inventories."""
     bar.stage("reading", len(paths))
     for number, path in enumerate(paths):
-        copy_inventory(path, os.path.join(found.runs, str(number)), found)
+        copy_inventory(path, os.path.join(found.key_runs, str(number)), found)
         bar.step()
 
 

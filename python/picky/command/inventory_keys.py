@@ -3,14 +3,14 @@ from __future__ import annotations
 
 import json
 import os
-from typing import Callable, List, NamedTuple, Optional
+from typing import Callable, List, Optional
 
 from ..answers import wipe
 from ..errors import Error, PassphraseNeeded
 from ..inventory import Inventory
 from ..keys import Target
 from . import files
-from .inventory_records import key_record, place_record, unread_record
+from .inventory_records import Found, Runs, key_record, place_record, unread_record
 from .inventory_walk import LIST, File
 from .pieces import pieces
 from .said import Refusal, refusal_of
@@ -19,8 +19,6 @@ from .sources import FOREIGN, PRIVATE, Source, foreign_key, form_of, public_key
 # How much of a file is read to see whether it begins as a key.
 BEGINNING = 4096
 NO_KEY = "it is no key"
-# What a process keeps before it writes it.
-KEPT = 1 << 22
 Take = Callable[[int, bytes], None]
 Refuse = Callable[[int, str], None]
 
@@ -91,47 +89,28 @@ def file_record(file: File) -> bytes:
     return json.dumps(file).encode() + b"\n"
 
 
-class Report(NamedTuple):
-    """How many files were looked at, and records of what wasn't read."""
-
-    files: int
-    unread: List[bytes]
-
-
 class Lister:
-    """Lists batches of files. It keeps the records of their keys, and writes them, sorted, to files in a folder."""
+    """Lists batches of files: it writes records of their keys, and of what isn't read."""
 
-    def __init__(self, folder: str, *, placed: bool) -> None:
-        self.folder, self.placed = folder, placed
-        self.kept: List[bytes] = []
-        self.size = self.written = 0
+    def __init__(self, found: Found) -> None:
+        self.placed = found.placed
+        self.keys, self.unread = Runs(found.key_runs), Runs(found.unread_runs)
 
-    def __call__(self, batch: Optional[List[bytes]]) -> Report:
-        """Lists the files of a batch; without one writes what is kept."""
-        unread: List[bytes] = []
+    def __call__(self, batch: Optional[List[bytes]]) -> int:
+        """Lists the files of a batch, and gives their number. Without a batch it writes what is left."""
         for record in batch or ():
-            file = File(*json.loads(record))
-
-            def take(at: int, line: bytes) -> None:
-                places = [place_record(file.name, at)] if self.placed else []
-                self.kept.append(key_record(line, *places))
-                self.size += len(self.kept[-1])
-
-            def refuse(at: int, cause: str) -> None:
-                unread.append(unread_record(file.name, at, cause))
-
-            list_file(file, take, refuse)
-            if self.size > KEPT:
-                self._write()
+            self._list(File(*json.loads(record)))
         if batch is None:
-            self._write()
-        return Report(len(batch or ()), unread)
+            self.keys.write()
+            self.unread.write()
+        return len(batch or ())
 
-    def _write(self) -> None:
-        if self.kept:
-            self.kept.sort()
-            path = os.path.join(self.folder, f"{os.getpid()}-{self.written}")
-            with open(path, "xb") as run:
-                run.writelines(self.kept)
-        self.kept.clear()
-        self.size, self.written = 0, self.written + 1
+    def _list(self, file: File) -> None:
+        def take(at: int, line: bytes) -> None:
+            places = [place_record(file.name, at)] if self.placed else []
+            self.keys.add(key_record(line, *places))
+
+        def refuse(at: int, cause: str) -> None:
+            self.unread.add(unread_record(file.name, at, cause))
+
+        list_file(file, take, refuse)
