@@ -1,101 +1,102 @@
 """Keys of ssh-keygen and puttygen, opened and written, with every cipher and derivation."""
 from __future__ import annotations
 
-from typing import Dict
+from pathlib import Path
+from typing import List
 
 import pytest
+from making import CIPHERS, COMMENTS, FLAVOURS, PASSES, params_of, sealing_of
 from picky import PrivateKey, PublicKey, Sealing, Target, Unsupported, shown
-from tools import NAMES, Tools, loaded, made, numbers
+from tools import NAMES, Made, Tools, each, loaded, numbers
 
-CIPHERS = ("aes128-cbc", "aes128-ctr", "aes256-cbc", "aes256-ctr")
 READ_BY_CRYPTOGRAPHY = CIPHERS[2:]
-FLAVOURS = ("argon2d", "argon2i", "argon2id")
 PPKS = (Target.PPK2, Target.PPK3, Target.PPK2_OPENSSH, Target.PPK3_OPENSSH)
-COMMENTS = ("me@host", "", "two words of mine", 'a "quoted" one', "m\u00fcller \U0001f511")
-PASSES = ("secret", "p", "p\u00e4ss \U0001f511", "long " * 30, "--", " spaces ")
-# How many keys of each kind, of each program.
-BY_SSH_KEYGEN = {"rsa1024": 10, "rsa2048": 3, "p256": 36, "p384": 36, "p521": 36, "ed25519": 100}
-BY_PUTTYGEN = {"rsa1024": 10, "rsa2048": 2, "p256": 36, "p384": 36, "p521": 36, "ed25519": 70}
-
-
-def params(number: int) -> str:
-    """Of three files one has version 2, and the others each sort of Argon2 in turn, with little memory."""
-    if number % 3 == 0:
-        return "version=2"
-    flavour, lanes = FLAVOURS[number // 3 % 3], 1 + number % 4
-    memory, passes = 8 * lanes + number % 57, 1 + number % 5
-    return f"version=3,kdf={flavour},memory={memory},passes={passes},parallelism={lanes}"
 
 
 def sealing(number: int) -> Sealing:
     """What the package encrypts with, as various."""
     flavour, lanes = ("Argon2d", "Argon2i", "Argon2id")[number % 3], 1 + number % 4
     memory, passes, salt = 8 * lanes + number % 61, 1 + number % 5, 8 + number % 40
-    return Sealing(1 + number % 16, flavour, memory, passes, lanes, salt)
+    return Sealing(1 + number % 3, flavour, memory, passes, lanes, salt)
 
 
-def written(tools: Tools, key: PrivateKey, text: bytes, name: str, number: int) -> None:
-    """What is written of a key, encrypted and not, is the key to ssh-keygen, puttygen and cryptography."""
-    line = tools.public_line(text)
-    wanted, passphrase, it = numbers(loaded(text)), PASSES[number % len(PASSES)], sealing(number)
-    for given in (None, passphrase):
+def number_of(made: Made) -> int:
+    return int(made.name.split()[-1])
+
+
+def check_written(tools: Tools, made: Made) -> None:
+    """What is written of a key, encrypted and not, is the key to cryptography and puttygen, and of every fourth to ssh-keygen."""
+    number, wanted = number_of(made), numbers(loaded(made.open_text))
+    key, it = PrivateKey.read(made.open_text), sealing(number)
+    passphrase = PASSES[number % len(PASSES)]
+    for given in ("", passphrase):
         content = bytes(key.write(Target.OPENSSH, given, sealing=it))
-        assert numbers(loaded(content, given.encode() if given else None)) == wanted, (name, given)
-        assert tools.public_line(content, (given or "").encode()) == line, (name, given)
-    target = (Target.PPK2, Target.PPK3)[number % 2]
-    for given in (None, passphrase):
+        assert numbers(loaded(content, given.encode() or None)) == wanted, (made.name, given)
+        if number % 4 == 0:
+            line = tools.public_line(content, given.encode())
+            assert (line or "").split() == made.line.split(), (made.name, given)
+    # Each Ed25519 key is written as all that puttygen reads, others as one of it.
+    every = [(target, given) for target in PPKS[:2] for given in ("", passphrase)]
+    for target, given in every if made.kind == "ed25519" else every[number % 4 :][:1]:
         ppk = bytes(key.write(target, given, sealing=it))
-        opened = tools.opened_by_putty(ppk, (given or "").encode())
-        assert opened and numbers(loaded(opened)) == wanted, (name, target, given)
-        assert tools.putty_line(ppk).rstrip() == line, (name, target, given)
+        opened = tools.opened_by_putty(ppk, given.encode())
+        assert opened and numbers(loaded(opened)) == wanted, (made.name, target, given)
+        assert PrivateKey.read(opened).comment == made.comment, (made.name, target, given)
 
 
-@pytest.mark.parametrize("kind", BY_SSH_KEYGEN)
-def test_keys_of_ssh_keygen_are_read_and_written(kind: str, tools: Tools) -> None:
-    for number in range(BY_SSH_KEYGEN[kind]):
-        comment, passphrase = COMMENTS[number % len(COMMENTS)], PASSES[number % len(PASSES)]
-        name, text = f"{kind} {number}", tools.key(kind, comment)
-        key, wanted = PrivateKey.read(text), numbers(loaded(text))
-        assert numbers(key.key()) == wanted, name
-        line = (tools.folder / "key.pub").read_text().rstrip("\n")
-        assert (key.public.line().rstrip(), key.comment) == (line.rstrip(), comment), name
-        listed = tools.listed(text)
-        assert (key.public.bits, key.public.fingerprints.sha256) == listed[:2], name
-        assert key.public.kind == NAMES[kind], name
+def check_of_ssh_keygen(tools: Tools, made: Made) -> None:
+    number, wanted = number_of(made), numbers(loaded(made.open_text))
+    key = PrivateKey.read(made.open_text)
+    assert numbers(key.key()) == wanted, made.name
+    assert key.public.line().rstrip() == made.line.rstrip(), made.name
+    assert (key.comment, key.public.kind) == (made.comment, NAMES[made.kind]), made.name
+    listed = tools.listed(made.text)
+    assert (key.public.bits, key.public.fingerprints.sha256) == listed[:2], made.name
 
-        cipher, rounds = CIPHERS[number % 4], 1 + number // 4 % 16
-        sealed = tools.sealed(text, cipher, rounds, passphrase.encode())
-        assert numbers(PrivateKey.read(sealed, passphrase).key()) == wanted, (name, cipher, rounds)
-        assert PrivateKey.read(sealed, passphrase).comment == comment, (name, cipher, rounds)
-        if cipher in READ_BY_CRYPTOGRAPHY:
-            assert numbers(loaded(sealed, passphrase.encode())) == wanted, (name, cipher, rounds)
-        it = shown(sealed)
-        assert (it.encrypted, it.cipher, it.derivation) == (True, cipher, "bcrypt"), name
-        assert (it.rounds, it.memory, it.public) == (rounds, None, key.public), name
-        written(tools, key, text, name, number)
+    opened, (cipher, rounds) = PrivateKey.read(made.text, made.passphrase), sealing_of(number)
+    assert (numbers(opened.key()), opened.comment) == (wanted, made.comment), made.name
+    if cipher in READ_BY_CRYPTOGRAPHY:
+        assert numbers(loaded(made.text, made.passphrase.encode())) == wanted, made.name
+    it = shown(made.text)
+    assert (it.encrypted, it.cipher, it.derivation) == (True, cipher, "bcrypt"), made.name
+    assert (it.rounds, it.memory, it.public) == (rounds, None, key.public), made.name
+    check_written(tools, made)
 
 
-@pytest.mark.parametrize("kind", BY_PUTTYGEN)
-def test_keys_of_puttygen_are_read_and_written(kind: str, tools: Tools) -> None:
-    for number in range(BY_PUTTYGEN[kind]):
-        comment, passphrase = COMMENTS[number % len(COMMENTS)], PASSES[number % len(PASSES)]
-        name, given = f"{kind} {number}, {params(number)}", passphrase if number % 5 else ""
-        ppk = tools.putty_key(kind, comment, given.encode(), params(number))
-        text = tools.opened_by_putty(ppk, given.encode())
-        assert text
-        key = PrivateKey.read(ppk, given)
-        assert numbers(key.key()) == numbers(loaded(text)), name
-        assert (key.comment, key.public.kind) == (comment, NAMES[kind]), name
-        assert key.public.line().rstrip() == tools.putty_line(ppk).rstrip(), name
-        it, values = shown(ppk), dict(word.split("=") for word in params(number).split(","))
-        assert (it.public, it.public.comment, it.encrypted) == (key.public, comment, given != "")
-        if given and "kdf" in values:
-            derivation = values["kdf"].replace("argon2", "Argon2")
-            assert (it.cipher, it.derivation) == ("aes256-cbc", derivation), name
-            numbers_shown = [it.memory, it.passes, it.lanes]
-            wanted = [int(values[word]) for word in ("memory", "passes", "parallelism")]
-            assert numbers_shown == wanted, name
-        written(tools, key, text, name, number)
+def check_of_puttygen(tools: Tools, made: Made) -> None:
+    number, wanted = number_of(made), numbers(loaded(made.open_text))
+    key = PrivateKey.read(made.text, made.passphrase)
+    assert numbers(key.key()) == wanted, made.name
+    assert (key.comment, key.public.kind) == (made.comment, NAMES[made.kind]), made.name
+    assert key.public.line().rstrip() == made.line.rstrip(), made.name
+    it, values = shown(made.text), dict(word.split("=") for word in params_of(number).split(","))
+    assert (it.public, it.public.comment) == (key.public, made.comment), made.name
+    assert it.encrypted == (made.passphrase != ""), made.name
+    if it.encrypted and "kdf" in values:
+        derivation = values["kdf"].replace("argon2", "Argon2")
+        assert (it.cipher, it.derivation) == ("aes256-cbc", derivation), made.name
+        numbers_wanted = [int(values[word]) for word in ("memory", "passes", "parallelism")]
+        assert [it.memory, it.passes, it.lanes] == numbers_wanted, made.name
+    check_written(tools, made)
+
+
+def test_keys_of_ssh_keygen_are_read_and_written(
+    keys_of_ssh_keygen: List[Made], tmp_path: Path
+) -> None:
+    each(tmp_path, check_of_ssh_keygen, keys_of_ssh_keygen)
+
+
+def test_keys_of_puttygen_are_read_and_written(
+    keys_of_puttygen: List[Made], tmp_path: Path
+) -> None:
+    each(tmp_path, check_of_puttygen, keys_of_puttygen)
+
+
+def test_there_are_enough_keys(
+    keys_of_ssh_keygen: List[Made], keys_of_puttygen: List[Made]
+) -> None:
+    assert len(keys_of_ssh_keygen) + len(keys_of_puttygen) >= 400
+    assert len({it.line for it in keys_of_ssh_keygen + keys_of_puttygen}) >= 400
 
 
 def test_each_sort_of_argon2_is_read_and_written(tools: Tools) -> None:
@@ -128,20 +129,22 @@ def test_the_usual_parameters_are_those_of_the_programs(tools: Tools) -> None:
     assert (it.cipher, it.derivation, it.memory) == ("aes256-cbc", "SHA-1", None)
 
 
-def test_both_layouts_of_ppk_are_read_as_the_same_key(tools: Tools) -> None:
-    other = 0
-    for number in range(40):
-        text = tools.key("ed25519", "me")
-        key, wanted = PrivateKey.read(text), numbers(loaded(text))
-        for target in PPKS:
-            ppk = bytes(key.write(target, "secret", sealing=Sealing(memory=8, passes=1)))
-            assert numbers(PrivateKey.read(ppk, "secret").key()) == wanted, (number, target)
-            opened = tools.opened_by_putty(ppk, b"secret")
-            same = opened is not None and numbers(loaded(opened)) == wanted
-            assert same or target in PPKS[2:], (number, target)
-            other += not same
+def test_both_layouts_of_ppk_are_read_as_the_same_key(
+    keys_of_ssh_keygen: List[Made], tmp_path: Path
+) -> None:
+    made = [it for it in keys_of_ssh_keygen if it.kind == "ed25519"][:24]
     # PuTTY takes about every second file of the library's original layout for another secret.
-    assert other > 0
+    assert not all(each(tmp_path, putty_agrees, made))
+
+
+def putty_agrees(tools: Tools, made: Made) -> bool:
+    """Whether puttygen reads the same secret in the original's layout, too."""
+    key, wanted = PrivateKey.read(made.open_text), numbers(loaded(made.open_text))
+    for target in PPKS[2:]:
+        ppk = bytes(key.write(target, "secret", sealing=Sealing(memory=8, passes=1)))
+        assert numbers(PrivateKey.read(ppk, "secret").key()) == wanted, (made.name, target)
+    opened = tools.opened_by_putty(ppk, b"secret")
+    return opened is not None and numbers(loaded(opened)) == wanted
 
 
 def test_security_keys_are_read_and_written_but_not_for_putty(tools: Tools) -> None:
@@ -196,8 +199,3 @@ def test_keys_go_to_cryptography_and_back(tools: Tools) -> None:
         assert tools.public_line(bytes(back.write(Target.OPENSSH))) == (
             (tools.public_line(text) or "").rpartition(" ")[0] + " another \u00e9"
         ), kind
-
-
-def test_enough_keys_were_made() -> None:
-    wanted: Dict[str, int] = {"ssh-keygen": 200, "puttygen": 180}
-    assert all(made[it] >= wanted[it] for it in wanted) and sum(made.values()) >= 400, made

@@ -1,10 +1,12 @@
 """Keys that ssh-keygen and puttygen make, and what these read: what the tests hold the package to."""
 from __future__ import annotations
 
+import base64
 import os
 import subprocess
+from concurrent.futures import ThreadPoolExecutor
 from pathlib import Path
-from typing import Any, Dict, List, NamedTuple, Optional, Union
+from typing import Any, Callable, Dict, Iterable, List, NamedTuple, Optional, Tuple, TypeVar, Union
 
 from cryptography.hazmat.primitives import serialization
 from cryptography.hazmat.primitives.asymmetric.ec import SECP256R1, generate_private_key
@@ -12,6 +14,8 @@ from cryptography.hazmat.primitives.asymmetric.ed25519 import Ed25519PrivateKey
 
 SECONDS = 120
 Word = Union[str, bytes]
+Item = TypeVar("Item")
+Result = TypeVar("Result")
 # What a kind is made by, of ssh-keygen and of puttygen.
 KINDS: Dict[str, List[str]] = {
     "rsa1024": ["rsa", "1024"],
@@ -29,8 +33,18 @@ NAMES = {
     "p521": "ecdsa-sha2-nistp521",
     "ed25519": "ssh-ed25519",
 }
-# How many keys each program made in this run.
-made = {"ssh-keygen": 0, "puttygen": 0}
+
+
+class Made(NamedTuple):
+    """A key that a program made: its text as the program encrypts it, the OpenSSH text as the program opens it, and its line."""
+
+    name: str
+    kind: str
+    comment: str
+    passphrase: str
+    text: bytes
+    open_text: bytes
+    line: str
 
 
 class Listed(NamedTuple):
@@ -71,7 +85,6 @@ class Tools:
 
     def key(self, kind: str, comment: str = "a comment") -> bytes:
         """A key of ssh-keygen, in OpenSSH's form, not encrypted."""
-        made["ssh-keygen"] += 1
         for name in ("key", "key.pub"):
             (self.folder / name).unlink(missing_ok=True)
         words = ["-t", KINDS[kind][0], *(["-b", KINDS[kind][1]] if KINDS[kind][1:] else [])]
@@ -80,7 +93,6 @@ class Tools:
 
     def putty_key(self, kind: str, comment: str, passphrase: bytes, params: str) -> bytes:
         """A key of puttygen, in its form, encrypted where there is a passphrase."""
-        made["puttygen"] += 1
         (self.folder / "made").unlink(missing_ok=True)
         words = ["-t", KINDS[kind][0], *(["-b", KINDS[kind][1]] if KINDS[kind][1:] else [])]
         words += ["-C", comment, "-q", "--random-device", "/dev/urandom", "--ppk-param", params]
@@ -170,8 +182,6 @@ def string(content: bytes) -> bytes:
 
 def armoured(content: bytes) -> bytes:
     """OpenSSH's PEM of some bytes."""
-    import base64
-
     body = base64.b64encode(content)
     lines = [body[at : at + 70] for at in range(0, len(body), 70)]
     begin, end = (b"-----%s OPENSSH PRIVATE KEY-----" % it for it in (b"BEGIN", b"END"))
@@ -189,3 +199,15 @@ def numbers(key: Any) -> bytes:
     form, none = serialization.PrivateFormat.PKCS8, serialization.NoEncryption()
     content: bytes = key.private_bytes(serialization.Encoding.DER, form, none)
     return content
+
+
+def each(folder: Path, act: Callable[[Tools, Item], Result], items: Iterable[Item]) -> List[Result]:
+    """What is done with each item, by several threads, in a folder of its own."""
+
+    def one(numbered: Tuple[int, Item]) -> Result:
+        own = folder / str(numbered[0])
+        own.mkdir()
+        return act(Tools(own), numbered[1])
+
+    with ThreadPoolExecutor(os.cpu_count()) as pool:
+        return list(pool.map(one, enumerate(items)))
