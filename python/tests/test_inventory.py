@@ -278,8 +278,8 @@ def test_shows_a_list_to_read_on_a_terminal(tmp_path: Path) -> None:
 
 @pytest.fixture(name="folders")
 def _folders(tmp_path: Path, monkeypatch: pytest.MonkeyPatch) -> Tuple[Path, Path]:
-    """Files that take some seconds, and an empty folder for temporary ones."""
-    keys, temporary = tmp_path / "keys", tmp_path / "temporary"
+    """Files that take some seconds, and an empty folder for temporary ones, whose name isn't UTF-8."""
+    keys, temporary = tmp_path / "keys", tmp_path / os.fsdecode(b"temporary \xff")
     keys.mkdir()
     temporary.mkdir()
     content = "".join(map(text, range(20_000)))
@@ -303,3 +303,5 @@ def test_leaves_nothing_when_it_is_ended(folders: Tuple[Path, Path], tmp_path: P
         assert "Traceback" not in shown and "picky:" not in shown
         assert list(temporary.iterdir()) == []
         assert sorted(tmp_path.iterdir()) == [keys, temporary]
+    assert listed(keys / "0.pub") == entries(*range(20_000))
+    assert list(temporary.iterdir()) == []

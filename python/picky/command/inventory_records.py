@@ -92,10 +92,10 @@ def sort(path: str, names: List[str], *words: str) -> None:
     """
     space = [f"--buffer-size={SORT_SPACE}", f"--temporary-directory={os.path.dirname(path)}"]
     command = ["sort", *space, *words, f"--output={path}", "--files0-from=-"]
-    given = "\0".join(names or [os.devnull])
+    given = os.fsencode("\0".join(names or [os.devnull]))
     variables = {**os.environ, "LC_ALL": "C"}
     try:
-        run = subprocess.run(command, input=given.encode(), capture_output=True, env=variables)
+        run = subprocess.run(command, input=given, capture_output=True, env=variables)
     except FileNotFoundError:
         raise Refusal("there is no program sort", Status.OUTSIDE) from None
     if run.returncode:
