@@ -265,7 +265,7 @@ def test_writes_files_whole_or_not_at_all(tmp_path: Path) -> None:
 
 def test_shows_a_list_to_read_on_a_terminal(tmp_path: Path) -> None:
     key = ssh_key(tmp_path / "key", comment="of\x1b[31m me")
-    terminal = Terminal("inventory", tmp_path)
+    terminal = Terminal("inventory", tmp_path, "--html", tmp_path / "page")
     status, shown = terminal.end()
     prints = tool("ssh-keygen", "-lf", key).decode().split()[1]
     wanted = [
@@ -274,6 +274,9 @@ def test_shows_a_list_to_read_on_a_terminal(tmp_path: Path) -> None:
     assert status == 0
     # Before them the bar is taken away.
     assert shown.rpartition("\x1b[2K")[2].splitlines() == wanted
+    run = picky("inventory", tmp_path, "--places")
+    places = [f"    {key}", f"    {key}.pub"]
+    assert run.stdout.decode().splitlines() == [wanted[0], places[0], wanted[1], places[1]]
 
 
 @pytest.fixture(name="folders")

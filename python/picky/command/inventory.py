@@ -156,7 +156,7 @@ def listed(arguments: argparse.Namespace, found: Found) -> Iterator[bytes]:
     if arguments.csv:
         return as_csv(found.keys, places=arguments.places)
     if arguments.places or (arguments.output is None and sys.stdout.isatty()):
-        return as_text(found.keys)
+        return as_text(found.keys, places=arguments.places)
     return lines_of(found.keys)
 
 
