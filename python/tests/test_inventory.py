@@ -53,7 +53,9 @@ def fleet(tmp_path_factory: pytest.TempPathFactory) -> Tuple[Path, Set[str]]:
     made("web/.ssh/id_rsa", "-b", "1024", kind="rsa", comment="as made")
     made("web/encrypted", passphrase=SECRET, held="sealed", comment="")
     for form in ("PEM", "PKCS8"):
-        made(f"web/{form}", "-m", form, kind="ecdsa", comment="")
+        pem = made(f"web/{form}", "-m", form, kind="ecdsa", comment="")
+        text_beside = "\nof TLS:\n-----BEGIN CERTIFICATE-----\nMIIB\n-----END CERTIFICATE-----\n"
+        pem.write_text(pem.read_text() + text_beside)
     key = made("certified", kind="ecdsa", comment="as made")
     tool("ssh-keygen", "-q", "-s", key, "-I", "id", f"{key}.pub")
     few = ["--ppk-param", "passes=1,memory=64"]

@@ -14,7 +14,7 @@ from .inventory_records import Found, Runs, key_record, place_record, unread_rec
 from .inventory_walk import LIST, File
 from .pieces import pieces
 from .said import Refusal, refusal_of
-from .sources import FOREIGN, PRIVATE, Source, foreign_key, form_of, public_key
+from .sources import FOREIGN, PRIVATE, Form, Source, foreign_key, form_of, public_key
 
 # How much of a file is read to see whether it begins as a key.
 BEGINNING = 4096
@@ -25,7 +25,8 @@ Refuse = Callable[[int, str], None]
 
 def list_file(file: File, take: Take, refuse: Refuse) -> None:
     """Gives each key of a file to `take`, as a line of an inventory, and what isn't read to `refuse`, with the line of the file where
-    it begins. A file that needn't have a key, and doesn't begin as one, has none.
+    it begins. A file that needn't have a key, and doesn't begin as one, has none. Beside keys that are blocks, other text is no
+    fault (RFC 7468, section 2).
     """
     try:
         if not file.sure and not _begins_as_key(file.name):
@@ -34,10 +35,11 @@ def list_file(file: File, take: Take, refuse: Refuse) -> None:
     except (Refusal, MemoryError) as error:
         refuse(1, refusal_of(error).sentence)
         return
-    keys, others, first = 0, 0, 1
+    keys, blocks, others, first = 0, 0, 0, 1
     for piece in pieces(content):
         if piece.shaped:
             keys += 1
+            blocks += form_of(piece.text) not in (Form.LINE, Form.CERTIFICATE)
             try:
                 take(piece.line, line_of(piece.text))
             except (Refusal, Error, MemoryError) as error:
@@ -47,7 +49,7 @@ def list_file(file: File, take: Take, refuse: Refuse) -> None:
             first = piece.line if others == 1 else first
     if not keys and not LIST.fullmatch(os.path.basename(file.name)):
         refuse(1, NO_KEY if content else "it is empty")
-    elif others:
+    elif others and not blocks:
         refuse(first, f"{NO_KEY} ({others:,} such lines)" if others > 1 else NO_KEY)
     wipe(content)
 
