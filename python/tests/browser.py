@@ -33,7 +33,9 @@ class Browser:
         # The browser reads from 3 and writes to 4.
         shell = f'exec "$@" 3<&{there} 4>&{back} 2>/dev/null'
         self._process = subprocess.Popen(
-            ["bash", "-c", shell, "bash", *command], pass_fds=(there, back), stdin=subprocess.DEVNULL
+            ["bash", "-c", shell, "bash", *command],
+            pass_fds=(there, back),
+            stdin=subprocess.DEVNULL,
         )
         os.close(there)
         os.close(back)

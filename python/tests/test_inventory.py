@@ -5,6 +5,7 @@ import csv
 import io
 import json
 import os
+import signal
 import subprocess
 import sys
 from pathlib import Path
@@ -52,7 +53,9 @@ def fleet(tmp_path_factory: pytest.TempPathFactory) -> Tuple[Path, Set[str]]:
     made("web/.ssh/id_rsa", "-b", "1024", kind="rsa", comment="as made")
     made("web/encrypted", passphrase=SECRET, held="sealed", comment="")
     for form in ("PEM", "PKCS8"):
-        made(f"web/{form}", "-m", form, kind="ecdsa", comment="")
+        pem = made(f"web/{form}", "-m", form, kind="ecdsa", comment="")
+        text_beside = "\nof TLS:\n-----BEGIN CERTIFICATE-----\nMIIB\n-----END CERTIFICATE-----\n"
+        pem.write_text(pem.read_text() + text_beside)
     key = made("certified", kind="ecdsa", comment="as made")
     tool("ssh-keygen", "-q", "-s", key, "-I", "id", f"{key}.pub")
     few = ["--ppk-param", "passes=1,memory=64"]
@@ -171,6 +174,7 @@ def test_goes_on_past_bad_input(tmp_path: Path) -> None:
         (sealed, "pem", "it is encrypted, and shows no public key"),
         (tmp_path / "pipe", "pipe", "it is a pipe, and no file"),
         ("/dev/zero", "/dev/zero", "it is a device, and no file"),
+        ("/proc/self/mem", "/proc/self/mem", "it can't be read: Input/output error"),
         (name, "\\xff\\n.pub", NO_KEY),
     ]
     words = [it for it, _, _ in rows]
@@ -244,7 +248,7 @@ def test_writes_files_whole_or_not_at_all(tmp_path: Path) -> None:
     assert out.read_text().startswith("held,")
     missing = tmp_path / "none/out"
     assert refused(key, "-o", missing, status=4)[1] == [
-        "it can't be written: No such file or directory"
+        f"{missing}: it can't be written: No such file or directory"
     ]
     usages: List[List[Any]] = [
         ["--since", out, key],
@@ -263,7 +267,7 @@ def test_writes_files_whole_or_not_at_all(tmp_path: Path) -> None:
 
 def test_shows_a_list_to_read_on_a_terminal(tmp_path: Path) -> None:
     key = ssh_key(tmp_path / "key", comment="of\x1b[31m me")
-    terminal = Terminal("inventory", tmp_path)
+    terminal = Terminal("inventory", tmp_path, "--html", tmp_path / "page")
     status, shown = terminal.end()
     prints = tool("ssh-keygen", "-lf", key).decode().split()[1]
     wanted = [
@@ -272,12 +276,15 @@ def test_shows_a_list_to_read_on_a_terminal(tmp_path: Path) -> None:
     assert status == 0
     # Before them the bar is taken away.
     assert shown.rpartition("\x1b[2K")[2].splitlines() == wanted
+    run = picky("inventory", tmp_path, "--places")
+    places = [f"    {key}", f"    {key}.pub"]
+    assert run.stdout.decode().splitlines() == [wanted[0], places[0], wanted[1], places[1]]
 
 
 @pytest.fixture(name="folders")
 def _folders(tmp_path: Path, monkeypatch: pytest.MonkeyPatch) -> Tuple[Path, Path]:
-    """Files that take some seconds, and an empty folder for temporary ones."""
-    keys, temporary = tmp_path / "keys", tmp_path / "temporary"
+    """Files that take some seconds, and an empty folder for temporary ones, whose name isn't UTF-8."""
+    keys, temporary = tmp_path / "keys", tmp_path / os.fsdecode(b"temporary \xff")
     keys.mkdir()
     temporary.mkdir()
     content = "".join(map(text, range(20_000)))
@@ -287,13 +294,19 @@ def _folders(tmp_path: Path, monkeypatch: pytest.MonkeyPatch) -> Tuple[Path, Pat
     return keys, temporary
 
 
-def test_leaves_nothing_when_it_is_interrupted(folders: Tuple[Path, Path], tmp_path: Path) -> None:
+def test_leaves_nothing_when_it_is_ended(folders: Tuple[Path, Path], tmp_path: Path) -> None:
     keys, temporary = folders
-    terminal = Terminal("inventory", keys, "-o", tmp_path / "out", "--html", tmp_path / "page")
-    terminal.shows("reading")
-    terminal.interrupt()
-    status, shown = terminal.end()
-    assert status == 130
-    assert "Traceback" not in shown and "picky:" not in shown
+    for number, wanted in ((signal.SIGINT, 130), (signal.SIGTERM, 143)):
+        terminal = Terminal("inventory", keys, "-o", tmp_path / "out", "--html", tmp_path / "page")
+        terminal.shows("reading")
+        if number == signal.SIGINT:
+            terminal.interrupt()
+        else:
+            os.kill(terminal.process, number)
+        status, shown = terminal.end()
+        assert status == wanted
+        assert "Traceback" not in shown and "picky:" not in shown
+        assert list(temporary.iterdir()) == []
+        assert sorted(tmp_path.iterdir()) == [keys, temporary]
+    assert listed(keys / "0.pub") == entries(*range(20_000))
     assert list(temporary.iterdir()) == []
-    assert sorted(tmp_path.iterdir()) == [keys, temporary]

@@ -7,6 +7,7 @@ from typing import Any, Dict, Iterator, List, Tuple
 
 import pytest
 from browser import Browser
+from inventories import entry, text
 from running import picky, ssh_key, tool, written
 
 MARKUP = (
@@ -178,3 +179,36 @@ def test_shows_inventories_without_places(browser: Browser, tmp_path: Path) -> N
     assert browser.value(ROWS % "open") == [[f"me\nssh-ed25519, 256 bits\n{prints(key)}"]]
     assert browser.value("document.getElementById('copied')") is None
     assert "None." in browser.value("document.body.innerText")
+
+
+def test_counts_what_it_does_not_show(browser: Browser, tmp_path: Path) -> None:
+    lines = sorted(entry("private", text(number), "me") for number in range(1005))
+    many = written(tmp_path / "many", "".join(lines))
+    page = tmp_path / "page.html"
+    assert picky("inventory", "--merge", many, "--html", page).returncode == 0
+    browser.open(page, 1200, "light")
+    assert len(browser.value(ROWS % "open")) == 1000
+    after = "document.querySelector('#open ~ table + p').innerText"
+    assert browser.value(after) == "And 5 more."
+    keys = tmp_path / "keys"
+    keys.mkdir()
+    for number in range(25):
+        (keys / f"{number:02}.pub").write_text(text(1))
+    # An earlier inventory that isn't read is told so, and nothing is compared with it.
+    run = picky("inventory", keys, "--html", page, "--force", "--since", keys / "00.pub")
+    assert run.returncode == 1
+    browser.open(page, 1200, "light")
+    ((_, places),) = browser.value(ROWS % "shared")
+    assert places.split("\n") == [f"{keys}/{it:02}.pub" for it in range(20)] + ["and 5 more"]
+    assert browser.value("document.getElementById('new')") is None
+    assert [row[0] for row in browser.value(ROWS % "unread")] == [f"{keys}/00.pub"]
+
+
+def test_says_of_nothing_that_there_is_none(browser: Browser, tmp_path: Path) -> None:
+    page = tmp_path / "page.html"
+    run = picky("inventory", tmp_path, "--html", page)
+    assert (run.returncode, run.stdout, run.stderr) == (0, b"", b"")
+    browser.open(page, 320, "light")
+    assert browser.value("document.querySelectorAll('table').length") == 0
+    assert browser.value("document.querySelectorAll('section').length") == 6
+    assert browser.value("document.querySelectorAll('.alarm').length") == 0

@@ -6,16 +6,20 @@ import signal
 import tempfile
 from pathlib import Path
 from typing import List, Optional, Set, Tuple
+from unittest.mock import patch
 
 import pytest
-from hypothesis import given, settings
+from hypothesis import given
 from hypothesis import strategies as st
 from inventories import entry, text
+from picky import Inventory
 from picky.command import inventory_records as records
+from picky.command.inventory_keys import list_file
 from picky.command.inventory_processes import Processes
 from picky.command.inventory_summary import differences
 from picky.command.inventory_walk import File, files_of
 from picky.command.said import Refusal, Status
+from running import ssh_key, tool, written
 
 NAMES = st.binary(min_size=1, max_size=20).filter(lambda it: b"\0" not in it).map(os.fsdecode)
 PLACES = st.tuples(NAMES, st.integers(1, 20_000_000))
@@ -30,14 +34,14 @@ LINES = st.sampled_from(
 
 
 @given(st.lists(st.tuples(LINES, PLACES)))
-@settings(max_examples=50, deadline=None)
 def test_sorts_records_and_reads_them_again(rows: List[Tuple[bytes, Tuple[str, int]]]) -> None:
-    with tempfile.TemporaryDirectory() as folder, records.Found(folder, placed=True) as found:
-        for number in range(3):
-            made = [
-                records.key_record(line, records.place_record(*it)) for line, it in rows[number::3]
-            ]
-            Path(found.runs, str(number)).write_bytes(b"".join(sorted(made)))
+    with tempfile.TemporaryDirectory() as folder:
+        found = records.Found(folder, placed=True)
+        with patch.object(records, "KEPT", 200):
+            runs = records.Runs(found.key_runs)
+            for line, place in rows:
+                runs.add(records.key_record(line, records.place_record(*place)))
+            runs.write()
         for _, place in rows:
             found.refuse(*place, "\n\tit")
         found.sort()
@@ -46,8 +50,8 @@ def test_sorts_records_and_reads_them_again(rows: List[Tuple[bytes, Tuple[str, i
             kept = list(file)
         pairs = zip(map(records.line_of, kept), records.places_of(kept))
         assert sorted(pairs) == sorted(set(rows))
-        unread = [(place, cause) for place, cause in records.unread_of(found.unread)]
-        assert sorted(unread) == sorted((place, "\n\tit") for _, place in rows)
+        unread = set(records.unread_of(found.unread))
+        assert unread == {(place, "\n\tit") for _, place in rows}
 
 
 @given(st.sets(LINES), st.sets(LINES))
@@ -59,7 +63,6 @@ def test_tells_what_differs(earlier: Set[bytes], later: Set[bytes]) -> None:
 
 
 @given(st.lists(st.binary(min_size=1, max_size=1 << 18), max_size=12))
-@settings(deadline=None)
 def test_joins_lines_to_pieces(lines: List[bytes]) -> None:
     pieces = list(records.in_pieces(lines))
     assert b"".join(pieces) == b"".join(lines)
@@ -101,6 +104,49 @@ def test_says_that_a_folder_is_too_deep(tmp_path: Path) -> None:
     causes: List[str] = []
     assert list(files_of([str(tmp_path)], lambda _, cause: causes.append(cause))) == []
     assert causes == ["it can't be read: File name too long"]
+
+
+def test_says_that_a_file_vanished(tmp_path: Path) -> None:
+    for sure in (True, False):
+        said: List[object] = []
+        gone = File(str(tmp_path / "gone"), sure)
+        list_file(gone, lambda *it: said.append(it), lambda *it: said.append(it))
+        assert said == [(1, "there is no such file")]
+
+
+@pytest.fixture(scope="module")
+def key_files(tmp_path_factory: pytest.TempPathFactory) -> List[bytes]:
+    """Key files of ssh-keygen in several forms."""
+    folder = tmp_path_factory.mktemp("keys")
+    for form in ("RFC4716", "PEM", "PKCS8"):
+        for passphrase in ("", "a secret"):
+            name = f"{form}{len(passphrase)}"
+            ssh_key(folder / name, "-m", form, kind="ecdsa", passphrase=passphrase)
+    for form in ("RFC4716", "PKCS8"):
+        public = tool("ssh-keygen", "-e", "-m", form, "-f", folder / "PEM0.pub")
+        written(folder / f"public {form}", public)
+    return [it.read_bytes() for it in sorted(folder.iterdir())]
+
+
+@given(st.data())
+def test_takes_or_refuses_what_a_file_has(key_files: List[bytes], data: st.DataObject) -> None:
+    changed = bytearray(b"".join(data.draw(st.lists(st.sampled_from(key_files), max_size=3))))
+    for _ in range(data.draw(st.integers(0, 3))):
+        at = data.draw(st.integers(0, len(changed)))
+        end = at + data.draw(st.integers(0, 40))
+        changed[at:end] = data.draw(st.binary(max_size=40) | st.text(max_size=9).map(str.encode))
+    with tempfile.TemporaryDirectory() as folder:
+        file = written(Path(folder, "file"), bytes(changed))
+        lines: List[bytes] = []
+        causes: List[str] = []
+        for sure in (True, False):
+            list_file(
+                File(str(file), sure),
+                lambda _, line: lines.append(line),
+                lambda _, cause: causes.append(cause),
+            )
+    assert all(len(list(Inventory.read(line))) == 1 for line in lines)
+    assert lines or causes
 
 
 def test_gives_work_to_processes() -> None:

@@ -7,7 +7,7 @@ import sys
 import tempfile
 from functools import partial
 from itertools import islice
-from typing import Callable, Iterator, List, Optional
+from typing import Callable, Iterable, Iterator, List, Optional
 
 from ..errors import BadLine, Error
 from . import files
@@ -26,6 +26,7 @@ USAGE = "[--merge] [--json | --csv] [OPTION..] PATH.."
 BATCH = 64
 # No line of an inventory is longer, since no key text is longer than `files.LARGEST`.
 LONGEST_LINE = 2 * files.LARGEST
+BAD_LINE = "it is no line of an inventory, or isn't greater than the one before"
 
 
 def add(parser: argparse.ArgumentParser) -> Callable[[argparse.Namespace], int]:
@@ -65,30 +66,38 @@ def run(parser: argparse.ArgumentParser, arguments: argparse.Namespace) -> int:
     placed = arguments.places or (arguments.html is not None and not arguments.merge)
     try:
         with tempfile.TemporaryDirectory(prefix="picky-") as folder:
-            with Found(folder, placed=placed) as found:
-                return run_with(arguments, found)
+            return run_with(arguments, Found(folder, placed=placed))
     except OSError as error:
         where = f"{printable(str(error.filename))}: " if error.filename else ""
         raise Refusal(f"{where}{error.strerror}", Status.NOT_WRITTEN) from None
 
 
 def run_with(arguments: argparse.Namespace, found: Found) -> int:
-    """Finds the keys, writes what is asked for, and says what isn't read."""
+    """Finds the keys, says what isn't read, and writes what is asked for."""
     since: Optional[str] = None
     with Bar() as bar:
         if arguments.since is not None:
-            since = os.path.join(found.folder, "since")
-            copy_inventory(arguments.since, since, found)
+            copy = os.path.join(found.folder, "since")
+            since = copy if copy_inventory(arguments.since, copy, found) else None
         if arguments.merge:
             merge(arguments.paths, found, bar)
         else:
             find(arguments.paths, found, bar)
         bar.stage("sorting")
         found.sort()
-    try:
-        write(arguments, found, since)
-    finally:
-        status = say_unread(found)
+    status = Status.DONE
+    for place, cause in unread_of(found.unread):
+        say(f"{title(fields_of(place))}: {cause}")
+        status = Status.REFUSED
+    with Bar() as bar:
+        bar.stage("writing")
+        if arguments.html is not None:
+            put(arguments.html, as_page(found, since, arguments.paths), arguments.force)
+        if arguments.output is not None:
+            put(arguments.output, listed(arguments, found), arguments.force)
+    if arguments.output is None:
+        for piece in in_pieces(listed(arguments, found)):
+            hand_out(piece)
     return status
 
 
@@ -103,71 +112,57 @@ def find(paths: List[str], found: Found, bar: Bar) -> None:
             count += 1
             bar.step()
     bar.stage("reading", count)
-    lister = Lister(found.runs, placed=found.placed)
+    lister = Lister(found)
     if "-" in paths:
         # Other processes have no standard input.
-        for batch in ([file_record(File("-", True))], None):
-            found.refuse_all(lister(batch).unread)
+        lister([file_record(File("-", True))])
+        lister(None)
     with open(names, "rb") as spool:
         batches: Iterator[List[bytes]] = iter(lambda: list(islice(spool, BATCH)), [])
         with Processes(lister, min(processors(), -(-count // BATCH))) as processes:
-            for report in processes.each(batches):
-                found.refuse_all(report.unread)
-                bar.step(report.files)
+            for files_done in processes.each(batches):
+                bar.step(files_done)
 
 
 def merge(paths: List[str], found: Found, bar: Bar) -> None:
     """Takes the lines of inventories."""
     bar.stage("reading", len(paths))
     for number, path in enumerate(paths):
-        copy_inventory(path, os.path.join(found.runs, str(number)), found)
+        copy_inventory(path, os.path.join(found.key_runs, str(number)), found)
         bar.step()
 
 
-def copy_inventory(path: str, copy: str, found: Found) -> None:
-    """Copies an inventory that the library finds in order. The copy of one that isn't read is empty."""
+def copy_inventory(path: str, copy: str, found: Found) -> bool:
+    """Copies an inventory that the library finds in order, and says whether it is read. The copy of one that isn't is empty."""
     line = 1
     try:
         with open(files.opened(path), "rb") as source, open(copy, "xb") as target:
             lines = iter(partial(source.readline, LONGEST_LINE), b"")
             target.writelines(checked(in_pieces(lines)))
-        return
+        return True
     except BadLine as refusal:
-        line, cause = (
-            refusal.line,
-            "it is no line of an inventory, or isn't greater than the one before",
-        )
+        line, cause = refusal.line, BAD_LINE
     except (Refusal, Error, MemoryError) as error:
         cause = refusal_of(error).sentence
     found.refuse(path, line, cause)
     with open(copy, "wb"):
-        pass
+        return False
 
 
-def write(arguments: argparse.Namespace, found: Found, since: Optional[str]) -> None:
-    """Writes the page, and the inventory in the form that is asked for."""
-    if arguments.html is not None:
-        page = as_page(found, since, arguments.paths)
-        files.put(arguments.html, in_pieces(page), force=arguments.force)
+def listed(arguments: argparse.Namespace, found: Found) -> Iterator[bytes]:
+    """The keys in the form that is asked for, in lines or smaller pieces."""
     if arguments.json:
-        lines = as_json(found.keys, found.unread, places=arguments.places)
-    elif arguments.csv:
-        lines = as_csv(found.keys, places=arguments.places)
-    elif arguments.places or (arguments.output is None and sys.stdout.isatty()):
-        lines = as_text(found.keys)
-    else:
-        lines = lines_of(found.keys)
-    if arguments.output is not None:
-        files.put(arguments.output, in_pieces(lines), force=arguments.force)
-    else:
-        for piece in in_pieces(lines):
-            hand_out(piece)
+        return as_json(found.keys, found.unread, places=arguments.places)
+    if arguments.csv:
+        return as_csv(found.keys, places=arguments.places)
+    if arguments.places or (arguments.output is None and sys.stdout.isatty()):
+        return as_text(found.keys, places=arguments.places)
+    return lines_of(found.keys)
 
 
-def say_unread(found: Found) -> Status:
-    """Says what isn't read, and answers how the run ends."""
-    status = Status.DONE
-    for place, cause in unread_of(found.unread):
-        say(f"{title(fields_of(place))}: {cause}")
-        status = Status.REFUSED
-    return status
+def put(path: str, lines: Iterable[bytes], force: bool) -> None:
+    """Makes a file of lines."""
+    try:
+        files.put(path, in_pieces(lines), force=force)
+    except Refusal as refusal:
+        raise Refusal(f"{printable(path)}: {refusal.sentence}", refusal.status) from None

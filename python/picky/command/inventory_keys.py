@@ -3,31 +3,30 @@ from __future__ import annotations
 
 import json
 import os
-from typing import Callable, List, NamedTuple, Optional
+from typing import Callable, List, Optional
 
 from ..answers import wipe
 from ..errors import Error, PassphraseNeeded
 from ..inventory import Inventory
 from ..keys import Target
 from . import files
-from .inventory_records import key_record, place_record, unread_record
+from .inventory_records import Found, Runs, key_record, place_record, unread_record
 from .inventory_walk import LIST, File
 from .pieces import pieces
 from .said import Refusal, refusal_of
-from .sources import FOREIGN, PRIVATE, Source, foreign_key, form_of, public_key
+from .sources import FOREIGN, PRIVATE, Form, Source, foreign_key, form_of, public_key
 
 # How much of a file is read to see whether it begins as a key.
 BEGINNING = 4096
 NO_KEY = "it is no key"
-# What a process keeps before it writes it.
-KEPT = 1 << 22
 Take = Callable[[int, bytes], None]
 Refuse = Callable[[int, str], None]
 
 
 def list_file(file: File, take: Take, refuse: Refuse) -> None:
     """Gives each key of a file to `take`, as a line of an inventory, and what isn't read to `refuse`, with the line of the file where
-    it begins. A file that needn't have a key, and doesn't begin as one, has none.
+    it begins. A file that needn't have a key, and doesn't begin as one, has none. Beside keys that are blocks, other text is no
+    fault (RFC 7468, section 2).
     """
     try:
         if not file.sure and not _begins_as_key(file.name):
@@ -36,10 +35,11 @@ def list_file(file: File, take: Take, refuse: Refuse) -> None:
     except (Refusal, MemoryError) as error:
         refuse(1, refusal_of(error).sentence)
         return
-    keys, others, first = 0, 0, 1
+    keys, blocks, others, first = 0, 0, 0, 1
     for piece in pieces(content):
         if piece.shaped:
             keys += 1
+            blocks += form_of(piece.text) not in (Form.LINE, Form.CERTIFICATE)
             try:
                 take(piece.line, line_of(piece.text))
             except (Refusal, Error, MemoryError) as error:
@@ -49,7 +49,7 @@ def list_file(file: File, take: Take, refuse: Refuse) -> None:
             first = piece.line if others == 1 else first
     if not keys and not LIST.fullmatch(os.path.basename(file.name)):
         refuse(1, NO_KEY if content else "it is empty")
-    elif others:
+    elif others and not blocks:
         refuse(first, f"{NO_KEY} ({others:,} such lines)" if others > 1 else NO_KEY)
     wipe(content)
 
@@ -91,47 +91,28 @@ def file_record(file: File) -> bytes:
     return json.dumps(file).encode() + b"\n"
 
 
-class Report(NamedTuple):
-    """How many files were looked at, and records of what wasn't read."""
-
-    files: int
-    unread: List[bytes]
-
-
 class Lister:
-    """Lists batches of files. It keeps the records of their keys, and writes them, sorted, to files in a folder."""
+    """Lists batches of files: it writes records of their keys, and of what isn't read."""
 
-    def __init__(self, folder: str, *, placed: bool) -> None:
-        self.folder, self.placed = folder, placed
-        self.kept: List[bytes] = []
-        self.size = self.written = 0
+    def __init__(self, found: Found) -> None:
+        self.placed = found.placed
+        self.keys, self.unread = Runs(found.key_runs), Runs(found.unread_runs)
 
-    def __call__(self, batch: Optional[List[bytes]]) -> Report:
-        """Lists the files of a batch; without one writes what is kept."""
-        unread: List[bytes] = []
+    def __call__(self, batch: Optional[List[bytes]]) -> int:
+        """Lists the files of a batch, and gives their number. Without a batch it writes what is left."""
         for record in batch or ():
-            file = File(*json.loads(record))
-
-            def take(at: int, line: bytes) -> None:
-                places = [place_record(file.name, at)] if self.placed else []
-                self.kept.append(key_record(line, *places))
-                self.size += len(self.kept[-1])
-
-            def refuse(at: int, cause: str) -> None:
-                unread.append(unread_record(file.name, at, cause))
-
-            list_file(file, take, refuse)
-            if self.size > KEPT:
-                self._write()
+            self._list(File(*json.loads(record)))
         if batch is None:
-            self._write()
-        return Report(len(batch or ()), unread)
+            self.keys.write()
+            self.unread.write()
+        return len(batch or ())
 
-    def _write(self) -> None:
-        if self.kept:
-            self.kept.sort()
-            path = os.path.join(self.folder, f"{os.getpid()}-{self.written}")
-            with open(path, "xb") as run:
-                run.writelines(self.kept)
-        self.kept.clear()
-        self.size, self.written = 0, self.written + 1
+    def _list(self, file: File) -> None:
+        def take(at: int, line: bytes) -> None:
+            places = [place_record(file.name, at)] if self.placed else []
+            self.keys.add(key_record(line, *places))
+
+        def refuse(at: int, cause: str) -> None:
+            self.unread.add(unread_record(file.name, at, cause))
+
+        list_file(file, take, refuse)

@@ -11,13 +11,13 @@ from .said import printable
 from .show import named, of_public, title
 
 
-def as_text(keys: str) -> Iterator[bytes]:
+def as_text(keys: str, *, places: bool) -> Iterator[bytes]:
     """A line for each key, and below it a line for each place."""
-    for item, places in items_of(keys):
+    for item, found in items_of(keys):
         key = item.key
         words = f"{item.held:<7}  {key.bits:>5}  {key.kind}  {key.fingerprints.sha256}  "
         yield f"{words}{printable(key.comment)}".rstrip().encode() + b"\n"
-        for place in places:
+        for place in found if places else ():
             yield f"    {title(fields_of(place))}\n".encode()
 
 

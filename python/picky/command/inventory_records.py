@@ -11,13 +11,14 @@ import subprocess
 from itertools import groupby
 from typing import Iterable, Iterator, List, NamedTuple, Tuple
 
-from ..errors import BadLine
+from ..errors import BadLine, LibraryFault
 from ..inventory import Inventory, Item
 from .said import Refusal, Status
 
 # How much is checked, or written, at once.
 PIECE = 1 << 20
-# What `sort` keeps in memory.
+# What a process keeps of records before it writes them, and `sort`.
+KEPT = 1 << 22
 SORT_SPACE = "16M"
 
 
@@ -28,41 +29,60 @@ class Place(NamedTuple):
     line: int
 
 
+class Runs:
+    """Records that come in any order, and are written to files in a folder, each file sorted."""
+
+    def __init__(self, folder: str) -> None:
+        self.folder = folder
+        self.kept: List[bytes] = []
+        self.size = self.written = 0
+
+    def add(self, record: bytes) -> None:
+        """Takes a record."""
+        self.kept.append(record)
+        self.size += len(record)
+        if self.size >= KEPT:
+            self.write()
+
+    def write(self) -> None:
+        """Writes what is kept."""
+        if self.kept:
+            self.kept.sort()
+            with open(os.path.join(self.folder, f"{os.getpid()}-{self.written}"), "xb") as run:
+                run.writelines(self.kept)
+            self.kept.clear()
+            self.size, self.written = 0, self.written + 1
+
+
 class Found:
-    """What a run finds, in files of a folder: in `runs` any number of files of sorted records, and in the end all keys, sorted, in
-    `keys`; in `unread` what isn't read. `placed` says whether keys have places. It is a context manager, which closes the files.
+    """What a run finds, in files of a folder: `keys` and `unread` are the records of keys and of what isn't read, sorted, and made by
+    `sort` of the files in `key_runs` and `unread_runs`. `placed` says whether keys have places.
     """
 
     def __init__(self, folder: str, *, placed: bool) -> None:
         self.folder, self.placed = folder, placed
-        self.runs = os.path.join(folder, "runs")
-        self.keys = os.path.join(folder, "keys")
-        self.unread = os.path.join(folder, "unread")
-        os.mkdir(self.runs)
-        self._refused = open(self.unread, "xb")
+        self.keys, self.unread, self.key_runs, self.unread_runs = (
+            os.path.join(folder, name) for name in ("keys", "unread", "key-runs", "unread-runs")
+        )
+        os.mkdir(self.key_runs)
+        os.mkdir(self.unread_runs)
+        self._refused = Runs(self.unread_runs)
 
     def refuse(self, name: str, line: int, cause: str) -> None:
         """Notes that something isn't read."""
-        self._refused.write(unread_record(name, line, cause))
-
-    def refuse_all(self, records: List[bytes]) -> None:
-        """Notes records of what isn't read."""
-        self._refused.writelines(records)
+        self._refused.add(unread_record(name, line, cause))
 
     def sort(self) -> None:
-        """Sorts all records, each once, and has the library check that the keys' lines are an inventory."""
-        self._refused.close()
-        runs = [os.path.join(self.runs, name) for name in os.listdir(self.runs)]
-        sort(self.keys, runs, "--merge", "--unique")
-        sort(self.unread, [self.unread])
-        for _ in checked(in_pieces(lines_of(self.keys))):
-            pass
-
-    def __enter__(self) -> Found:
-        return self
-
-    def __exit__(self, *_: object) -> None:
-        self._refused.close()
+        """Sorts the records, each once, and has the library check that the keys' lines are an inventory."""
+        self._refused.write()
+        for path, runs in ((self.keys, self.key_runs), (self.unread, self.unread_runs)):
+            names = [os.path.join(runs, name) for name in os.listdir(runs)]
+            sort(path, names, "--merge", "--unique")
+        try:
+            for _ in checked(in_pieces(lines_of(self.keys))):
+                pass
+        except BadLine as fault:
+            raise LibraryFault(f"what was listed is no inventory: {fault.cause}") from None
 
 
 def sort(path: str, names: List[str], *words: str) -> None:
@@ -72,10 +92,10 @@ def sort(path: str, names: List[str], *words: str) -> None:
     """
     space = [f"--buffer-size={SORT_SPACE}", f"--temporary-directory={os.path.dirname(path)}"]
     command = ["sort", *space, *words, f"--output={path}", "--files0-from=-"]
-    given = "\0".join(names or [os.devnull])
+    given = os.fsencode("\0".join(names or [os.devnull]))
     variables = {**os.environ, "LC_ALL": "C"}
     try:
-        run = subprocess.run(command, input=given.encode(), capture_output=True, env=variables)
+        run = subprocess.run(command, input=given, capture_output=True, env=variables)
     except FileNotFoundError:
         raise Refusal("there is no program sort", Status.OUTSIDE) from None
     if run.returncode:

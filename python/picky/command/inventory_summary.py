@@ -3,6 +3,7 @@ from __future__ import annotations
 
 import os
 from collections import Counter
+from heapq import merge
 from itertools import groupby
 from typing import Dict, Generic, Iterable, Iterator, List, Optional, Tuple, TypeVar
 
@@ -115,14 +116,8 @@ def _keys(found: Found) -> Iterator[Key]:
 
 def differences(earlier: Iterator[bytes], later: Iterator[bytes]) -> Iterator[Tuple[bytes, bool]]:
     """The lines that one of two inventories has alone, and whether it is the later one."""
-    old, new = next(earlier, None), next(later, None)
-    while old is not None or new is not None:
-        if new is None or (old is not None and old < new):
-            assert old is not None
-            yield old, False
-            old = next(earlier, None)
-        elif old is None or new < old:
-            yield new, True
-            new = next(later, None)
-        else:
-            old, new = next(earlier, None), next(later, None)
+    both = merge(((line, False) for line in earlier), ((line, True) for line in later))
+    for line, group in groupby(both, lambda pair: pair[0]):
+        sides = [new for _, new in group]
+        if len(sides) == 1:
+            yield line, sides[0]
