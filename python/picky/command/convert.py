@@ -90,7 +90,6 @@ def run(parser: argparse.ArgumentParser, arguments: argparse.Namespace) -> int:
         if path is not None:
             files.check_free(path, arguments.force)
         given = first(name)
-        given = first(name)
         if arguments.to in PUBLIC:
             content = public_text(given, passphrases, TARGETS[arguments.to])
         else:
