@@ -1,0 +1,96 @@
+/* What keeps the secrets in this process, and the process to the calls that it needs. */
+#include "host.h"
+
+#include <errno.h>
+#include <linux/audit.h>
+#include <linux/filter.h>
+#include <linux/seccomp.h>
+#include <malloc.h>
+#include <stddef.h>
+#include <stdio.h>
+#include <string.h>
+#include <sys/mman.h>
+#include <sys/prctl.h>
+#include <sys/syscall.h>
+#include <unistd.h>
+
+enum { DEEP = 131072 };
+
+#ifndef STAYS_DUMPABLE
+#define STAYS_DUMPABLE 0
+#endif
+#ifndef UNFILTERED
+#define UNFILTERED 0
+#endif
+
+/* Overwrites the stack below, where calls left what they worked with. */
+__attribute__((noinline)) void wipe_stack(void) {
+    unsigned char deep[DEEP];
+    explicit_bzero(deep, sizeof deep);
+}
+
+/* Locks the stack that wipe_stack wipes, where the limit lets it. */
+__attribute__((noinline)) static void lock_stack(void) {
+    unsigned char deep[DEEP];
+    explicit_bzero(deep, sizeof deep);
+    (void)mlock(deep, sizeof deep);
+}
+
+/* Locks what the heap has grown by, where the limit lets it: keys and small messages are there. */
+void lock_heap(uintptr_t *until) {
+    uintptr_t end = (uintptr_t)sbrk(0);
+    if (*until != 0 && end > *until)
+        (void)mlock((void *)*until, end - *until);
+    *until = end;
+}
+
+/* Where the heap begins, or 0. */
+static uintptr_t heap_start(void) {
+    char line[512];
+    unsigned long start = 0, found = 0;
+    FILE *maps = fopen("/proc/self/maps", "re");
+    while (maps != NULL && found == 0 && fgets(line, sizeof line, maps) != NULL)
+        if (strstr(line, "[heap]") != NULL && sscanf(line, "%lx", &start) == 1)
+            found = start;
+    if (maps != NULL)
+        fclose(maps);
+    return found;
+}
+
+/* No core file, no reading by others, no memory on a disk as far as the limit lets it; and the files that clients need. */
+bool keep_to_itself(uintptr_t *heap) {
+    const struct rlimit none = {0, 0};
+    struct rlimit files;
+    if (setrlimit(RLIMIT_CORE, &none) != 0 || (!STAYS_DUMPABLE && prctl(PR_SET_DUMPABLE, 0, 0, 0, 0) != 0) ||
+        getrlimit(RLIMIT_NOFILE, &files) != 0)
+        return false;
+    files.rlim_cur = files.rlim_max;
+    /* Small blocks stay in the heap, which doesn't shrink, so what is locked of it stays locked. */
+    if (setrlimit(RLIMIT_NOFILE, &files) != 0 || mallopt(M_TRIM_THRESHOLD, INT32_MAX) != 1)
+        return false;
+    *heap = heap_start();
+    lock_heap(heap);
+    lock_stack();
+    return true;
+}
+
+/* ---- the filter, in the kernel's own words: a list of calls by number, and the process ends at any other */
+
+#define LOAD(field) BPF_STMT(BPF_LD | BPF_W | BPF_ABS, offsetof(struct seccomp_data, field))
+#define ALLOW(call) BPF_JUMP(BPF_JMP | BPF_JEQ | BPF_K, __NR_##call, 0, 1), BPF_STMT(BPF_RET | BPF_K, SECCOMP_RET_ALLOW)
+#define KILL BPF_STMT(BPF_RET | BPF_K, SECCOMP_RET_KILL_PROCESS)
+
+bool filter_calls(void) {
+    struct sock_filter list[] = {
+        LOAD(arch), BPF_JUMP(BPF_JMP | BPF_JEQ | BPF_K, AUDIT_ARCH_X86_64, 1, 0), KILL, LOAD(nr),
+        ALLOW(poll), ALLOW(recvfrom), ALLOW(sendto), ALLOW(accept4), ALLOW(getsockopt), ALLOW(close), ALLOW(clock_gettime),
+        ALLOW(geteuid), ALLOW(getpid), ALLOW(getrandom), ALLOW(futex), ALLOW(brk), ALLOW(munmap), ALLOW(mremap), ALLOW(mlock),
+        ALLOW(madvise), ALLOW(restart_syscall), ALLOW(rt_sigreturn), ALLOW(exit_group),
+        /* New memory, but none that is run. */
+        BPF_JUMP(BPF_JMP | BPF_JEQ | BPF_K, __NR_mmap, 0, 3), LOAD(args[2]),
+        BPF_JUMP(BPF_JMP | BPF_JSET | BPF_K, PROT_EXEC, 1, 0), BPF_STMT(BPF_RET | BPF_K, SECCOMP_RET_ALLOW), KILL,
+    };
+    const struct sock_fprog program = {sizeof list / sizeof list[0], list};
+    return UNFILTERED || (prctl(PR_SET_NO_NEW_PRIVS, 1, 0, 0, 0) == 0 &&
+                          syscall(SYS_seccomp, SECCOMP_SET_MODE_FILTER, 0, &program) == 0);
+}
