@@ -42,14 +42,10 @@ bool put(buffer *it, const void *at, size_t len) {
     return true;
 }
 
-bool put_number(buffer *it, size_t number) {
-    unsigned char four[4];
-    write_number(four, number);
-    return put(it, four, sizeof four);
-}
-
 bool put_string(buffer *it, picky_bytes content) {
-    return put_number(it, content.len) && put(it, content.at, content.len);
+    unsigned char len[4];
+    write_number(len, content.len);
+    return put(it, len, sizeof len) && put(it, content.at, content.len);
 }
 
 /* The linker has free wipe. */
@@ -101,53 +97,34 @@ picky_bytes take_string(fields *it) {
 
 /* ---- the library's calls: each hands out bytes, for which there may be too little room at first */
 
-typedef struct request {
-    enum { QUESTION, REPLY, NEXT, PUBLIC_ADD, SECRET } call;
-    picky_bytes state, message, signature;
-    uint32_t part;
-} request;
-
-static picky_answer called(const request *it, void *out, size_t room) {
-    switch (it->call) {
-    case QUESTION:
-        return picky_agent_question(it->state, it->message, out, room);
-    case REPLY:
-        return picky_agent_reply(it->state, it->message, it->signature, out, room);
-    case NEXT:
-        return picky_agent_next(it->state, it->message, out, room);
-    case PUBLIC_ADD:
-        return picky_agent_public_add(it->message, out, room);
-    default:
-        return picky_agent_secret(it->message, it->part, out, room);
-    }
+static picky_answer called(enum call call, picky_bytes state, picky_bytes message, picky_bytes signature, uint32_t part, buffer *out) {
+    if (!grow(out, 256))
+        return (picky_answer){PICKY_NO_MEMORY, 0};
+    return call == QUESTION     ? picky_agent_question(state, message, out->at, out->room)
+           : call == REPLY      ? picky_agent_reply(state, message, signature, out->at, out->room)
+           : call == NEXT       ? picky_agent_next(state, message, out->at, out->room)
+           : call == PUBLIC_ADD ? picky_agent_public_add(message, out->at, out->room)
+                                : picky_agent_secret(message, part, out->at, out->room);
 }
 
-static bool handed(const request *it, buffer *out) {
-    picky_answer told = {PICKY_NO_MEMORY, 0};
-    if (grow(out, 256))
-        told = called(it, out->at, out->room);
+static bool ask_all(enum call call, picky_bytes state, picky_bytes message, picky_bytes signature, uint32_t part, buffer *out) {
+    picky_answer told = called(call, state, message, signature, part, out);
     if (told.error == PICKY_BUFFER_TOO_SMALL && grow(out, told.len + 1))
-        told = called(it, out->at, out->room);
+        told = called(call, state, message, signature, part, out);
     out->len = told.error == PICKY_OK ? told.len : 0;
     return told.error == PICKY_OK;
 }
 
-bool ask_question(picky_bytes state, picky_bytes message, buffer *out) {
-    return handed(&(request){.call = QUESTION, .state = state, .message = message}, out);
+/* A question, a reply without a signature, or the next state. */
+bool ask(enum call call, picky_bytes state, picky_bytes message, buffer *out) {
+    return ask_all(call, state, message, text(""), 0, out);
 }
 
-bool ask_reply(picky_bytes state, picky_bytes message, picky_bytes signature, buffer *out) {
-    return handed(&(request){.call = REPLY, .state = state, .message = message, .signature = signature}, out);
+bool ask_signed(picky_bytes state, picky_bytes message, picky_bytes signature, buffer *out) {
+    return ask_all(REPLY, state, message, signature, 0, out);
 }
 
-bool ask_next(picky_bytes state, picky_bytes message, buffer *out) {
-    return handed(&(request){.call = NEXT, .state = state, .message = message}, out);
-}
-
-bool ask_public_add(picky_bytes message, buffer *out) {
-    return handed(&(request){.call = PUBLIC_ADD, .message = message}, out);
-}
-
-bool ask_secret(picky_bytes message, uint32_t part, buffer *out) {
-    return handed(&(request){.call = SECRET, .message = message, .part = part}, out);
+/* A part of what a message adds, or without one the message without secrets. */
+bool ask_add(picky_bytes message, uint32_t part, buffer *out) {
+    return ask_all(part == 0 ? PUBLIC_ADD : SECRET, text(""), message, text(""), part, out);
 }

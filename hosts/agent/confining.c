@@ -1,21 +1,21 @@
 /* What keeps the secrets in this process, and the process to the calls that it needs. */
 #include "host.h"
 
-#include <errno.h>
 #include <linux/audit.h>
 #include <linux/filter.h>
 #include <linux/seccomp.h>
 #include <malloc.h>
 #include <stddef.h>
-#include <stdio.h>
 #include <string.h>
 #include <sys/mman.h>
 #include <sys/prctl.h>
+#include <sys/resource.h>
 #include <sys/syscall.h>
 #include <unistd.h>
 
 enum { DEEP = 131072 };
 
+/* Builds of tests set these two. */
 #ifndef STAYS_DUMPABLE
 #define STAYS_DUMPABLE 0
 #endif
@@ -23,55 +23,31 @@ enum { DEEP = 131072 };
 #define UNFILTERED 0
 #endif
 
-/* Overwrites the stack below, where calls left what they worked with. */
-__attribute__((noinline)) void wipe_stack(void) {
+/* Overwrites the stack below, where calls left what they worked with; and locks it, where the limit lets it. */
+__attribute__((noinline)) void wipe_stack(bool locks) {
     unsigned char deep[DEEP];
     explicit_bzero(deep, sizeof deep);
-}
-
-/* Locks the stack that wipe_stack wipes, where the limit lets it. */
-__attribute__((noinline)) static void lock_stack(void) {
-    unsigned char deep[DEEP];
-    explicit_bzero(deep, sizeof deep);
-    (void)mlock(deep, sizeof deep);
+    if (locks)
+        (void)mlock(deep, sizeof deep);
 }
 
 /* Locks what the heap has grown by, where the limit lets it: keys and small messages are there. */
 void lock_heap(uintptr_t *until) {
     uintptr_t end = (uintptr_t)sbrk(0);
-    if (*until != 0 && end > *until)
+    if (end > *until)
         (void)mlock((void *)*until, end - *until);
     *until = end;
 }
 
-/* Where the heap begins, or 0. */
-static uintptr_t heap_start(void) {
-    char line[512];
-    unsigned long start = 0, found = 0;
-    FILE *maps = fopen("/proc/self/maps", "re");
-    while (maps != NULL && found == 0 && fgets(line, sizeof line, maps) != NULL)
-        if (strstr(line, "[heap]") != NULL && sscanf(line, "%lx", &start) == 1)
-            found = start;
-    if (maps != NULL)
-        fclose(maps);
-    return found;
-}
-
-/* No core file, no reading by others, no memory on a disk as far as the limit lets it; and the files that clients need. */
-bool keep_to_itself(uintptr_t *heap) {
-    const struct rlimit none = {0, 0};
-    struct rlimit files;
-    if (setrlimit(RLIMIT_CORE, &none) != 0 || (!STAYS_DUMPABLE && prctl(PR_SET_DUMPABLE, 0, 0, 0, 0) != 0) ||
-        getrlimit(RLIMIT_NOFILE, &files) != 0)
+/* No core file, no reading by others, and a heap that doesn't shrink, so that it stays locked; and the files that clients need. */
+bool keep_to_itself(size_t *files) {
+    struct rlimit limit;
+    if (setrlimit(RLIMIT_CORE, &(struct rlimit){0, 0}) != 0 || getrlimit(RLIMIT_NOFILE, &limit) != 0)
         return false;
-    files.rlim_cur = files.rlim_max;
-    /* Small blocks stay in the heap, which doesn't shrink, so what is locked of it stays locked. */
-    if (setrlimit(RLIMIT_NOFILE, &files) != 0 || mallopt(M_TRIM_THRESHOLD, INT32_MAX) != 1)
-        return false;
-    *heap = heap_start();
-    lock_heap(heap);
-    lock_stack();
-    return true;
+    *files = limit.rlim_cur = limit.rlim_max;
+    wipe_stack(true);
+    return setrlimit(RLIMIT_NOFILE, &limit) == 0 && mallopt(M_TRIM_THRESHOLD, INT_MAX) == 1 &&
+           (STAYS_DUMPABLE || prctl(PR_SET_DUMPABLE, 0, 0, 0, 0) == 0);
 }
 
 /* ---- the filter, in the kernel's own words: a list of calls by number, and the process ends at any other */

@@ -20,33 +20,12 @@ static void ask_by(int written, const char *prompt) {
     const char *program = getenv("SSH_ASKPASS");
     if (program == NULL || *program == 0)
         program = "/usr/bin/ssh-askpass";
-    signal(SIGTERM, SIG_DFL);
-    signal(SIGINT, SIG_DFL);
-    signal(SIGHUP, SIG_DFL);
     if (dup2(written, STDOUT_FILENO) >= 0 && setenv("SSH_ASKPASS_PROMPT", "confirm", 1) == 0)
         execlp(program, program, prompt, (char *)NULL);
     _exit(127);
 }
 
-/* What is read before the end; -1 where the agent ends first. */
-static ssize_t hear(int agent, int from, char *told, size_t room) {
-    struct pollfd polled[] = {{.fd = from, .events = POLLIN}, {.fd = agent, .events = 0}};
-    size_t len = 0;
-    for (;;) {
-        if (poll(polled, 2, -1) < 0 && errno != EINTR)
-            return -1;
-        if (polled[1].revents != 0)
-            return -1;
-        ssize_t got = polled[0].revents != 0 ? read(from, told + len, room - len) : -1;
-        if (got < 0)
-            continue;
-        len += (size_t)got;
-        if (got == 0 || len == room)
-            return (ssize_t)len;
-    }
-}
-
-/* Whether the user says yes: a program that ends with 0, and writes nothing, or "yes", in its line. */
+/* Whether the user says yes: a program that ends with 0, and writes a line that is empty or "yes". */
 static bool says_yes(int agent, const char *prompt) {
     int ends[2], status = 1;
     char told[64];
@@ -56,7 +35,9 @@ static bool says_yes(int agent, const char *prompt) {
     if (child == 0)
         ask_by(ends[1], prompt);
     close(ends[1]);
-    ssize_t len = child < 0 ? -1 : hear(agent, ends[0], told, sizeof told - 1);
+    /* What the program writes in its line; nothing where the agent ends first. */
+    struct pollfd polled[] = {{ends[0], POLLIN, 0}, {agent, 0, 0}};
+    ssize_t len = child > 0 && poll(polled, 2, -1) > 0 && polled[1].revents == 0 ? read(ends[0], told, sizeof told - 1) : -1;
     close(ends[0]);
     if (child > 0 && len < 0)
         kill(child, SIGTERM);
@@ -72,39 +53,23 @@ static bool says_yes(int agent, const char *prompt) {
 static void help(int agent, const place *where) {
     char prompt[LONGEST_PROMPT + 1];
     ssize_t len;
-    signal(SIGTERM, SIG_IGN);
-    signal(SIGINT, SIG_IGN);
-    signal(SIGHUP, SIG_IGN);
-    while ((len = recv(agent, prompt, LONGEST_PROMPT, 0)) > 0 || (len < 0 && errno == EINTR)) {
-        if (len < 0)
-            continue;
+    while ((len = recv(agent, prompt, LONGEST_PROMPT, 0)) > 0) {
         prompt[len] = 0;
         unsigned char yes = says_yes(agent, prompt);
         if (send(agent, &yes, 1, MSG_NOSIGNAL) < 0)
             break;
     }
-    if (where->socket[0] != 0)
-        unlink(where->socket);
-    if (where->folder[0] != 0)
-        rmdir(where->folder);
+    leave_place(where);
     _exit(0);
 }
 
-/* Forks the helper, and gives the end that the agent has of it; -1 and errno where there is none. */
+/* Forks the helper, with a session of its own, and gives the end that the agent has of it; -1 and errno where there is none. */
 int start_helper(const place *where, int listener) {
     int ends[2];
-    if (socketpair(AF_UNIX, SOCK_SEQPACKET | SOCK_CLOEXEC, 0, ends) != 0)
-        return -1;
-    pid_t child = fork();
-    if (child == 0) {
-        close(listener);
-        close(ends[0]);
+    pid_t child = socketpair(AF_UNIX, SOCK_SEQPACKET | SOCK_CLOEXEC, 0, ends) == 0 ? fork() : -1;
+    if (child == 0 && close(listener) == 0 && close(ends[0]) == 0 && setsid() > 0)
         help(ends[1], where);
-    }
-    close(ends[1]);
-    if (child < 0) {
-        close(ends[0]);
-        return -1;
-    }
-    return ends[0];
+    if (child == 0)
+        _exit(1);
+    return child < 0 || close(ends[1]) != 0 ? -1 : ends[0];
 }

@@ -1,37 +1,19 @@
-/*
- * What the files of picky-agent share, by file. Nothing is global: main.c makes an agent and a server, and hands them on.
- */
-#ifndef HOST_H
-#define HOST_H
+/* What the files of picky-agent share, by file. Nothing is global: main.c makes the agent and hands it on. */
+#pragma once
 
 #include <picky/agent.h>
-
-#include <openssl/evp.h>
 #include <limits.h>
+#include <openssl/evp.h>
 #include <stdbool.h>
 #include <stdint.h>
-#include <sys/resource.h>
-#include <sys/types.h>
 
 enum { LONGEST = 262144, MOST = 1024 };
 
 /* Types of messages and replies (draft-miller-ssh-agent-04, section 5.1). */
-enum {
-    FAILURE = 5,
-    SUCCESS = 6,
-    REMOVE_ALL_OF_1 = 9,
-    LIST = 11,
-    SIGN = 13,
-    ADD = 17,
-    REMOVE = 18,
-    REMOVE_ALL = 19,
-    LOCK = 22,
-    UNLOCK = 23,
-    ADD_CONSTRAINED = 25
-};
+enum { FAILURE = 5, SUCCESS = 6, REMOVE_ALL_OF_1 = 9, LIST = 11, SIGN = 13, ADD = 17, REMOVE = 18, REMOVE_ALL = 19 };
+enum { LOCK = 22, UNLOCK = 23, ADD_CONSTRAINED = 25 };
 
 /* ---- bytes.c: bytes that grow, fields (RFC 4251, section 5), and the library's calls */
-
 typedef struct buffer {
     unsigned char *at;
     size_t len, room;
@@ -49,29 +31,26 @@ picky_bytes held(const buffer *it);
 bool same(picky_bytes one, picky_bytes other);
 bool grow(buffer *it, size_t room);
 bool put(buffer *it, const void *at, size_t len);
-bool put_number(buffer *it, size_t number);
 bool put_string(buffer *it, picky_bytes content);
 void drop(buffer *it);
 void swap(buffer *one, buffer *other);
 uint32_t number_at(const unsigned char *at);
 void write_number(unsigned char *at, size_t number);
 fields fields_of(picky_bytes content);
-uint32_t take_number(fields *it);
 picky_bytes take(fields *it, size_t len);
+uint32_t take_number(fields *it);
 picky_bytes take_string(fields *it);
 
-bool ask_question(picky_bytes state, picky_bytes message, buffer *out);
-bool ask_reply(picky_bytes state, picky_bytes message, picky_bytes signature, buffer *out);
-bool ask_next(picky_bytes state, picky_bytes message, buffer *out);
-bool ask_public_add(picky_bytes message, buffer *out);
-bool ask_secret(picky_bytes message, uint32_t part, buffer *out);
+enum call { QUESTION, REPLY, NEXT, PUBLIC_ADD, SECRET };
+
+bool ask(enum call call, picky_bytes state, picky_bytes message, buffer *out);
+bool ask_signed(picky_bytes state, picky_bytes message, picky_bytes signature, buffer *out);
+bool ask_add(picky_bytes message, uint32_t part, buffer *out);
 
 /* ---- secrets.c: the keys, which are OpenSSL's */
-
 /* A key of the agent, or a certificate for one. */
 typedef struct identity {
-    buffer blob;
-    buffer comment;
+    buffer blob, comment;
     EVP_PKEY *key;  /* NULL of a security key, by which nothing is signed */
     int64_t ends;   /* the moment at which it is removed, in milliseconds; 0 where it stays */
     bool confirmed; /* whether the user is asked before it signs */
@@ -85,71 +64,61 @@ typedef struct ring {
 } ring;
 
 bool read_key(picky_bytes message, EVP_PKEY **key);
-void drop_identity(identity *it);
 identity *find(ring *in, picky_bytes blob);
 void put_identity(ring *in, identity *it);
+void drop_identity(identity *it);
 void remove_at(ring *in, size_t place);
-void remove_all(ring *in);
 
 /* ---- signing.c */
-
 bool sign_by(EVP_PKEY *key, picky_bytes algorithm, picky_bytes message, buffer *signature);
 bool sign_once_by_each(void);
 
-/* ---- certificates.c: what is added as a certificate, as the message that adds its key */
-
+/* ---- certificates.c */
 size_t identity_len(picky_bytes message);
 picky_bytes certificate_in(picky_bytes message);
 bool key_of_certificate(picky_bytes message, buffer *plain, buffer *subject);
 
 /* ---- messages.c: the agent, whose state is the library's */
-
 typedef struct agent {
-    buffer state;             /* without secrets */
-    buffer listed;            /* the reply to 11 while it isn't locked; no bytes where that has to be made */
-    ring keys, certificates;  /* the keys in the order of the state */
-    int64_t life;             /* how long an identity stays by itself, in milliseconds; 0 where it does */
-    int64_t soonest;          /* when the first is removed; 0 where none is */
+    buffer state;            /* without secrets */
+    buffer listed;           /* the reply to 11 while it isn't locked; no bytes where that has to be made */
+    ring keys, certificates; /* the keys in the order of the state */
+    int64_t life;            /* how long an identity stays by itself, in milliseconds; 0 where it does */
+    int64_t soonest;         /* when the first is removed; 0 where none is */
     bool locked;
     unsigned char salt[16], hash[64]; /* of the lock's passphrase */
-    int64_t unlocks_from;     /* when 23 is answered again, which a wrong passphrase puts off */
-    unsigned wrong_count;
+    int64_t unlocks_from;             /* when 23 is answered again, which wrong passphrases put off */
+    int wrong_count;
     buffer question, signature, reply, next, bare; /* of one call each */
+    uintptr_t heap;                                /* up to where it is locked */
 } agent;
 
 enum answer { ANSWERED, WANTS_YES };
 
 bool start_agent(agent *it, int64_t life);
-void end_agent(agent *it);
 enum answer answer(agent *it, unsigned char *message, size_t len, bool confirmed, int64_t now, buffer *out);
 void remove_ended(agent *it, int64_t now);
 
-/* ---- confirming.c: a process that asks the user, and takes the socket away at the end */
-
-enum { LONGEST_PROMPT = 1024 };
-
-/* Where the socket is, and the folder that was made for it; empty where there is none to take away. */
+/* ---- socket.c: where the socket is, and the folder that was made for it; empty where there is none to take away */
 typedef struct place {
     char socket[PATH_MAX], folder[PATH_MAX];
 } place;
 
-int start_helper(const place *where, int listener);
-
-/* ---- socket.c */
-
 int open_socket(const char *path, place *where);
+void leave_place(const place *where);
 int inherited_socket(void);
 int accept_client(int listener);
 
-/* ---- clients.c: one loop */
+/* ---- confirming.c: a process beside the agent */
+enum { LONGEST_PROMPT = 1024 };
 
-int serve(agent *it, int listener, int helper, int parent);
+int start_helper(const place *where, int listener);
+
+/* ---- clients.c: one loop */
+bool serve(agent *it, int listener, int helper, int parent);
 
 /* ---- confining.c */
-
-bool keep_to_itself(uintptr_t *heap);
-void wipe_stack(void);
+bool keep_to_itself(size_t *files);
+void wipe_stack(bool locks);
 void lock_heap(uintptr_t *until);
 bool filter_calls(void);
-
-#endif

@@ -4,13 +4,11 @@
 #include <ctype.h>
 #include <errno.h>
 #include <fcntl.h>
-#include <getopt.h>
 #include <openssl/crypto.h>
 #include <signal.h>
 #include <stdio.h>
 #include <stdlib.h>
 #include <string.h>
-#include <sys/stat.h>
 #include <sys/syscall.h>
 #include <unistd.h>
 
@@ -46,24 +44,26 @@ static int fail(const char *what) {
     return 1;
 }
 
+/* The status behind what was printed. */
+static int printed(int count) {
+    return count > 0 && fflush(stdout) == 0 ? 0 : fail("standard output");
+}
+
 /* A time as ssh-agent's -t has it, in milliseconds: numbers, each with s, m, h, d, w or nothing behind; 0 where it is none. */
 static int64_t read_life(const char *it) {
     static const char units[] = "smhdw";
-    static const int64_t seconds[] = {1, 60, 3600, 86400, 604800};
+    static const int64_t seconds[] = {1, 60, 3600, 86400, 604800, 1};
     int64_t sum = 0;
     while (*it != 0) {
         char *end;
-        errno = 0;
         long number = isdigit((unsigned char)*it) ? strtol(it, &end, 10) : -1;
-        if (number < 0 || errno != 0 || number > INT32_MAX)
-            return 0;
-        const char *unit = *end == 0 ? units : strchr(units, tolower((unsigned char)*end));
+        const char *unit = number < 0 || number > INT_MAX ? NULL : strchr(units, tolower((unsigned char)*end));
         if (unit == NULL)
             return 0;
         sum += number * seconds[unit - units];
-        it = *end == 0 ? end : end + 1;
+        it = end + (*end != 0);
     }
-    return sum <= UINT32_MAX ? sum * 1000 : 0;
+    return sum <= INT_MAX ? sum * 1000 : 0;
 }
 
 static bool read_options(int count, char **words, options *it) {
@@ -72,79 +72,85 @@ static bool read_options(int count, char **words, options *it) {
     int word;
     it->csh = len >= 3 && strcmp(shell + len - 3, "csh") == 0;
     while ((word = getopt(count, words, "+csa:t:Dk")) >= 0) {
-        if (word == 'c' || word == 's')
-            it->csh = word == 'c';
-        else if (word == 'a')
-            it->socket = optarg;
-        else if (word == 't' && (it->life = read_life(optarg)) > 0)
-            continue;
-        else if (word == 'D')
-            it->stays = true;
-        else if (word == 'k')
-            it->ends = true;
-        else
+        if (word == '?' || (word == 't' && (it->life = read_life(optarg)) == 0))
             return false;
+        it->csh = word == 'c' || (word != 's' && it->csh);
+        it->stays = it->stays || word == 'D';
+        it->ends = it->ends || word == 'k';
+        it->socket = word == 'a' ? optarg : it->socket;
     }
     it->command = words + optind;
     bool runs = optind < count;
     return !(runs && it->stays) && !(it->ends && (runs || it->stays || it->socket != NULL || it->life != 0));
 }
 
-static bool print_variables(const options *it, const char *path, pid_t pid) {
-    const char *format = it->csh ? "setenv SSH_AUTH_SOCK %s;\nsetenv SSH_AGENT_PID %ld;\necho Agent pid %ld;\n"
-                                 : "SSH_AUTH_SOCK=%s; export SSH_AUTH_SOCK;\nSSH_AGENT_PID=%ld; export SSH_AGENT_PID;\necho Agent pid %ld;\n";
-    return printf(format, path, (long)pid, (long)pid) > 0 && fflush(stdout) == 0;
+static int print_variables(const options *it, const char *path, pid_t pid) {
+    return printed(printf(it->csh ? "setenv SSH_AUTH_SOCK %s;\nsetenv SSH_AGENT_PID %ld;\necho Agent pid %ld;\n"
+                                  : "SSH_AUTH_SOCK=%s; export SSH_AUTH_SOCK;\nSSH_AGENT_PID=%ld; export SSH_AGENT_PID;\n"
+                                    "echo Agent pid %ld;\n", path, (long)pid, (long)pid));
 }
 
 /* -k: ends the agent of the environment. */
 static int end_other(const options *it) {
-    const char *pid = getenv("SSH_AGENT_PID"), *word = it->csh ? "unsetenv" : "unset";
-    char *end;
-    long number = pid == NULL ? 0 : strtol(pid, &end, 10);
-    if (pid == NULL || number < 2 || *end != 0 || number > INT32_MAX) {
-        fputs("picky-agent: SSH_AGENT_PID names no agent\n", stderr);
-        return 1;
-    }
-    if (kill((pid_t)number, SIGTERM) != 0)
-        return fail("kill");
-    bool wrote = printf("%s SSH_AUTH_SOCK;\n%s SSH_AGENT_PID;\necho Agent pid %ld killed;\n", word, word, number) > 0;
-    return wrote && fflush(stdout) == 0 ? 0 : fail("standard output");
+    const char *told = getenv("SSH_AGENT_PID"), *word = it->csh ? "unsetenv" : "unset";
+    char *end = "";
+    long pid = told == NULL ? 0 : strtol(told, &end, 10);
+    errno = EINVAL;
+    if (pid < 2 || *end != 0 || pid > INT_MAX || kill((pid_t)pid, SIGTERM) != 0)
+        return fail("SSH_AGENT_PID");
+    return printed(printf("%s SSH_AUTH_SOCK;\n%s SSH_AGENT_PID;\necho Agent pid %ld killed;\n", word, word, pid));
 }
 
 /* Becomes a process of its own, without the streams of the one that started it. */
 static bool leave(void) {
-    int null = open("/dev/null", O_RDWR);
-    if (null < 0 || setsid() < 0 || chdir("/") != 0)
-        return false;
-    for (int fd = 0; fd <= 2; fd++)
-        if (dup2(null, fd) < 0)
-            return false;
-    return null <= 2 || close(null) == 0;
+    int null = open("/dev/null", O_RDWR | O_CLOEXEC);
+    bool left = null >= 0 && setsid() > 0 && chdir("/") == 0;
+    for (int fd = 0; fd <= 2 && left; fd++)
+        left = dup2(null, fd) >= 0;
+    return left;
 }
 
-/* The process that goes on as the agent is the child; its parent prints where it is, or becomes the command. */
+/* The agent is the child; its parent prints where that is, or becomes the command. */
 static int part(const options *it, const char *path, pid_t child) {
-    char number[32];
+    char pid[32];
     if (*it->command == NULL)
-        return print_variables(it, path, child) ? 0 : fail("standard output");
-    snprintf(number, sizeof number, "%ld", (long)child);
-    if (setenv("SSH_AUTH_SOCK", path, 1) == 0 && setenv("SSH_AGENT_PID", number, 1) == 0)
+        return print_variables(it, path, child);
+    snprintf(pid, sizeof pid, "%ld", (long)child);
+    if (setenv("SSH_AUTH_SOCK", path, 1) == 0 && setenv("SSH_AGENT_PID", pid, 1) == 0)
         execvp(*it->command, it->command);
     return fail(*it->command);
 }
 
-/* Serves in this process; the helper is forked before the agent has a secret. */
-static int run(agent *it, int listener, const place *where, int parent) {
-    int helper = start_helper(where, listener);
-    if (helper < 0)
-        return fail("the helper");
-    return serve(it, listener, helper, parent) == 0 ? 0 : fail("start");
+/* Begins where the socket is, and serves; with a command as long as that runs. */
+static int run(agent *it, const options *told) {
+    place where = {"", ""};
+    int listener = inherited_socket(), command = -1, helper;
+    bool is_inherited = listener >= 0, stays = told->stays || is_inherited;
+    if (listener == -1)
+        listener = open_socket(told->socket, &where);
+    if (listener < 0)
+        return fail(told->socket != NULL ? told->socket : "a socket");
+    const char *path = told->socket != NULL ? told->socket : where.socket;
+    pid_t first = getpid(), child = stays ? 0 : fork();
+    if (child > 0)
+        return part(told, path, child);
+    if (!stays && *told->command != NULL)
+        command = (int)syscall(SYS_pidfd_open, first, 0);
+    if (child < 0 || (!stays && *told->command != NULL && (command < 0 || getppid() != first)) || (!stays && !leave()) ||
+        (stays && !is_inherited && print_variables(told, path, first) != 0) || (helper = start_helper(&where, listener)) < 0) {
+        leave_place(&where);
+        return fail("start");
+    }
+    return serve(it, listener, helper, command) ? 0 : fail("start");
 }
 
 int main(int count, char **words) {
     options told = {0};
-    if (count == 2 && (strcmp(words[1], "--help") == 0 || strcmp(words[1], "--version") == 0))
-        return printf("%s%s", words[1][2] == 'h' ? usage : picky_version().text, words[1][2] == 'h' ? "" : "\n") > 0 && fflush(stdout) == 0 ? 0 : 1;
+    uintptr_t heap = (uintptr_t)sbrk(0);
+    if (count == 2 && strcmp(words[1], "--help") == 0)
+        return printed(printf("%s", usage));
+    if (count == 2 && strcmp(words[1], "--version") == 0)
+        return printed(printf("%s\n", picky_version().text));
     if (!read_options(count, words, &told)) {
         fputs(usage, stderr);
         return 1;
@@ -153,27 +159,9 @@ int main(int count, char **words) {
         return end_other(&told);
     agent *it = CRYPTO_set_mem_functions(allocate, reallocate, release) == 1 ? calloc(1, sizeof *it) : NULL;
     if (it == NULL || !start_agent(it, told.life)) {
-        fputs("picky-agent: OpenSSL's libcrypto doesn't sign here\n", stderr);
+        fputs("picky-agent: libcrypto doesn't sign here\n", stderr);
         return 1;
     }
-    place where = {0};
-    int listener = inherited_socket(), parent = -1;
-    bool stays = told.stays || listener >= 0;
-    if (listener == -1)
-        listener = open_socket(told.socket, &where);
-    if (listener < 0)
-        return fail(told.socket != NULL ? told.socket : "a socket");
-    const char *path = told.socket != NULL ? told.socket : where.socket;
-    pid_t first = getpid(), child = stays ? 0 : fork();
-    if (child < 0)
-        return fail("fork");
-    if (child > 0)
-        return part(&told, path, child);
-    if (told.stays && where.socket[0] != 0 && !print_variables(&told, path, first))
-        return fail("standard output");
-    if (!stays && *told.command != NULL && ((parent = (int)syscall(SYS_pidfd_open, first, 0)) < 0 || getppid() != first))
-        return fail("the command's process");
-    if (!stays && !leave())
-        return 1;
-    return run(it, listener, &where, parent);
+    it->heap = heap;
+    return run(it, &told);
 }

@@ -1,49 +1,39 @@
 /*
- * The agent: which key answers, locked or not, in which format and by which reply, says the library. Here stand the secrets' place,
- * what the library has no state for (lifetimes, confirmation, certificates), and what it is handed in place of a message.
+ * The agent: which key answers, locked or not, in which format and by which reply, says the library. Here is what it has no state for
+ * (secrets, lifetimes, confirmation, certificates), and what it is handed in place of a message.
  */
 #include "host.h"
 
-#include <openssl/err.h>
 #include <openssl/rand.h>
 #include <stdio.h>
+#include <stdlib.h>
 #include <string.h>
 
-enum { ROUNDS = 10000, LIFETIME = 1, CONFIRM = 2, SECOND = 1000, LONGEST_WAIT = 10 * SECOND, WAIT_STEP = SECOND / 10 };
-enum { SHOWN = 200, DIGEST = 32 };
-
-static const unsigned char list_message[] = {LIST}, failure[] = {FAILURE}, success[] = {SUCCESS};
-
-static picky_bytes nothing(void) {
-    return bytes("", 0);
-}
+enum { ROUNDS = 10000, LIFETIME = 1, CONFIRM = 2, SECOND = 1000, WAIT_STEP = 100, MOST_WRONG = 100 };
+enum { SHOWN = 200, DIGEST = 32, LOCKING = 69 };
 
 bool start_agent(agent *it, int64_t life) {
     it->life = life;
     return RAND_bytes(it->salt, sizeof it->salt) == 1 && sign_once_by_each();
 }
 
-void end_agent(agent *it) {
-    buffer *all[] = {&it->state, &it->listed, &it->question, &it->signature, &it->reply, &it->next, &it->bare};
-    remove_all(&it->keys);
-    remove_all(&it->certificates);
-    for (size_t i = 0; i < sizeof all / sizeof all[0]; i++)
-        drop(all[i]);
-    explicit_bzero(it->hash, sizeof it->hash);
-}
-
 /* ---- the list: that of the library, and behind it the certificates in their order */
 
-static size_t rows_len(const ring *of) {
-    size_t len = 0;
-    for (size_t i = 0; i < of->count; i++)
-        len += 8 + of->at[i].blob.len + of->at[i].comment.len;
-    return len;
+static bool list_of(picky_bytes state, buffer *out) {
+    static const unsigned char message[] = {LIST};
+    return ask(REPLY, state, bytes(message, 1), out) && out->len >= 5;
 }
 
+static size_t row_len(const identity *it) {
+    return 8 + it->blob.len + it->comment.len;
+}
+
+/* Makes the list of an agent that isn't locked, if it isn't there. */
 static bool make_list(agent *it) {
     const ring *behind = &it->certificates;
-    bool good = ask_reply(held(&it->state), bytes(list_message, 1), nothing(), &it->listed) && it->listed.len >= 5;
+    if (it->listed.len > 0)
+        return true;
+    bool good = list_of(held(&it->state), &it->listed);
     if (good)
         write_number(it->listed.at + 1, number_at(it->listed.at + 1) + behind->count);
     for (size_t i = 0; i < behind->count && good; i++)
@@ -51,12 +41,6 @@ static bool make_list(agent *it) {
     if (!good)
         it->listed.len = 0;
     return good;
-}
-
-static bool list(agent *it, buffer *out) {
-    if (it->locked)
-        return ask_reply(held(&it->state), bytes(list_message, 1), nothing(), out);
-    return (it->listed.len > 0 || make_list(it)) && put(out, it->listed.at, it->listed.len);
 }
 
 /* Drops what was kept until something changes, and looks when the next identity ends. */
@@ -72,41 +56,31 @@ static void changed(agent *it) {
         }
 }
 
-/* The next state is the state from now on. */
-static void take_next(agent *it) {
-    swap(&it->state, &it->next);
-}
-
 /* ---- signatures */
 
 /* What the user is asked, as ssh-agent asks it; of the comment a part, without characters that a terminal heeds. */
 static bool put_prompt(const identity *it, buffer *out) {
+    const buffer *blob = it->plain.len > 0 ? &it->plain : &it->blob;
     unsigned char digest[DIGEST], print[2 * DIGEST];
-    unsigned len;
     char comment[SHOWN + 1], prompt[LONGEST_PROMPT];
     size_t shown = it->comment.len < SHOWN ? it->comment.len : SHOWN;
-    while (shown < it->comment.len && shown > 0 && (it->comment.at[shown] & 0xc0) == 0x80)
-        shown--;
     for (size_t i = 0; i < shown; i++)
         comment[i] = it->comment.at[i] < ' ' || it->comment.at[i] == 0x7f ? '?' : (char)it->comment.at[i];
     comment[shown] = 0;
-    const buffer *blob = it->plain.len > 0 ? &it->plain : &it->blob;
-    if (EVP_Digest(blob->at, blob->len, digest, &len, EVP_sha256(), NULL) != 1)
+    if (EVP_Digest(blob->at, blob->len, digest, NULL, EVP_sha256(), NULL) != 1)
         return false;
-    int print_len = EVP_EncodeBlock(print, digest, sizeof digest) - 1;
-    int wrote = snprintf(prompt, sizeof prompt, "Allow use of key %s?\nKey fingerprint SHA256:%.*s.", comment, print_len, print);
-    return wrote > 0 && (size_t)wrote < sizeof prompt && put(out, prompt, (size_t)wrote);
+    int len = EVP_EncodeBlock(print, digest, sizeof digest) - 1;
+    len = snprintf(prompt, sizeof prompt, "Allow use of key %s?\nKey fingerprint SHA256:%.*s.", comment, len, print);
+    return len > 0 && put(out, prompt, (size_t)len);
 }
 
-/* The message, where it is for a certificate as if it were for the key, and then the state of an agent that has this key alone. */
+/* The certificate that a 13 is for; the message is then as if it were for the key, and the state that of an agent with this alone. */
 static identity *find_certificate(agent *it, picky_bytes *message, picky_bytes *state) {
     fields fields = fields_of(*message);
     picky_bytes kind = take(&fields, 1);
     identity *of = it->locked ? NULL : find(&it->certificates, take_string(&fields));
-    if (of == NULL)
-        return NULL;
     it->bare.len = 0;
-    if (!put(&it->bare, kind.at, kind.len) || !put_string(&it->bare, held(&of->plain)) || !put(&it->bare, fields.at, fields.left))
+    if (of == NULL || !put(&it->bare, kind.at, 1) || !put_string(&it->bare, held(&of->plain)) || !put(&it->bare, fields.at, fields.left))
         return NULL;
     *message = held(&it->bare);
     *state = held(&of->state);
@@ -116,10 +90,10 @@ static identity *find_certificate(agent *it, picky_bytes *message, picky_bytes *
 static bool sign(agent *it, picky_bytes message, bool confirmed, buffer *out, enum answer *told) {
     picky_bytes state = held(&it->state);
     identity *of = find_certificate(it, &message, &state);
-    if (!ask_question(state, message, &it->question))
+    if (!ask(QUESTION, state, message, &it->question))
         return false;
     if (it->question.len == 0)
-        return ask_reply(state, message, nothing(), out);
+        return ask(REPLY, state, message, out);
     fields asked = fields_of(held(&it->question));
     size_t place = take_number(&asked);
     picky_bytes blob = take_string(&asked), algorithm = take_string(&asked);
@@ -130,8 +104,9 @@ static bool sign(agent *it, picky_bytes message, bool confirmed, buffer *out, en
         *told = WANTS_YES;
         return put_prompt(of, out);
     }
-    bool made = of != NULL && sign_by(of->key, algorithm, take_string(&asked), &it->signature);
-    return ask_reply(state, message, made ? held(&it->signature) : nothing(), out);
+    if (of == NULL || !sign_by(of->key, algorithm, take_string(&asked), &it->signature))
+        return ask(REPLY, state, message, out);
+    return ask_signed(state, message, held(&it->signature), out);
 }
 
 /* ---- adding */
@@ -155,62 +130,55 @@ static bool read_constraints(picky_bytes behind, int64_t life, int64_t now, iden
 
 /* The key of a message, and what an agent without others would list of it, and keep, which has no secret. */
 static bool read_identity(agent *it, picky_bytes message, identity *new) {
-    if (!ask_public_add(message, &it->bare) || !ask_next(nothing(), held(&it->bare), &new->state) ||
-        !ask_reply(held(&new->state), bytes(list_message, 1), nothing(), &it->reply))
+    if (!ask_add(message, 0, &it->bare) || !ask(NEXT, text(""), held(&it->bare), &new->state) ||
+        !list_of(held(&new->state), &it->reply))
         return false;
     fields row = fields_of(held(&it->reply));
     take(&row, 5);
     picky_bytes blob = take_string(&row), comment = take_string(&row);
-    return !row.cut && put(&new->blob, blob.at, blob.len) && put(&new->comment, comment.at, comment.len) &&
-           read_key(message, &new->key);
+    return !row.cut && put(&new->blob, blob.at, blob.len) && put(&new->comment, comment.at, comment.len) && read_key(message, &new->key);
 }
 
-/* Adds a key, as the library does in its own state. A list that no client could read is refused. */
-static bool add_key(agent *it, picky_bytes message, identity *new, buffer *out) {
-    if (!read_identity(it, message, new) || !ask_reply(held(&it->state), held(&it->bare), nothing(), out))
-        return false;
-    drop(&new->state);
-    if (out->len != 1 || out->at[0] != SUCCESS)
-        return true;
-    if (!ask_next(held(&it->state), held(&it->bare), &it->next) ||
-        !ask_reply(held(&it->next), bytes(list_message, 1), nothing(), &it->reply) ||
-        it->reply.len + rows_len(&it->certificates) > LONGEST)
-        return false;
-    take_next(it);
-    put_identity(&it->keys, new);
-    *new = (identity){0};
-    return true;
-}
-
-static bool add_certificate(agent *it, picky_bytes message, picky_bytes blob, identity *new, buffer *out) {
+/* The certificate of a message, whose key the library reads. */
+static bool read_certificate(agent *it, picky_bytes message, picky_bytes blob, identity *new) {
     buffer plain = {0}, subject = {0};
     bool good = key_of_certificate(message, &plain, &subject) && read_identity(it, held(&plain), new) && new->key != NULL &&
                 same(held(&new->blob), held(&subject));
     drop(&plain);
     drop(&subject);
     swap(&new->plain, &new->blob);
-    const identity *old = find(&it->certificates, blob);
-    size_t row = 8 + blob.len + new->comment.len, gone = old == NULL ? 0 : 8 + old->blob.len + old->comment.len;
-    if (!good || !put(&new->blob, blob.at, blob.len) || (old == NULL && it->certificates.count == MOST) ||
-        (it->listed.len == 0 && !make_list(it)) || it->listed.len - gone + row > LONGEST)
-        return false;
-    put_identity(&it->certificates, new);
-    *new = (identity){0};
-    return put(out, success, 1);
+    return good && put(&new->blob, blob.at, blob.len);
 }
 
-/* 17, and 25 which has constraints behind: in either those are heeded, and the library sees a 17 without them. */
+/* Adds the key that was read, as the library does in its own state. */
+static bool add_key(agent *it, buffer *out) {
+    bool good = ask(REPLY, held(&it->state), held(&it->bare), out) && ask(NEXT, held(&it->state), held(&it->bare), &it->next);
+    if (good && out->at[0] == SUCCESS)
+        swap(&it->state, &it->next);
+    return good;
+}
+
+/* 17, and 25 which has constraints behind: either's are heeded, and the library sees a 17 without. No list gets too long for clients. */
 static bool add(agent *it, unsigned char *message, size_t len, int64_t now, buffer *out) {
     identity new = {0};
     message[0] = ADD;
     size_t end = identity_len(bytes(message, len));
     if (end == 0 || !read_constraints(bytes(message + end, len - end), it->life, now, &new))
         return false;
-    picky_bytes whole = bytes(message, end), certificate = certificate_in(whole);
-    bool done = certificate.len > 0 ? add_certificate(it, whole, certificate, &new, out) : add_key(it, whole, &new, out);
+    picky_bytes whole = bytes(message, end), blob = certificate_in(whole);
+    ring *in = blob.len > 0 ? &it->certificates : &it->keys;
+    bool good = (blob.len > 0 ? read_certificate(it, whole, blob, &new) : read_identity(it, whole, &new)) && make_list(it);
+    const identity *old = find(in, held(&new.blob));
+    good = good && it->listed.len + row_len(&new) - (old == NULL ? 0 : row_len(old)) <= LONGEST;
+    if (blob.len > 0)
+        good = good && (old != NULL || in->count < MOST) && put(out, (const unsigned char[]){SUCCESS}, 1);
+    else
+        good = good && add_key(it, out);
+    if (good && out->at[0] == SUCCESS)
+        put_identity(in, &new);
     drop_identity(&new);
     changed(it);
-    return done;
+    return good;
 }
 
 /* ---- removing */
@@ -219,19 +187,18 @@ static bool add(agent *it, unsigned char *message, size_t len, int64_t now, buff
 static void follow(ring *keys, picky_bytes listed) {
     fields rows = fields_of(listed);
     take(&rows, 5);
-    for (size_t place = 0; place < keys->count;) {
-        fields row = rows;
-        if (same(take_string(&row), held(&keys->at[place].blob)) && !row.cut) {
-            take_string(&row);
-            rows = row;
+    picky_bytes blob = take_string(&rows);
+    for (size_t place = 0; place < keys->count;)
+        if (!rows.cut && same(blob, held(&keys->at[place].blob))) {
+            take_string(&rows);
+            blob = take_string(&rows);
             place++;
         } else {
             remove_at(keys, place);
         }
-    }
 }
 
-/* 18 and 19, as the library answers them, and of a certificate that is kept here. */
+/* 18 and 19, as the library answers them, and of certificates, which are kept here. */
 static bool remove_from(agent *it, picky_bytes message, buffer *out) {
     fields fields = fields_of(message);
     bool all = *(const unsigned char *)take(&fields, 1).at == REMOVE_ALL;
@@ -239,44 +206,41 @@ static bool remove_from(agent *it, picky_bytes message, buffer *out) {
     if (certificate != NULL) {
         remove_at(&it->certificates, (size_t)(certificate - it->certificates.at));
         changed(it);
-        return put(out, success, 1);
+        return put(out, (const unsigned char[]){SUCCESS}, 1);
     }
-    if (!ask_reply(held(&it->state), message, nothing(), out) || !ask_next(held(&it->state), message, &it->next) ||
-        !ask_reply(held(&it->next), bytes(list_message, 1), nothing(), &it->reply))
+    if (!ask(REPLY, held(&it->state), message, out) || !ask(NEXT, held(&it->state), message, &it->next) ||
+        !list_of(held(&it->next), &it->reply))
         return false;
     if (out->at[0] != SUCCESS)
         return true;
-    take_next(it);
+    swap(&it->state, &it->next);
     follow(&it->keys, held(&it->reply));
-    if (all)
-        remove_all(&it->certificates);
+    while (all && it->certificates.count > 0)
+        remove_at(&it->certificates, it->certificates.count - 1);
     changed(it);
     return true;
 }
 
-enum { LOCKING = 69 };
-
-/* The 22 or 23 with the kept hash. */
-static picky_bytes locking(const agent *it, unsigned char kind, unsigned char message[LOCKING]) {
+/* The 22 or 23 that has a hash in place of its passphrase. */
+static picky_bytes locking(unsigned char kind, const unsigned char hash[LOCKING - 5], unsigned char message[LOCKING]) {
     message[0] = kind;
-    write_number(message + 1, sizeof it->hash);
-    memcpy(message + 5, it->hash, sizeof it->hash);
+    write_number(message + 1, LOCKING - 5);
+    memcpy(message + 5, hash, LOCKING - 5);
     return bytes(message, LOCKING);
 }
 
 /* Removes a key whose time is over: the library does that unlocked, so it is unlocked and locked for it. */
 static bool remove_key(agent *it, size_t place) {
-    unsigned char message[LOCKING], kind = REMOVE;
+    unsigned char message[LOCKING];
     it->bare.len = 0;
-    bool good = put(&it->bare, &kind, 1) && put_string(&it->bare, held(&it->keys.at[place].blob));
-    if (it->locked)
-        good = good && ask_next(held(&it->state), locking(it, UNLOCK, message), &it->reply) &&
-               ask_next(held(&it->reply), held(&it->bare), &it->question) &&
-               ask_next(held(&it->question), locking(it, LOCK, message), &it->next);
-    else
-        good = good && ask_next(held(&it->state), held(&it->bare), &it->next);
+    if (!put(&it->bare, (const unsigned char[]){REMOVE}, 1) || !put_string(&it->bare, held(&it->keys.at[place].blob)))
+        return false;
+    bool good = it->locked ? ask(NEXT, held(&it->state), locking(UNLOCK, it->hash, message), &it->reply) &&
+                                 ask(NEXT, held(&it->reply), held(&it->bare), &it->question) &&
+                                 ask(NEXT, held(&it->question), locking(LOCK, it->hash, message), &it->next)
+                           : ask(NEXT, held(&it->state), held(&it->bare), &it->next);
     if (good) {
-        take_next(it);
+        swap(&it->state, &it->next);
         remove_at(&it->keys, place);
     }
     return good;
@@ -289,15 +253,9 @@ void remove_ended(agent *it, int64_t now) {
     for (size_t i = it->certificates.count; i-- > 0;)
         if (it->certificates.at[i].ends != 0 && it->certificates.at[i].ends <= now)
             remove_at(&it->certificates, i);
-    for (size_t i = it->keys.count; i-- > 0;) {
-        identity *key = &it->keys.at[i];
-        if (key->ends != 0 && key->ends <= now && !remove_key(it, i)) {
-            /* Memory ran out: it signs no more, and is removed later. */
-            EVP_PKEY_free(key->key);
-            key->key = NULL;
-            key->ends = now + SECOND;
-        }
-    }
+    for (size_t i = it->keys.count; i-- > 0;)
+        if (it->keys.at[i].ends != 0 && it->keys.at[i].ends <= now && !remove_key(it, i))
+            abort(); /* Memory ran out: rather no agent than one with this key. */
     changed(it);
 }
 
@@ -305,31 +263,27 @@ void remove_ended(agent *it, int64_t now) {
 
 /* 22 and 23: in place of the passphrase the library has its salted hash. A wrong one puts off when the next is heard. */
 static bool turn_lock(agent *it, picky_bytes message, int64_t now, buffer *out) {
-    unsigned char hashed[LOCKING], kept[sizeof it->hash], kind = *(const unsigned char *)message.at;
+    unsigned char hashed[LOCKING], hash[LOCKING - 5], kind = *(const unsigned char *)message.at;
     fields fields = fields_of(message);
     take(&fields, 1);
     picky_bytes passphrase = take_string(&fields);
     if (fields.cut || it->locked == (kind == LOCK))
-        return ask_reply(held(&it->state), bytes(message.at, 1), nothing(), out);
-    memcpy(kept, it->hash, sizeof kept);
-    if (PKCS5_PBKDF2_HMAC(passphrase.at, (int)passphrase.len, it->salt, sizeof it->salt, ROUNDS, EVP_sha512(), sizeof it->hash,
-                          it->hash) != 1)
+        return ask(REPLY, held(&it->state), bytes(message.at, 1), out);
+    if (PKCS5_PBKDF2_HMAC(passphrase.at, (int)passphrase.len, it->salt, sizeof it->salt, ROUNDS, EVP_sha512(), sizeof hash, hash) != 1)
         return false;
-    picky_bytes told = locking(it, kind, hashed);
-    bool good = ask_reply(held(&it->state), told, nothing(), out) && ask_next(held(&it->state), told, &it->next);
-    if (good && out->at[0] == SUCCESS) {
-        take_next(it);
+    picky_bytes told = locking(kind, hash, hashed);
+    if (!ask(REPLY, held(&it->state), told, out) || !ask(NEXT, held(&it->state), told, &it->next))
+        return false;
+    if (out->at[0] == SUCCESS) {
+        swap(&it->state, &it->next);
         it->locked = kind == LOCK;
+        memcpy(it->hash, hash, sizeof hash);
         it->wrong_count = 0;
-    } else {
-        memcpy(it->hash, kept, sizeof kept);
-    }
-    if (good && out->at[0] != SUCCESS) {
-        it->wrong_count += it->wrong_count < LONGEST_WAIT / WAIT_STEP;
+    } else if (kind == UNLOCK) {
+        it->wrong_count += it->wrong_count < MOST_WRONG;
         it->unlocks_from = now + (int64_t)it->wrong_count * WAIT_STEP;
     }
-    explicit_bzero(hashed, sizeof hashed);
-    return good;
+    return true;
 }
 
 /* ---- a message */
@@ -337,7 +291,7 @@ static bool turn_lock(agent *it, picky_bytes message, int64_t now, buffer *out) 
 static bool answered(agent *it, unsigned char *message, size_t len, bool confirmed, int64_t now, buffer *out, enum answer *told) {
     switch (message[0]) {
     case LIST:
-        return list(it, out);
+        return it->locked ? list_of(held(&it->state), out) : make_list(it) && put(out, it->listed.at, it->listed.len);
     case SIGN:
         return sign(it, bytes(message, len), confirmed, out, told);
     case REMOVE_ALL_OF_1:
@@ -353,23 +307,18 @@ static bool answered(agent *it, unsigned char *message, size_t len, bool confirm
     case ADD_CONSTRAINED:
         if (!it->locked)
             return add(it, message, len, now, out);
-        break;
-    default:
-        break;
     }
     /* Of what fails the library sees the type alone, since the rest may be secret. */
-    return ask_reply(held(&it->state), bytes(message, 1), nothing(), out);
+    return ask(REPLY, held(&it->state), bytes(message, 1), out);
 }
 
-/* The reply to a message; or what the user has to be asked before there is one. */
+/* The reply to a message, of no bytes where memory ran out for it; or what the user has to be asked before there is one. */
 enum answer answer(agent *it, unsigned char *message, size_t len, bool confirmed, int64_t now, buffer *out) {
     enum answer told = ANSWERED;
     out->len = 0;
-    if (!answered(it, message, len, confirmed, now, out, &told)) {
-        told = ANSWERED;
-        out->len = 0;
-        /* Where memory ran out no reply stands here, and the client's connection ends. */
-        put(out, failure, 1);
-    }
-    return told;
+    if (answered(it, message, len, confirmed, now, out, &told))
+        return told;
+    out->len = 0;
+    (void)put(out, (const unsigned char[]){FAILURE}, 1);
+    return ANSWERED;
 }

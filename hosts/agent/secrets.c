@@ -15,12 +15,9 @@ enum { N, E, D, IQMP, P, Q, DMP1, DMQ1, NUMBERS };
 enum { FEWEST_BITS = 1024, MOST_BITS = 16384 };
 
 static BIGNUM *read_number(picky_bytes message, uint32_t part, buffer *scratch) {
-    if (!ask_secret(message, part, scratch) || scratch->len == 0 || scratch->len > MOST_BITS / 8)
+    if (!ask_add(message, part, scratch) || scratch->len == 0 || scratch->len > MOST_BITS / 8)
         return NULL;
-    BIGNUM *number = BN_bin2bn(scratch->at, (int)scratch->len, NULL);
-    if (number != NULL)
-        BN_set_flags(number, BN_FLG_CONSTTIME);
-    return number;
+    return BN_bin2bn(scratch->at, (int)scratch->len, NULL);
 }
 
 static EVP_PKEY *make_key(const char *kind, OSSL_PARAM_BLD *parts) {
@@ -39,49 +36,36 @@ static EVP_PKEY *make_key(const char *kind, OSSL_PARAM_BLD *parts) {
 static BIGNUM *exponent_of(const BIGNUM *d, const BIGNUM *prime) {
     BN_CTX *context = BN_CTX_new();
     BIGNUM *made = BN_new(), *less = BN_dup(prime);
-    bool good = context != NULL && made != NULL && less != NULL && BN_sub_word(less, 1) == 1;
-    if (good)
-        BN_set_flags(less, BN_FLG_CONSTTIME);
-    if (!good || BN_mod(made, d, less, context) != 1) {
-        BN_clear_free(made);
-        made = NULL;
-    }
+    bool good = context != NULL && made != NULL && less != NULL && BN_sub_word(less, 1) == 1 && BN_mod(made, d, less, context) == 1;
     BN_clear_free(less);
     BN_CTX_free(context);
-    return made;
+    if (good)
+        return made;
+    BN_clear_free(made);
+    return NULL;
 }
 
-/* The key of eight numbers, if it signs: nobody judges primes, and a secret that isn't the public key's shows here. */
-static EVP_PKEY *make_rsa(BIGNUM *const numbers[NUMBERS]) {
+/* The key, if it signs: nobody judges primes, and a secret that isn't the public key's shows so. */
+static EVP_PKEY *read_rsa(picky_bytes message, buffer *scratch) {
     static const char *const names[NUMBERS] = {
         OSSL_PKEY_PARAM_RSA_N,       OSSL_PKEY_PARAM_RSA_E,       OSSL_PKEY_PARAM_RSA_D,         OSSL_PKEY_PARAM_RSA_COEFFICIENT1,
         OSSL_PKEY_PARAM_RSA_FACTOR1, OSSL_PKEY_PARAM_RSA_FACTOR2, OSSL_PKEY_PARAM_RSA_EXPONENT1, OSSL_PKEY_PARAM_RSA_EXPONENT2};
+    BIGNUM *numbers[NUMBERS] = {NULL};
     OSSL_PARAM_BLD *parts = OSSL_PARAM_BLD_new();
-    bool good = parts != NULL && BN_num_bits(numbers[N]) >= FEWEST_BITS;
-    for (int i = 0; i < NUMBERS && good; i++)
-        good = OSSL_PARAM_BLD_push_BN(parts, names[i], numbers[i]) == 1;
-    EVP_PKEY *key = good ? make_key("RSA", parts) : NULL;
-    buffer signature = {0};
-    if (key != NULL && !sign_by(key, text("rsa-sha2-256"), text("once"), &signature)) {
+    bool good = parts != NULL;
+    for (int i = N; i < NUMBERS && good; i++) {
+        numbers[i] = i <= Q ? read_number(message, PICKY_AGENT_SECRET_RSA_N + (uint32_t)i, scratch)
+                            : exponent_of(numbers[D], numbers[i == DMP1 ? P : Q]);
+        good = numbers[i] != NULL && OSSL_PARAM_BLD_push_BN(parts, names[i], numbers[i]) == 1;
+    }
+    EVP_PKEY *key = good && BN_num_bits(numbers[N]) >= FEWEST_BITS ? make_key("RSA", parts) : NULL;
+    if (key != NULL && !sign_by(key, text("rsa-sha2-256"), text("once"), scratch)) {
         EVP_PKEY_free(key);
         key = NULL;
     }
-    drop(&signature);
-    OSSL_PARAM_BLD_free(parts);
-    return key;
-}
-
-static EVP_PKEY *read_rsa(picky_bytes message, buffer *scratch) {
-    BIGNUM *numbers[NUMBERS] = {NULL};
-    EVP_PKEY *key = NULL;
-    bool good = true;
-    for (int i = N; i <= Q && good; i++)
-        good = (numbers[i] = read_number(message, PICKY_AGENT_SECRET_RSA_N + (uint32_t)i, scratch)) != NULL;
-    if (good && (numbers[DMP1] = exponent_of(numbers[D], numbers[P])) != NULL &&
-        (numbers[DMQ1] = exponent_of(numbers[D], numbers[Q])) != NULL)
-        key = make_rsa(numbers);
     for (int i = 0; i < NUMBERS; i++)
         BN_clear_free(numbers[i]);
+    OSSL_PARAM_BLD_free(parts);
     return key;
 }
 
@@ -89,7 +73,7 @@ static EVP_PKEY *read_rsa(picky_bytes message, buffer *scratch) {
 static EVP_PKEY *read_ecdsa(picky_bytes message, const char *curve, buffer *scratch) {
     BIGNUM *secret = read_number(message, PICKY_AGENT_SECRET_EC_SECRET, scratch);
     OSSL_PARAM_BLD *parts = OSSL_PARAM_BLD_new();
-    bool good = secret != NULL && parts != NULL && ask_secret(message, PICKY_AGENT_SECRET_EC_POINT, scratch) &&
+    bool good = secret != NULL && parts != NULL && ask_add(message, PICKY_AGENT_SECRET_EC_POINT, scratch) &&
                 scratch->len > 0 && scratch->at[0] == POINT_CONVERSION_UNCOMPRESSED &&
                 OSSL_PARAM_BLD_push_utf8_string(parts, OSSL_PKEY_PARAM_GROUP_NAME, curve, 0) == 1 &&
                 OSSL_PARAM_BLD_push_octet_string(parts, OSSL_PKEY_PARAM_PUB_KEY, scratch->at, scratch->len) == 1 &&
@@ -110,7 +94,7 @@ static EVP_PKEY *read_ecdsa(picky_bytes message, const char *curve, buffer *scra
 static EVP_PKEY *read_ed25519(picky_bytes message, buffer *scratch) {
     unsigned char public[32];
     size_t len = sizeof public;
-    if (!ask_secret(message, PICKY_AGENT_SECRET_ED_SECRET, scratch) || scratch->len != 2 * sizeof public)
+    if (!ask_add(message, PICKY_AGENT_SECRET_ED_SECRET, scratch) || scratch->len != 2 * sizeof public)
         return NULL;
     EVP_PKEY *key = EVP_PKEY_new_raw_private_key(EVP_PKEY_ED25519, NULL, scratch->at, sizeof public);
     if (key != NULL && (EVP_PKEY_get_raw_public_key(key, public, &len) != 1 ||
@@ -127,7 +111,7 @@ bool read_key(picky_bytes message, EVP_PKEY **key) {
         {"ecdsa-sha2-nistp256", "P-256"}, {"ecdsa-sha2-nistp384", "P-384"}, {"ecdsa-sha2-nistp521", "P-521"}};
     buffer type = {0}, scratch = {0};
     *key = NULL;
-    bool found = ask_secret(message, PICKY_AGENT_SECRET_KEY_TYPE, &type), signs = !found || memcmp(type.at, "sk-", 3) != 0;
+    bool found = ask_add(message, PICKY_AGENT_SECRET_KEY_TYPE, &type), signs = !found || memcmp(type.at, "sk-", 3) != 0;
     if (found && same(held(&type), text("ssh-rsa")))
         *key = read_rsa(message, &scratch);
     if (found && same(held(&type), text("ssh-ed25519")))
@@ -159,7 +143,7 @@ identity *find(ring *in, picky_bytes blob) {
     return NULL;
 }
 
-/* Puts an identity in the place of that which has its blob, or last, where there is room; the ring has it then. */
+/* Moves an identity to the place of that which has its blob, or behind all, where there is room. */
 void put_identity(ring *in, identity *it) {
     identity *old = find(in, held(&it->blob));
     if (old != NULL)
@@ -167,6 +151,7 @@ void put_identity(ring *in, identity *it) {
     else
         old = &in->at[in->count++];
     *old = *it;
+    *it = (identity){0};
 }
 
 void remove_at(ring *in, size_t place) {
@@ -174,9 +159,4 @@ void remove_at(ring *in, size_t place) {
     in->count--;
     memmove(&in->at[place], &in->at[place + 1], (in->count - place) * sizeof in->at[0]);
     in->at[in->count] = (identity){0};
-}
-
-void remove_all(ring *in) {
-    while (in->count > 0)
-        drop_identity(&in->at[--in->count]);
 }

@@ -33,15 +33,11 @@ static bool sign(EVP_PKEY *key, const char *digest, picky_bytes message, buffer 
     return good;
 }
 
-/* A number as an mpint: a zero byte before it where its first bit is set. */
+/* A number of a curve's as an mpint: with a zero byte before it where its first bit is set. */
 static bool put_mpint(buffer *it, const BIGNUM *number) {
-    size_t len = (size_t)BN_num_bytes(number), zero = BN_num_bits(number) % 8 == 0 && len > 0;
-    if (!put_number(it, zero + len) || !grow(it, it->len + zero + len))
-        return false;
-    it->at[it->len] = 0;
-    it->len += zero;
-    it->len += (size_t)BN_bn2bin(number, it->at + it->len);
-    return true;
+    unsigned char digits[1 + 66] = {0};
+    size_t len = (size_t)BN_bn2bin(number, digits + 1), zero = digits[1] >> 7;
+    return put_string(it, bytes(digits + 1 - zero, zero + len));
 }
 
 /* The two numbers of ECDSA as mpints (RFC 5656, section 3.1.2), in place of DER. */
