@@ -1,9 +1,6 @@
 /* Bytes that grow, fields (RFC 4251, section 5), and the library's calls into such bytes. */
 #include "host.h"
 
-#include <stdlib.h>
-#include <string.h>
-
 picky_bytes bytes(const void *at, size_t len) {
     return (picky_bytes){len == 0 ? "" : at, len};
 }
@@ -97,34 +94,29 @@ picky_bytes take_string(fields *it) {
 
 /* ---- the library's calls: each hands out bytes, for which there may be too little room at first */
 
-static picky_answer called(enum call call, picky_bytes state, picky_bytes message, picky_bytes signature, uint32_t part, buffer *out) {
+static picky_answer called(uint32_t call, picky_bytes state, picky_bytes message, picky_bytes signature, buffer *out) {
     if (!grow(out, 256))
         return (picky_answer){PICKY_NO_MEMORY, 0};
     return call == QUESTION     ? picky_agent_question(state, message, out->at, out->room)
            : call == REPLY      ? picky_agent_reply(state, message, signature, out->at, out->room)
            : call == NEXT       ? picky_agent_next(state, message, out->at, out->room)
            : call == PUBLIC_ADD ? picky_agent_public_add(message, out->at, out->room)
-                                : picky_agent_secret(message, part, out->at, out->room);
+                                : picky_agent_secret(message, call - SECRET, out->at, out->room);
 }
 
-static bool ask_all(enum call call, picky_bytes state, picky_bytes message, picky_bytes signature, uint32_t part, buffer *out) {
-    picky_answer told = called(call, state, message, signature, part, out);
+static bool ask_any(uint32_t call, picky_bytes state, picky_bytes message, picky_bytes signature, buffer *out) {
+    picky_answer told = called(call, state, message, signature, out);
     if (told.error == PICKY_BUFFER_TOO_SMALL && grow(out, told.len + 1))
-        told = called(call, state, message, signature, part, out);
+        told = called(call, state, message, signature, out);
     out->len = told.error == PICKY_OK ? told.len : 0;
     return told.error == PICKY_OK;
 }
 
-/* A question, a reply without a signature, or the next state. */
-bool ask(enum call call, picky_bytes state, picky_bytes message, buffer *out) {
-    return ask_all(call, state, message, text(""), 0, out);
+/* Any call, without a signature; of SECRET the part is added. Of messages that add, the state isn't heeded. */
+bool ask(uint32_t call, picky_bytes state, picky_bytes message, buffer *out) {
+    return ask_any(call, state, message, text(""), out);
 }
 
 bool ask_signed(picky_bytes state, picky_bytes message, picky_bytes signature, buffer *out) {
-    return ask_all(REPLY, state, message, signature, 0, out);
-}
-
-/* A part of what a message adds, or without one the message without secrets. */
-bool ask_add(picky_bytes message, uint32_t part, buffer *out) {
-    return ask_all(part == 0 ? PUBLIC_ADD : SECRET, text(""), message, text(""), part, out);
+    return ask_any(REPLY, state, message, signature, out);
 }

@@ -4,15 +4,10 @@
  */
 #include "host.h"
 
-#include <errno.h>
 #include <poll.h>
 #include <signal.h>
-#include <stdlib.h>
-#include <string.h>
 #include <sys/signalfd.h>
-#include <sys/socket.h>
 #include <time.h>
-#include <unistd.h>
 
 enum { SIGNALS, HELPER, PARENT, LISTENER, OTHERS };
 enum { MOST_CLIENTS = 2048, RESERVED = 32, PIECE = 1024, LONGEST_SLEEP = 10000 };

@@ -6,12 +6,10 @@
 #include <linux/seccomp.h>
 #include <malloc.h>
 #include <stddef.h>
-#include <string.h>
 #include <sys/mman.h>
 #include <sys/prctl.h>
 #include <sys/resource.h>
 #include <sys/syscall.h>
-#include <unistd.h>
 
 enum { DEEP = 131072 };
 

@@ -4,16 +4,11 @@
  */
 #include "host.h"
 
-#include <errno.h>
 #include <fcntl.h>
 #include <poll.h>
 #include <signal.h>
-#include <stdlib.h>
-#include <string.h>
 #include <strings.h>
-#include <sys/socket.h>
 #include <sys/wait.h>
-#include <unistd.h>
 
 /* Becomes the program that asks. */
 static void ask_by(int written, const char *prompt) {

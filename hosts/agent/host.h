@@ -2,10 +2,16 @@
 #pragma once
 
 #include <picky/agent.h>
+#include <errno.h>
 #include <limits.h>
 #include <openssl/evp.h>
 #include <stdbool.h>
 #include <stdint.h>
+#include <stdio.h>
+#include <stdlib.h>
+#include <string.h>
+#include <sys/socket.h>
+#include <unistd.h>
 
 enum { LONGEST = 262144, MOST = 1024 };
 
@@ -41,11 +47,10 @@ picky_bytes take(fields *it, size_t len);
 uint32_t take_number(fields *it);
 picky_bytes take_string(fields *it);
 
-enum call { QUESTION, REPLY, NEXT, PUBLIC_ADD, SECRET };
+enum { QUESTION, REPLY, NEXT, PUBLIC_ADD, SECRET };
 
-bool ask(enum call call, picky_bytes state, picky_bytes message, buffer *out);
+bool ask(uint32_t call, picky_bytes state, picky_bytes message, buffer *out);
 bool ask_signed(picky_bytes state, picky_bytes message, picky_bytes signature, buffer *out);
-bool ask_add(picky_bytes message, uint32_t part, buffer *out);
 
 /* ---- secrets.c: the keys, which are OpenSSL's */
 /* A key of the agent, or a certificate for one. */

@@ -2,15 +2,10 @@
 #include "host.h"
 
 #include <ctype.h>
-#include <errno.h>
 #include <fcntl.h>
 #include <openssl/crypto.h>
 #include <signal.h>
-#include <stdio.h>
-#include <stdlib.h>
-#include <string.h>
 #include <sys/syscall.h>
-#include <unistd.h>
 
 static const char usage[] = "usage: picky-agent [-c | -s] [-a SOCKET] [-t LIFE] [-D | COMMAND [WORD ..]]\n"
                             "       picky-agent [-c | -s] -k\n"
@@ -24,11 +19,6 @@ typedef struct options {
 } options;
 
 /* OpenSSL's memory is wiped too: the linker has realloc and free wipe. */
-static void *allocate(size_t size, const char *file, int line) {
-    (void)file, (void)line;
-    return size == 0 ? NULL : malloc(size);
-}
-
 static void *reallocate(void *block, size_t size, const char *file, int line) {
     (void)file, (void)line;
     return realloc(block, size);
@@ -157,7 +147,7 @@ int main(int count, char **words) {
     }
     if (told.ends)
         return end_other(&told);
-    agent *it = CRYPTO_set_mem_functions(allocate, reallocate, release) == 1 ? calloc(1, sizeof *it) : NULL;
+    agent *it = CRYPTO_set_mem_functions(NULL, reallocate, release) == 1 ? calloc(1, sizeof *it) : NULL;
     if (it == NULL || !start_agent(it, told.life)) {
         fputs("picky-agent: libcrypto doesn't sign here\n", stderr);
         return 1;

@@ -5,9 +5,6 @@
 #include "host.h"
 
 #include <openssl/rand.h>
-#include <stdio.h>
-#include <stdlib.h>
-#include <string.h>
 
 enum { ROUNDS = 10000, LIFETIME = 1, CONFIRM = 2, SECOND = 1000, WAIT_STEP = 100, MOST_WRONG = 100 };
 enum { SHOWN = 200, DIGEST = 32, LOCKING = 69 };
@@ -130,7 +127,7 @@ static bool read_constraints(picky_bytes behind, int64_t life, int64_t now, iden
 
 /* The key of a message, and what an agent without others would list of it, and keep, which has no secret. */
 static bool read_identity(agent *it, picky_bytes message, identity *new) {
-    if (!ask_add(message, 0, &it->bare) || !ask(NEXT, text(""), held(&it->bare), &new->state) ||
+    if (!ask(PUBLIC_ADD, text(""), message, &it->bare) || !ask(NEXT, text(""), held(&it->bare), &new->state) ||
         !list_of(held(&new->state), &it->reply))
         return false;
     fields row = fields_of(held(&it->reply));

@@ -6,7 +6,6 @@
 #include <openssl/ec.h>
 #include <openssl/err.h>
 #include <openssl/param_build.h>
-#include <string.h>
 
 /* RSA's numbers: those of a message in its order, and the two exponents that are made of them. */
 enum { N, E, D, IQMP, P, Q, DMP1, DMQ1, NUMBERS };
@@ -15,7 +14,7 @@ enum { N, E, D, IQMP, P, Q, DMP1, DMQ1, NUMBERS };
 enum { FEWEST_BITS = 1024, MOST_BITS = 16384 };
 
 static BIGNUM *read_number(picky_bytes message, uint32_t part, buffer *scratch) {
-    if (!ask_add(message, part, scratch) || scratch->len == 0 || scratch->len > MOST_BITS / 8)
+    if (!ask(SECRET + part, text(""), message, scratch) || scratch->len == 0 || scratch->len > MOST_BITS / 8)
         return NULL;
     return BN_bin2bn(scratch->at, (int)scratch->len, NULL);
 }
@@ -73,7 +72,7 @@ static EVP_PKEY *read_rsa(picky_bytes message, buffer *scratch) {
 static EVP_PKEY *read_ecdsa(picky_bytes message, const char *curve, buffer *scratch) {
     BIGNUM *secret = read_number(message, PICKY_AGENT_SECRET_EC_SECRET, scratch);
     OSSL_PARAM_BLD *parts = OSSL_PARAM_BLD_new();
-    bool good = secret != NULL && parts != NULL && ask_add(message, PICKY_AGENT_SECRET_EC_POINT, scratch) &&
+    bool good = secret != NULL && parts != NULL && ask(SECRET + PICKY_AGENT_SECRET_EC_POINT, text(""), message, scratch) &&
                 scratch->len > 0 && scratch->at[0] == POINT_CONVERSION_UNCOMPRESSED &&
                 OSSL_PARAM_BLD_push_utf8_string(parts, OSSL_PKEY_PARAM_GROUP_NAME, curve, 0) == 1 &&
                 OSSL_PARAM_BLD_push_octet_string(parts, OSSL_PKEY_PARAM_PUB_KEY, scratch->at, scratch->len) == 1 &&
@@ -94,7 +93,7 @@ static EVP_PKEY *read_ecdsa(picky_bytes message, const char *curve, buffer *scra
 static EVP_PKEY *read_ed25519(picky_bytes message, buffer *scratch) {
     unsigned char public[32];
     size_t len = sizeof public;
-    if (!ask_add(message, PICKY_AGENT_SECRET_ED_SECRET, scratch) || scratch->len != 2 * sizeof public)
+    if (!ask(SECRET + PICKY_AGENT_SECRET_ED_SECRET, text(""), message, scratch) || scratch->len != 2 * sizeof public)
         return NULL;
     EVP_PKEY *key = EVP_PKEY_new_raw_private_key(EVP_PKEY_ED25519, NULL, scratch->at, sizeof public);
     if (key != NULL && (EVP_PKEY_get_raw_public_key(key, public, &len) != 1 ||
@@ -111,7 +110,7 @@ bool read_key(picky_bytes message, EVP_PKEY **key) {
         {"ecdsa-sha2-nistp256", "P-256"}, {"ecdsa-sha2-nistp384", "P-384"}, {"ecdsa-sha2-nistp521", "P-521"}};
     buffer type = {0}, scratch = {0};
     *key = NULL;
-    bool found = ask_add(message, PICKY_AGENT_SECRET_KEY_TYPE, &type), signs = !found || memcmp(type.at, "sk-", 3) != 0;
+    bool found = ask(SECRET + PICKY_AGENT_SECRET_KEY_TYPE, text(""), message, &type), signs = !found || memcmp(type.at, "sk-", 3) != 0;
     if (found && same(held(&type), text("ssh-rsa")))
         *key = read_rsa(message, &scratch);
     if (found && same(held(&type), text("ssh-ed25519")))

@@ -4,7 +4,6 @@
 #include <openssl/bn.h>
 #include <openssl/ec.h>
 #include <openssl/err.h>
-#include <string.h>
 
 /* The algorithms of the library's questions: the kind of key, the digest, and whether it is ECDSA, which has two numbers. */
 static const struct {

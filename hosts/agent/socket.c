@@ -1,15 +1,9 @@
 /* The socket at which clients connect, and whose processes are let in. */
 #include "host.h"
 
-#include <errno.h>
 #include <fcntl.h>
-#include <stdio.h>
-#include <stdlib.h>
-#include <string.h>
-#include <sys/socket.h>
 #include <sys/stat.h>
 #include <sys/un.h>
-#include <unistd.h>
 
 enum { BACKLOG = 1024, INHERITED = 3 };
 
