@@ -73,6 +73,22 @@ pub use Rattle.picky_suite.specs.Ranges
 pub use Rattle.picky_suite.specs.Signs
 pub use Rattle.picky_suite.specs.Toy
 pub use Rattle.picky_suite.specs.Zeros as SuiteZeros
+pub use Rattle.picky_ask.specs.Algorithm as AskAlgorithm
+pub use Rattle.picky_ask.specs.AlgorithmNumber
+pub use Rattle.picky_ask.specs.Answered
+pub use Rattle.picky_ask.specs.Cause
+pub use Rattle.picky_ask.specs.Completion
+pub use Rattle.picky_ask.specs.Head
+pub use Rattle.picky_ask.specs.Known as AskKnown
+pub use Rattle.picky_ask.specs.Lookup
+pub use Rattle.picky_ask.specs.Operation
+pub use Rattle.picky_ask.specs.OperationNumber
+pub use Rattle.picky_ask.specs.Question as AskQuestion
+pub use Rattle.picky_ask.specs.Same
+pub use Rattle.picky_ask.specs.Signing as AskSigning
+pub use Rattle.picky_ask.specs.State as AskState
+pub use Rattle.picky_ask.specs.Table as AskTable
+pub use Rattle.picky_ask.specs.Whole
 pub use Rattle.picky_authorized.specs.Entries
 pub use Rattle.picky_authorized.specs.KnownOptions
 pub use Rattle.picky_authorized.specs.Lines as AuthorizedLines
@@ -263,6 +279,10 @@ pub use Rattle.picky_inventory.specs.Merging
 pub use Rattle.picky_inventory.specs.OrderedText
 pub use Rattle.picky_inventory.specs.Parted
 pub use Rattle.picky_inventory.specs.Run as InventoryRun
+pub use Rattle.picky_inventory_texts.specs.Listed as InventoryListed
+pub use Rattle.picky_inventory_texts.specs.Merging as InventoryMerging
+pub use Rattle.picky_inventory_texts.specs.Pieces
+pub use Rattle.picky_inventory_texts.specs.Texts as InventoryTexts
 pub use Rattle.picky_policy.specs.Command as PolicyCommand
 pub use Rattle.picky_policy.specs.Decided
 pub use Rattle.picky_policy.specs.Demands
@@ -271,6 +291,8 @@ pub use Rattle.picky_policy.specs.Printed
 pub use Rattle.picky_policy.specs.Rules
 pub use Rattle.picky_policy.specs.Run as PolicyRun
 pub use Rattle.picky_policy.specs.Verifies
+pub use Rattle.picky_ask_verifier.specs.Question as VerdictQuestion
+pub use Rattle.picky_ask_verifier.specs.Verdicts
 pub use Rattle.picky_agent_state.specs.Failure
 pub use Rattle.picky_agent_state.specs.Held
 pub use Rattle.picky_agent_state.specs.Keep
@@ -303,6 +325,8 @@ pub use Rattle.picky_ledger.specs.Replies
 pub use Rattle.picky_ledger.specs.Run as LedgerRun
 pub use Rattle.picky_ledger.specs.Runs
 pub use Rattle.picky_ledger.specs.State as LedgerState
+pub use Rattle.picky_ledger_by.specs.Applied
+pub use Rattle.picky_ledger_by.specs.Lacked
 pub use Rattle.picky_cert_parts.specs.declared.known_extension.KnownExtension as KnownExtensionType
 pub use Rattle.picky_convert.specs.declared.command.Command as CommandType
 pub use Rattle.picky_issuing.specs.declared.option_word.OptionWord as OptionWordType

@@ -2,5 +2,8 @@
 
 pub use picky_ledger::{Entry, Ledger, LedgerError, LedgerTextError, Reply, laws};
 
+// Requests whose signatures are answers: the questions of all at once.
+pub use picky_ledger_by::{Applied, LedgerByError, apply_requests, laws as by_laws};
+
 // The program.
 pub use picky_ledger::{LedgerStatus, run_ledger};

@@ -5,6 +5,7 @@
 #![tactic(auto)]
 
 pub mod agent;
+pub mod ask;
 pub mod convert;
 pub mod inventory;
 pub mod ledger;

@@ -1,6 +1,6 @@
 -- What the calls answer.
-use Rattle.std.proofs.Common.{◌≡◌, ◌⊎◌, ◌<◌, ◌≤◌, ◌-◌, ◌∙◌, ◌^◌, ◌++◌, ℕ, Bool, true, false, List, [], ◌∷◌, length, min, get_or, inl, inr, refl, ap, subst, arith}
-use Rattle.std.specs.Prelude.{nat_lt, if◌then◌else◌, Ok, Err}
+use Rattle.std.proofs.Common.{◌≡◌, ◌⊎◌, ◌<◌, ◌≤◌, ◌-◌, ◌∙◌, ◌^◌, ◌++◌, ℕ, Bool, true, false, List, [], ◌∷◌, length, min, get_or, inl, inr, refl, sym, ap, subst, arith}
+use Rattle.std.specs.Prelude.{nat_lt, if◌then◌else◌, None, Some, Ok, Err}
 use Rattle.std.proofs.lemmas.Bool.{ltb-true}
 use Rattle.std.proofs.lemmas.Option.{get_or_from_slice_get}
 use Rattle.std.specs.Int.{w32, to_be_bytes}
@@ -24,7 +24,7 @@ use Rattle.picky_agent_state.specs.Kept.{Kept, Machine, machine}
 use Rattle.picky_agent_state.specs.Question.{IsQuestionOn}
 use Rattle.picky_agent_state.specs.Request.{Request, Identities, Sign, Add, Remove, RemoveAll, Lock, Unlock, Unfit}
 use Rattle.picky_agent_state.specs.Step.{Step}
-use Rattle.picky_agent_bytes.specs.Call.{HandedStep, IsAskedOn, handed, question_of}
+use Rattle.picky_agent_bytes.specs.Call.{HandedStep, IsAskedOn, IsReply, handed, question_of}
 use Rattle.picky_agent_bytes.specs.State.{state_of, written}
 
 -- ---- a question
@@ -87,6 +87,23 @@ pub reply_step : (signer : HandedSignerState) (signature : List ℕ) (kept : Kep
 reply_step signer signature kept message reply new is step =
     subst (λ (n : ℕ). Step (SignsAsHanded (handed signature)) (machine kept n) message reply new) (no_faults signature)
     (subst (λ (s : HandedSignerState). Step (SignsAsHanded s) (machine kept (min s.faults (2 ^ 64 - 1))) message reply new) is step)
+
+pub unsigned_reply : (signer : HandedSignerState) (signature : List ℕ) (kept : Kept) (message reply : List ℕ) (new : Machine)
+    → signature ≡ [] → signer ≡ record { signature = None; faults = 0 }
+    → Step (SignsAsHanded signer) (machine kept (min signer.faults (2 ^ 64 - 1))) message reply new
+    → IsReply kept message signature reply
+unsigned_reply signer signature kept message reply new none is step = subst (λ (s : List ℕ). IsReply kept message s reply) (sym none) (record {
+  new = new;
+  step = reply_step signer [] kept message reply new is step;
+  calm = λ some. absurd (omega (arith, some));
+})
+
+pub given_reply : (signature : List ℕ) (kept : Kept) (message reply : List ℕ) (new : Kept) → 0 < length signature
+    → Step (SignsAsHanded (record { signature = Some signature; faults = 0 })) (machine kept 0) message reply (machine new 0)
+    → IsReply kept message signature reply
+given_reply [] kept message reply new some step = absurd (omega (arith, some))
+given_reply (b ∷ bytes) kept message reply new some step =
+    record { new = machine new 0; step = step; calm = λ _. refl }
 
 -- ---- a state that is written
 

@@ -1,14 +1,17 @@
 -- A step by a signature that was handed in.
-use Rattle.std.proofs.Common.{◌≡◌, ◌⊎◌, ◌<◌, ℕ, Bool, true, false, List, [], ◌∷◌, length, MatchBool, inl, inr, refl, subst, arith}
+use Rattle.std.proofs.Common.{◌≡◌, ◌⊎◌, ◌<◌, ◌∙◌, ℕ, Bool, true, false, List, [], ◌∷◌, length, MatchBool, inl, inr, refl, sym, ap, subst, arith}
 use Rattle.std.specs.Prelude.{Option, None, Some}
 use Rattle.picky_suite.specs.Signs.{SignRelation, SignsAsHanded}
 use Rattle.picky_keys.specs.Key.{kind_of, public_key_of}
 use Rattle.picky_agent_state.specs.Kept.{Kept, Machine, is_locked, machine}
-use Rattle.picky_agent_state.specs.Reply.{failure}
+use Rattle.picky_agent_state.specs.declared.question.Question.{Question}
+use Rattle.picky_agent_state.specs.Question.{IsQuestion}
+use Rattle.picky_agent_state.specs.Reply.{failure, fitted, signed_reply}
 use Rattle.picky_agent_state.specs.Request.{Request, Identities, Sign, Add, Remove, RemoveAll, Lock, Unlock, Unfit, SignRequest, request_of}
 use Rattle.picky_agent_state.specs.Rows.{Fails}
 use Rattle.picky_agent_state.specs.Signing.{SigningWay, way_for}
 use Rattle.picky_agent_state.specs.Step.{Asks, AsksNone, AsksWith, CanSign, Step, StepOn, Still}
+use Rattle.picky_agent_state.proofs.FailureLaws.{has_one}
 use Rattle.picky_agent_bytes.specs.Call.{HandedStep, IsGood, handed}
 
 -- the signature that was handed in is some, and that one
@@ -96,3 +99,42 @@ unfolding Step
 no_signature_fails kept asked message reply new is step =
     sign_failed (is_locked kept) kept asked reply new
     (subst (λ (r : Request). StepOn (SignsAsHanded (handed [])) (machine kept 0) r reply new) is step)
+
+-- ---- the signature stands in the reply
+
+asks_signed : (kept : Kept) (signature : List ℕ) (asked : SignRequest) (way : SigningWay) (found : Option SigningWay) (reply : List ℕ)
+    (new : Machine) → found ≡ Some way → new.faults ≡ 0
+    → Asks (SignsAsHanded (handed signature)) (machine kept 0) asked found reply new → reply ≡ fitted (signed_reply way.1 signature)
+asks_signed kept signature asked way (Some w) reply new is calm (inl signed) =
+    let one : w ≡ way = cc is in
+    signed.replies ∙ ap (λ (s : List ℕ). fitted (signed_reply w.1 s)) (sym (handed_is signature signed.signature signed.good).1)
+    ∙ ap (λ (v : SigningWay). fitted (signed_reply v.1 signature)) one
+asks_signed kept signature asked way (Some w) reply new is calm (inr unsigned) = absurd (omega (arith, calm, unsigned.rose))
+asks_signed kept signature asked way None reply new is calm fails = cc is
+
+unlocked_signed : (kept : Kept) (signature : List ℕ) (asked : SignRequest) (question : Question) (reply : List ℕ) (new : Machine)
+    → IsQuestion kept asked question → new.faults ≡ 0
+    → AsksWith (SignsAsHanded (handed signature)) (machine kept 0) asked reply new ⊎ AsksNone (machine kept 0) asked reply new
+    → reply ≡ fitted (signed_reply question.format signature)
+unlocked_signed kept signature asked question reply new is calm (inl asks) =
+    asks_signed kept signature asked (question.algorithm, question.format) (way_for (kind_of asked.key) asked.flags) reply new
+    is.is_way calm asks.asks
+unlocked_signed kept signature asked question reply new is calm (inr none) =
+    absurd (has_one asked.key kept.identities question.place is.is_at none.none)
+
+sign_signed : (b : Bool) (kept : Kept) (signature : List ℕ) (asked : SignRequest) (question : Question) (reply : List ℕ) (new : Machine)
+    → b ≡ false → IsQuestion kept asked question → new.faults ≡ 0
+    → MatchBool b (Still (machine kept 0) Fails reply new)
+    (AsksWith (SignsAsHanded (handed signature)) (machine kept 0) asked reply new ⊎ AsksNone (machine kept 0) asked reply new)
+    → reply ≡ fitted (signed_reply question.format signature)
+sign_signed true kept signature asked question reply new unlocked is calm still = cc unlocked
+sign_signed false kept signature asked question reply new unlocked is calm asks =
+    unlocked_signed kept signature asked question reply new is calm asks
+
+pub signature_is_replied : (kept : Kept) (asked : SignRequest) (question : Question) (message signature reply : List ℕ) (new : Machine)
+    → request_of message ≡ Sign asked → IsQuestion kept asked question → new.faults ≡ 0
+    → HandedStep signature kept message reply new → reply ≡ fitted (signed_reply question.format signature)
+unfolding Step
+signature_is_replied kept asked question message signature reply new request is calm step =
+    sign_signed (is_locked kept) kept signature asked question reply new is.unlocked is calm
+    (subst (λ (r : Request). StepOn (SignsAsHanded (handed signature)) (machine kept 0) r reply new) request step)

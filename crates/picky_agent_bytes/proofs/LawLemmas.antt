@@ -1,5 +1,5 @@
 -- What the laws state.
-use Rattle.std.proofs.Common.{◌≡◌, ◌∙◌, ℕ, List, [], length, refl, sym, ap}
+use Rattle.std.proofs.Common.{◌≡◌, ◌<◌, ◌∙◌, ℕ, List, [], length, refl, sym, ap}
 use Rattle.std.specs.Prelude.{Bool, true, false, nat_lt, bytes_eq, if◌then◌else◌, Ok, Err}
 use Rattle.std.proofs.lemmas.Slice.Eq.{bytes_eq-Decides}
 use Rattle.picky_wire_base.specs.Outcome.{and_then}
@@ -7,14 +7,16 @@ use Rattle.picky_wire_base.specs.carried.Outcome.{and_then_ok}
 use Rattle.picky_suite.specs.Signs.{SignsAsHanded}
 use Rattle.picky_agent_state.specs.Keep.{keep_limit}
 use Rattle.picky_agent_state.specs.Kept.{Kept, new_agent}
-use Rattle.picky_agent_state.specs.Reply.{failure}
+use Rattle.picky_agent_state.specs.declared.question.Question.{Question}
+use Rattle.picky_agent_state.specs.Question.{IsQuestion}
+use Rattle.picky_agent_state.specs.Reply.{failure, fitted, signed_reply}
 use Rattle.picky_agent_state.specs.Request.{Sign, SignRequest, request_of}
 use Rattle.picky_agent_state.specs.Step.{AsksSigner}
 use Rattle.picky_agent_bytes.specs.declared.error.AgentBytesError.TheVariants as errors
 use Rattle.picky_agent_bytes.specs.Call.{IsReply, handed}
 use Rattle.picky_agent_bytes.specs.State.{brought, canonical, state_of, state_read}
 use Rattle.picky_agent_bytes.proofs.AlikeLemmas.{reply_alike}
-use Rattle.picky_agent_bytes.proofs.HandedLemmas.{no_signature_fails}
+use Rattle.picky_agent_bytes.proofs.HandedLemmas.{no_signature_fails, signature_is_replied}
 use Rattle.picky_agent_bytes.proofs.SpelledLemmas.{state_reads_back}
 
 canonical_is : (b : Bool) (bytes : List ℕ) (kept found : Kept) → bytes_eq (state_of found) bytes ≡ b
@@ -42,9 +44,16 @@ pub ruleset state_laws = (state_reads_back, read_is_spelled, none_is_new)
 
 pub failed_reply : (kept : Kept) (asked : SignRequest) (message reply : List ℕ) → request_of message ≡ Sign asked
     → IsReply kept message [] reply → reply ≡ failure
-failed_reply kept asked message reply is (new, step) = no_signature_fails kept asked message reply new is step
+failed_reply kept asked message reply is replies = no_signature_fails kept asked message reply replies.new is replies.step
+
+pub signed_by : (kept : Kept) (asked : SignRequest) (question : Question) (message signature reply : List ℕ)
+    → request_of message ≡ Sign asked → IsQuestion kept asked question → 0 < length signature → IsReply kept message signature reply
+    → reply ≡ fitted (signed_reply question.format signature)
+signed_by kept asked question message signature reply request is some replies =
+    signature_is_replied kept asked question message signature reply replies.new request is (replies.calm some) replies.step
 
 pub unasked_reply : (kept : Kept) (message signature other reply answer : List ℕ) → (AsksSigner kept (request_of message) → ⊥)
     → IsReply kept message signature reply → IsReply kept message other answer → reply ≡ answer
-unasked_reply kept message signature other reply answer never (new, step) (new', step') =
-    reply_alike (SignsAsHanded (handed signature)) (SignsAsHanded (handed other)) kept 0 0 message reply answer new new' never step step'
+unasked_reply kept message signature other reply answer never replies replies' =
+    reply_alike (SignsAsHanded (handed signature)) (SignsAsHanded (handed other)) kept 0 0 message reply answer replies.new replies'.new
+    never replies.step replies'.step

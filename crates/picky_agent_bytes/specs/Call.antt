@@ -47,6 +47,11 @@ if_message message next =
 abbrev pub kept_for : (state message : List ℕ) → Result Kept AgentCallError
 kept_for state message = if_message message (map_err state_refusal (state_read state))
 
+-- the same where a signature is handed in, of fewer than 2^32 bytes
+abbrev pub kept_to_reply : (state message signature : List ℕ) → Result Kept AgentCallError
+kept_to_reply state message signature =
+    if nat_lt (length signature) (2 ^ 32) then kept_for state message else Err errors.SignatureTooLong
+
 -- ---- what has to be signed
 
 -- uint32 place of the identity
@@ -85,9 +90,11 @@ handed (b ∷ bytes) = record { signature = Some (b ∷ bytes); faults = 0 }
 abbrev pub HandedStep : (signature : List ℕ) → (old : Kept) → (message reply : List ℕ) → (new : Machine) → Type 0
 HandedStep signature old message reply new = Step (SignsAsHanded (handed signature)) (machine old 0) message reply new
 
--- the reply is that of such a step
-abbrev pub IsReply : (old : Kept) → (message signature reply : List ℕ) → Type 0
-IsReply old message signature reply = (new : Machine) × HandedStep signature old message reply new
+-- the reply is that of such a step; a signature that was handed in doesn't fail
+pub record IsReply (old : Kept) (message signature reply : List ℕ) : Type 0 where
+  pub new : Machine
+  pub step : HandedStep signature old message reply new
+  pub calm : 0 < length signature → new.faults ≡ 0
 
 -- and this is kept behind one
 abbrev pub IsNext : (old : Kept) → (message : List ℕ) → (new : Kept) → Type 0
@@ -107,7 +114,7 @@ pub record AnswersQuestion (state message bytes : List ℕ) : Type 0 where
 
 pub record AnswersReply (state message signature reply : List ℕ) : Type 0 where
   pub kept : Kept
-  pub holds : kept_for state message ≡ Ok kept
+  pub holds : kept_to_reply state message signature ≡ Ok kept
   pub replies : IsReply kept message signature reply
 
 pub record AnswersNext (state message bytes : List ℕ) : Type 0 where

@@ -8,12 +8,13 @@ ghost use Rattle.picky_wire_base.specs.Gives.{Gives};
 ghost use Rattle.picky_keys.specs.Blob.{blob_of};
 ghost use Rattle.picky_sshkey_blob.specs.Key.{public_part};
 ghost use Rattle.picky_agent_state.specs.Message.{IsMessage};
-ghost use Rattle.picky_agent_bytes.specs.Call.{handed, if_message, kept_for, question_of};
-ghost use Rattle.picky_agent_bytes.specs.Call.{AnswersNext, AnswersQuestion, AnswersReply, IsNextTooLong, IsQuestionTooLong};
+ghost use Rattle.picky_agent_bytes.specs.Call.{if_message, kept_for, kept_to_reply, question_of};
+ghost use Rattle.picky_agent_bytes.specs.Call.{AnswersNext, AnswersQuestion, AnswersReply, IsNextTooLong, IsQuestionTooLong, IsReply};
 
 use crate::algorithm_name::algorithm_name;
 use crate::error::{AgentCallError, state_refusal};
 use crate::read::read_agent;
+use crate::signature::GivenSignature;
 use crate::write::write_agent;
 use picky_agent_state::Agent;
 use picky_cert_parts::SshSignatureFormat;
@@ -75,19 +76,16 @@ pub fn agent_reply(
     signature: &[u8],
 ) -> Result<Vec<u8>, AgentCallError>
     ensures ok { IfOk result (λ reply. AnswersReply state.now message.now signature.now reply.items) }
-    ensures err { IfErr result (λ e. (e ≡ AgentCallError.NoMemory)
-        ⊎ ((e ≡ AgentCallError.SignatureTooLong) × (2 ^ 32 ≤ length signature.now)) ⊎ (kept_for state.now message.now ≡ Err e)) }
+    ensures err { IfErr result (λ e. (e ≡ AgentCallError.NoMemory) ⊎ (kept_to_reply state.now message.now signature.now ≡ Err e)) }
 {
-    let mut signer = match signer_for(alloc, signature) {
-        Ok(signer) => signer,
-        Err(SizeError::TooLong) => return Err(AgentCallError::SignatureTooLong),
-        Err(SizeError::NoMemory) => return Err(AgentCallError::NoMemory),
-    };
+    if signature.len() > MAX_LEN {
+        return Err(AgentCallError::SignatureTooLong);
+    }
     let mut agent = match agent_for(alloc, state, message) {
         Ok(agent) => agent,
         Err(e) => return Err(e),
     };
-    match agent.answer(&mut signer, message) {
+    match replied(&mut agent, message, signature) {
         Ok(reply) => Ok(reply.into_vec()),
         Err(NoMemory) => Err(AgentCallError::NoMemory),
     }
@@ -135,18 +133,15 @@ fn agent_for(alloc: Global, state: &[u8], message: &[u8]) -> Result<Agent, Agent
     }
 }
 
-/// The signer that hands out this signature, or fails where there is none. Refuses, in order: `TooLong`.
-fn signer_for(alloc: Global, signature: &[u8]) -> Result<HandedSigner, SizeError>
-    ensures ok { IfOk result (λ signer. signer ≡ handed signature.now) }
-    ensures too_long { result ≡ Err SizeError.TooLong → 2 ^ 32 ≤ length signature.now }
+/// The agent's reply to the message, with this signature or with none. Refuses: `NoMemory`.
+fn replied(agent: &mut Agent, message: &[u8], signature: &[u8]) -> Result<Bytes, NoMemory>
+    requires { IsMessage message.now }
+    ensures { IfOk result (λ reply. IsReply agent.old message.now signature.now reply) }
 {
     if signature.is_empty() {
-        return Ok(HandedSigner::new(None));
+        return agent.answer(&mut HandedSigner::new(None), message);
     }
-    match Bytes::new(alloc, signature) {
-        Ok(bytes) => Ok(HandedSigner::new(Some(bytes))),
-        Err(e) => Err(e),
-    }
+    agent.answer(&mut GivenSignature { signature }, message)
 }
 
 /// The question's bytes, of an identity's key. Refuses, in order: `TooLong`, where the public key's blob or the message has 2^32

@@ -1,9 +1,11 @@
 //! The laws of this crate, each as the contract of a function that does nothing.
 
-ghost use Rattle.std.specs.Prelude.{◌≡◌, ◌≤◌, [], ℕ, List, Ok, length};
+ghost use Rattle.std.specs.Prelude.{◌≡◌, ◌≤◌, ◌<◌, [], ℕ, List, Ok, length};
 ghost use Rattle.picky_agent_state.specs.Keep.{keep_limit};
 ghost use Rattle.picky_agent_state.specs.Kept.{Kept, Machine, machine, new_agent};
-ghost use Rattle.picky_agent_state.specs.Reply.{failure};
+ghost use Rattle.picky_agent_state.specs.declared.question.Question.{Question};
+ghost use Rattle.picky_agent_state.specs.Question.{IsQuestion};
+ghost use Rattle.picky_agent_state.specs.Reply.{failure, fitted, signed_reply};
 ghost use Rattle.picky_agent_state.specs.Request.{Sign, SignRequest, request_of};
 ghost use Rattle.picky_agent_state.specs.Step.{AsksSigner, Step};
 ghost use Rattle.picky_agent_bytes.specs.Bare.{bare_kept, bare_request};
@@ -44,11 +46,14 @@ pub fn secrets_decide_no_reply<G: Signer>()
         (machine (bare_kept new.kept) new.faults) }
 {}
 
-/// Without a signature what asks for one has the failure as its reply; and a message that asks for none has one reply,
-/// whichever signature is handed in.
+/// Without a signature what asks for one has the failure as its reply, and with one a reply with that; and a message that asks
+/// for none has one reply, whichever signature is handed in.
 pub fn a_signature_is_for_a_question()
     ensures failed { (kept : Kept) (asked : SignRequest) (message reply : List ℕ) → request_of message ≡ Sign asked
         → IsReply kept message [] reply → reply ≡ failure }
+    ensures signed { (kept : Kept) (asked : SignRequest) (question : Question) (message signature reply : List ℕ)
+        → request_of message ≡ Sign asked → IsQuestion kept asked question → 0 < length signature
+        → IsReply kept message signature reply → reply ≡ fitted (signed_reply question.format signature) }
     ensures unasked { (kept : Kept) (message signature other reply answer : List ℕ)
         → (AsksSigner kept (request_of message) → ⊥) → IsReply kept message signature reply → IsReply kept message other answer
         → reply ≡ answer }

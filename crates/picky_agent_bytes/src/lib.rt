@@ -11,6 +11,7 @@ mod error;
 pub mod laws;
 mod read;
 mod secret;
+mod signature;
 mod write;
 
 pub use add::agent_public_add;

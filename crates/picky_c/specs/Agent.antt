@@ -1,11 +1,11 @@
 -- An agent whose state is bytes.
-use Rattle.std.specs.Prelude.{◌≡◌, ◌==◌, ◌≤◌, ◌^◌, ◌⊎◌, List, ℕ, Option, None, Some, Result, Err, IfOk, IfErr, length}
+use Rattle.std.specs.Prelude.{◌≡◌, ◌==◌, ◌⊎◌, List, ℕ, Option, None, Some, Result, Err, IfOk, IfErr}
 use Rattle.std.specs.Prelude.{if◌then◌else◌}
 use Rattle.std.specs.Option.{ok_or}
 use Rattle.picky_wire_base.specs.Outcome.{and_then, map_err}
 use Rattle.picky_agent_state.specs.Request.{request_of}
 use Rattle.picky_agent_bytes.specs.Bare.{bare_request, public_add}
-use Rattle.picky_agent_bytes.specs.Call.{AnswersNext, AnswersQuestion, AnswersReply, IsNextTooLong, IsQuestionTooLong, kept_for}
+use Rattle.picky_agent_bytes.specs.Call.{AnswersNext, AnswersQuestion, AnswersReply, IsNextTooLong, IsQuestionTooLong, kept_for, kept_to_reply}
 use Rattle.picky_agent_bytes.specs.Secret.{secret_part}
 use Rattle.picky_agent_bytes.specs.declared.error.AgentCallError.{AgentCallError}
 use Rattle.picky_agent_bytes.specs.declared.error.AgentCallError.TheVariants as agents
@@ -42,15 +42,14 @@ pub record AnswersAgent (IsAnswer : List ℕ → Type 0) (IsCause : AgentCallErr
   pub ok : IfOk outcome IsAnswer
   pub err : IfErr outcome IsCause
 
--- why there is no question, no reply, and no next state: want of memory; this call's own reason; or no agent is in this state, or
--- the message is none
+-- why there is no question, no reply, and no next state: want of memory; this call's own reason, which of a reply comes first; or no
+-- agent is in this state, or the message is none
 abbrev pub IsQuestionCause : (state message : List ℕ) → AgentCallError → Type 0
 IsQuestionCause state message e =
     (e ≡ agents.NoMemory) ⊎ ((e ≡ agents.TooLong) × IsQuestionTooLong state message) ⊎ (kept_for state message ≡ Err e)
 
 abbrev pub IsReplyCause : (state message signature : List ℕ) → AgentCallError → Type 0
-IsReplyCause state message signature e =
-    (e ≡ agents.NoMemory) ⊎ ((e ≡ agents.SignatureTooLong) × (2 ^ 32 ≤ length signature)) ⊎ (kept_for state message ≡ Err e)
+IsReplyCause state message signature e = (e ≡ agents.NoMemory) ⊎ (kept_to_reply state message signature ≡ Err e)
 
 abbrev pub IsNextCause : (state message : List ℕ) → AgentCallError → Type 0
 IsNextCause state message e =

@@ -46,7 +46,6 @@ pub fn refusals_are_answered()
 {}
 
 /// What is refused of a certificate that is asked for is answered as a refusal, too, whether its signed bytes are asked for or its line.
-#[tactic(auto, using(crate::proofs::CertifyLemmas::draft_answered, crate::proofs::CertifyLemmas::line_answered))]
 pub fn refusals_of_certificates_are_answered()
     ensures draft { (g : Texts) (e : Refusal) → draft_in g ≡ Err (certify.Refused e) → IsAnswered e }
     ensures line { (g : Texts) (answers : List ℕ) (e : Refusal) → certified_in g answers ≡ Err (certify.Refused e) → IsAnswered e }

@@ -1,3 +1,6 @@
+mod EnteredLemmas
 mod IssuedLemmas
+mod LoginLemmas
 mod PuttyFileLemmas
+mod SignedReplyLemmas
 mod UnaskedLemmas

@@ -2,13 +2,16 @@
 
 use crate::{
     QuotaSigner, RoundLimit, allows_login, fingerprint_of_line, host_certificate, key_under_limit,
-    putty_file_of, putty_text,
+    ledger_after, login_decision, putty_file_of, putty_text, reply_with_leave,
 };
+use picky::agent::Agent;
+use picky::ledger::Reply;
+use picky::policy::{Decision, Denial, MemoryVerifier};
 use picky::ssh::{
     MemorySigner, PlainSuite, SshCertKeyType, SshCertificateGenerationError, SshPrivateKeyError,
     SshPublicKey,
 };
-use picky::wire::{List, Timestamp};
+use picky::wire::{List, Text, Timestamp};
 use std::alloc::Global;
 use std::mem::ManuallyDrop;
 use std::test::Fail;
@@ -59,6 +62,22 @@ DAw7UsiGFQfoXJAGbLi+iqch4YQDLCbYqkPpb41bQrE6sNEjaguwRnUWw3dZaCpGzGiyuu
 phnlTAVWwNi+2vsw==
 -----END OPENSSH PRIVATE KEY-----
 ";
+
+// cat ca.pub, which signed the certificate; the line of an authorized_keys file
+const AUTHORITY: &str =
+    "cert-authority ssh-ed25519 AAAAC3NzaC1lZDI1NTE5AAAAIJhkWK4l7Bk08DMrguP1j3d6UbaliCrC/I5+Qw7/SEWs ca";
+
+// ADD_IDENTITY by draft-miller-ssh-agent-04, section 3.2.3: an Ed25519 key of letters p with a secret of letters s, and the comment c
+const ADDED: &[u8] =
+    b"\x11\0\0\0\x0bssh-ed25519\0\0\0\x20pppppppppppppppppppppppppppppppp\0\0\0\x40ssssssssssssssssssssssssssssssssssssssssssssssssssssssssssssssss\0\0\0\x01c";
+
+// SIGN_REQUEST by section 3.6: hi is to be signed with it, without flags
+const TO_SIGN: &[u8] =
+    b"\x0d\0\0\0\x33\0\0\0\x0bssh-ed25519\0\0\0\x20pppppppppppppppppppppppppppppppp\0\0\0\x02hi\0\0\0\0";
+
+// SIGN_RESPONSE by the same section, whose signature is that of MemorySigner: printf hi | sha256sum
+const SIGNED: &[u8] =
+    b"\x0e\0\0\0\x33\0\0\0\x0bssh-ed25519\0\0\0\x20\x8f\x43\x43\x46\x64\x8f\x6b\x96\xdf\x89\xdd\xa9\x01\xc5\x17\x6b\x10\xa6\xd8\x39\x61\xdd\x3c\x1a\xc8\x8b\x59\xb2\xdc\x32\x7a\xa4";
 
 // date -u -d 2025-01-01 +%s; date -u -d 2030-01-01 +%s
 const FIRST: u64 = 1_735_689_600;
@@ -179,5 +198,105 @@ fn issues_once(alloc: Global) -> Result<bool, Fail> {
 #[test]
 fn issues_as_often_as_the_quota_says(rt: HostRuntime) -> Result<(), Fail> {
     assert!(rt; issues_once(rt.alloc())?);
+    Ok(())
+}
+
+/// An agent that is given the key replies so to what is to be signed with it.
+fn is_replied(alloc: Global, may_sign: bool, wanted: &[u8]) -> Result<bool, Fail> {
+    let mut agent = ManuallyDrop::new(Agent::new(alloc));
+    let mut signer = ManuallyDrop::new(MemorySigner::new(alloc, &[])?);
+    let added = reply_with_leave(alloc, &mut *agent, &mut *signer, ADDED, may_sign)?;
+    let added = ManuallyDrop::new(added);
+    let reply = reply_with_leave(alloc, &mut *agent, &mut *signer, TO_SIGN, may_sign)?;
+    let reply = ManuallyDrop::new(reply);
+    // SSH_AGENT_SUCCESS
+    Ok(added.as_slice() == [6].as_slice() && reply.as_slice() == wanted)
+}
+
+#[test]
+fn signs_only_with_leave(rt: HostRuntime) -> Result<(), Fail> {
+    assert!(rt; is_replied(rt.alloc(), true, SIGNED)?);
+    // SSH_AGENT_FAILURE
+    assert!(rt; is_replied(rt.alloc(), false, &[5])?);
+    Ok(())
+}
+
+/// Why alice is denied, where the verifier says this of each signature; None where she is granted.
+fn denial(
+    alloc: Global,
+    authorized_keys: &str,
+    offer: &str,
+    now: u64,
+    is_good: bool,
+) -> Result<Option<Denial>, Fail> {
+    let mut verifier = ManuallyDrop::new(MemoryVerifier::new(alloc, is_good, &[])?);
+    let decision = ManuallyDrop::new(login_decision(
+        alloc,
+        &mut *verifier,
+        authorized_keys,
+        offer,
+        "alice",
+        Timestamp(now),
+    )?);
+    Ok(match &*decision {
+        Decision::Granted(_) => None,
+        Decision::Denied(why) => Some(*why),
+    })
+}
+
+#[test]
+fn decides_on_keys_and_certificates(rt: HostRuntime) -> Result<(), Fail> {
+    for (authorized_keys, offer, now, is_good, wanted) in [
+        (LINE, LINE, FIRST, true, None),
+        ("", LINE, FIRST, true, Some(Denial::NoLine)),
+        (AUTHORITY, CERTIFICATE, FIRST, true, None),
+        (LINE, CERTIFICATE, FIRST, true, Some(Denial::NoAuthority)),
+        (AUTHORITY, CERTIFICATE, PAST, true, Some(Denial::Expired)),
+        (
+            AUTHORITY,
+            CERTIFICATE,
+            FIRST,
+            false,
+            Some(Denial::BadSignature),
+        ),
+    ] {
+        assert!(rt; denial(rt.alloc(), authorized_keys, offer, now, is_good)? == wanted);
+    }
+    Ok(())
+}
+
+type Entered = ManuallyDrop<(Text, Reply)>;
+
+/// The ledger's text after a request of alice's, and the reply.
+fn entered(alloc: Global, ledger: &str) -> Result<Entered, Fail> {
+    let mut signer = ManuallyDrop::new(MemorySigner::new(alloc, &[])?);
+    let issuer = ManuallyDrop::new(SshPublicKey::from_str(alloc, LINE)?);
+    let request = ManuallyDrop::new(format!(in alloc; "r1 client alice 0 10 {LINE}")?);
+    let given = ledger_after(
+        alloc,
+        &mut *signer,
+        &issuer,
+        ledger,
+        request.as_str(),
+        &[0; 32],
+    )?;
+    Ok(ManuallyDrop::new(given))
+}
+
+/// A request is issued with the first serial, and answered again from the text that is written then.
+fn is_entered_once(alloc: Global) -> Result<bool, Fail> {
+    let first = entered(alloc, "next 1\n")?;
+    let again = entered(alloc, first.0.as_str())?;
+    Ok(
+        first.1 == Reply::Issued(1)
+            && first.0.as_str().starts_with("next 2\nr1 ")
+            && again.1 == Reply::Again(1)
+            && again.0.as_str() == first.0.as_str(),
+    )
+}
+
+#[test]
+fn enters_a_request_once(rt: HostRuntime) -> Result<(), Fail> {
+    assert!(rt; is_entered_once(rt.alloc())?);
     Ok(())
 }
