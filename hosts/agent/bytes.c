@@ -104,7 +104,7 @@ static picky_answer called(uint32_t call, picky_bytes state, picky_bytes message
                                 : picky_agent_secret(message, call - SECRET, out->at, out->room);
 }
 
-static bool ask_any(uint32_t call, picky_bytes state, picky_bytes message, picky_bytes signature, buffer *out) {
+bool ask_signed(uint32_t call, picky_bytes state, picky_bytes message, picky_bytes signature, buffer *out) {
     picky_answer told = called(call, state, message, signature, out);
     if (told.error == PICKY_BUFFER_TOO_SMALL && grow(out, told.len + 1))
         told = called(call, state, message, signature, out);
@@ -114,9 +114,5 @@ static bool ask_any(uint32_t call, picky_bytes state, picky_bytes message, picky
 
 /* Any call, without a signature; of SECRET the part is added. Of messages that add, the state isn't heeded. */
 bool ask(uint32_t call, picky_bytes state, picky_bytes message, buffer *out) {
-    return ask_any(call, state, message, text(""), out);
-}
-
-bool ask_signed(picky_bytes state, picky_bytes message, picky_bytes signature, buffer *out) {
-    return ask_any(REPLY, state, message, signature, out);
+    return ask_signed(call, state, message, text(""), out);
 }

@@ -3,7 +3,6 @@
 
 #include <picky/certificate.h>
 
-
 /* Of each type that may be added: its fields, of which s is a string and b a byte. The first is the type, the last the comment. */
 static const char *const layouts[][2] = {
     {"ssh-rsa", "ssssssss"},

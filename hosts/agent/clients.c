@@ -1,7 +1,4 @@
-/*
- * One loop over all clients. Of each it holds one message and one reply, and hears the next when the reply is sent; in a turn each is
- * answered once. So one that doesn't read, or sends in parts or without end, holds up nobody.
- */
+/* One loop over all clients. Of each it holds one message and one reply, and in a turn each is answered once: none holds up others. */
 #include "host.h"
 
 #include <poll.h>
@@ -102,7 +99,7 @@ static bool reply_with(client *it, picky_bytes reply) {
 static bool answer_client(server *s, client *it, bool confirmed) {
     buffer reply = {0};
     bool good = true;
-    if (answer(s->agent, it->in.at + 4, whole(it), confirmed, s->now, &reply) == ANSWERED)
+    if (answer(s->agent, it->in.at + 4, whole(it), confirmed, s->now, &reply))
         good = reply_with(it, held(&reply));
     else
         it->waits = ++s->events;
@@ -161,7 +158,7 @@ static void ask_user(server *s) {
     client *it = s->asked == 0 ? waiting(s) : NULL;
     if (it == NULL)
         return;
-    bool good = true, answered = answer(s->agent, it->in.at + 4, whole(it), false, s->now, &prompt) == ANSWERED;
+    bool good = true, answered = answer(s->agent, it->in.at + 4, whole(it), false, s->now, &prompt);
     if (answered)
         good = reply_with(it, held(&prompt));
     else if (send(s->polled[HELPER].fd, prompt.at, prompt.len, MSG_DONTWAIT | MSG_NOSIGNAL) == (ssize_t)prompt.len)

@@ -13,12 +13,9 @@
 
 enum { DEEP = 131072 };
 
-/* Builds of tests set these two. */
-#ifndef STAYS_DUMPABLE
-#define STAYS_DUMPABLE 0
-#endif
-#ifndef UNFILTERED
-#define UNFILTERED 0
+/* A build for tests may be looked at, and has no filter. */
+#ifndef FOR_TESTS
+#define FOR_TESTS 0
 #endif
 
 /* Overwrites the stack below, where calls left what they worked with; and locks it, where the limit lets it. */
@@ -45,7 +42,7 @@ bool keep_to_itself(size_t *files) {
     *files = limit.rlim_cur = limit.rlim_max;
     wipe_stack(true);
     return setrlimit(RLIMIT_NOFILE, &limit) == 0 && mallopt(M_TRIM_THRESHOLD, INT_MAX) == 1 &&
-           (STAYS_DUMPABLE || prctl(PR_SET_DUMPABLE, 0, 0, 0, 0) == 0);
+           (FOR_TESTS || prctl(PR_SET_DUMPABLE, 0, 0, 0, 0) == 0);
 }
 
 /* ---- the filter, in the kernel's own words: a list of calls by number, and the process ends at any other */
@@ -65,6 +62,6 @@ bool filter_calls(void) {
         BPF_JUMP(BPF_JMP | BPF_JSET | BPF_K, PROT_EXEC, 1, 0), BPF_STMT(BPF_RET | BPF_K, SECCOMP_RET_ALLOW), KILL,
     };
     const struct sock_fprog program = {sizeof list / sizeof list[0], list};
-    return UNFILTERED || (prctl(PR_SET_NO_NEW_PRIVS, 1, 0, 0, 0) == 0 &&
+    return FOR_TESTS || (prctl(PR_SET_NO_NEW_PRIVS, 1, 0, 0, 0) == 0 &&
                           syscall(SYS_seccomp, SECCOMP_SET_MODE_FILTER, 0, &program) == 0);
 }

@@ -1,7 +1,4 @@
-/*
- * A process that is forked before there are secrets, and before the filter: it asks the user by SSH_ASKPASS, as ssh-agent does, and
- * takes the socket away when the agent has ended, however that came.
- */
+/* A process forked before there are secrets and a filter: it asks by SSH_ASKPASS, and takes the socket away, however the agent ends. */
 #include "host.h"
 
 #include <fcntl.h>

@@ -13,7 +13,7 @@
 #include <sys/socket.h>
 #include <unistd.h>
 
-enum { LONGEST = 262144, MOST = 1024 };
+enum { LONGEST = 262144, MOST = 1024, LONGEST_PROMPT = 1024 };
 
 /* Types of messages and replies (draft-miller-ssh-agent-04, section 5.1). */
 enum { FAILURE = 5, SUCCESS = 6, REMOVE_ALL_OF_1 = 9, LIST = 11, SIGN = 13, ADD = 17, REMOVE = 18, REMOVE_ALL = 19 };
@@ -50,7 +50,7 @@ picky_bytes take_string(fields *it);
 enum { QUESTION, REPLY, NEXT, PUBLIC_ADD, SECRET };
 
 bool ask(uint32_t call, picky_bytes state, picky_bytes message, buffer *out);
-bool ask_signed(picky_bytes state, picky_bytes message, picky_bytes signature, buffer *out);
+bool ask_signed(uint32_t call, picky_bytes state, picky_bytes message, picky_bytes signature, buffer *out);
 
 /* ---- secrets.c: the keys, which are OpenSSL's */
 /* A key of the agent, or a certificate for one. */
@@ -98,10 +98,8 @@ typedef struct agent {
     uintptr_t heap;                                /* up to where it is locked */
 } agent;
 
-enum answer { ANSWERED, WANTS_YES };
-
 bool start_agent(agent *it, int64_t life);
-enum answer answer(agent *it, unsigned char *message, size_t len, bool confirmed, int64_t now, buffer *out);
+bool answer(agent *it, unsigned char *message, size_t len, bool confirmed, int64_t now, buffer *out);
 void remove_ended(agent *it, int64_t now);
 
 /* ---- socket.c: where the socket is, and the folder that was made for it; empty where there is none to take away */
@@ -115,8 +113,6 @@ int inherited_socket(void);
 int accept_client(int listener);
 
 /* ---- confirming.c: a process beside the agent */
-enum { LONGEST_PROMPT = 1024 };
-
 int start_helper(const place *where, int listener);
 
 /* ---- clients.c: one loop */

@@ -1,7 +1,4 @@
-/*
- * The agent: which key answers, locked or not, in which format and by which reply, says the library. Here is what it has no state for
- * (secrets, lifetimes, confirmation, certificates), and what it is handed in place of a message.
- */
+/* The agent: which key answers, locked or not, and by which reply, says the library. Here is what it has no state for, as lifetimes. */
 #include "host.h"
 
 #include <openssl/rand.h>
@@ -84,7 +81,7 @@ static identity *find_certificate(agent *it, picky_bytes *message, picky_bytes *
     return of;
 }
 
-static bool sign(agent *it, picky_bytes message, bool confirmed, buffer *out, enum answer *told) {
+static bool sign(agent *it, picky_bytes message, bool confirmed, buffer *out, bool *asks) {
     picky_bytes state = held(&it->state);
     identity *of = find_certificate(it, &message, &state);
     if (!ask(QUESTION, state, message, &it->question))
@@ -98,12 +95,12 @@ static bool sign(agent *it, picky_bytes message, bool confirmed, buffer *out, en
     if (of == NULL && place < it->keys.count && same(held(&it->keys.at[place].blob), blob))
         of = &it->keys.at[place];
     if (of != NULL && of->confirmed && !confirmed) {
-        *told = WANTS_YES;
+        *asks = true;
         return put_prompt(of, out);
     }
     if (of == NULL || !sign_by(of->key, algorithm, take_string(&asked), &it->signature))
         return ask(REPLY, state, message, out);
-    return ask_signed(state, message, held(&it->signature), out);
+    return ask_signed(REPLY, state, message, held(&it->signature), out);
 }
 
 /* ---- adding */
@@ -285,12 +282,12 @@ static bool turn_lock(agent *it, picky_bytes message, int64_t now, buffer *out) 
 
 /* ---- a message */
 
-static bool answered(agent *it, unsigned char *message, size_t len, bool confirmed, int64_t now, buffer *out, enum answer *told) {
+static bool answered(agent *it, unsigned char *message, size_t len, bool confirmed, int64_t now, buffer *out, bool *asks) {
     switch (message[0]) {
     case LIST:
         return it->locked ? list_of(held(&it->state), out) : make_list(it) && put(out, it->listed.at, it->listed.len);
     case SIGN:
-        return sign(it, bytes(message, len), confirmed, out, told);
+        return sign(it, bytes(message, len), confirmed, out, asks);
     case REMOVE_ALL_OF_1:
         message[0] = REMOVE_ALL;
         return remove_from(it, bytes(message, 1), out);
@@ -309,13 +306,13 @@ static bool answered(agent *it, unsigned char *message, size_t len, bool confirm
     return ask(REPLY, held(&it->state), bytes(message, 1), out);
 }
 
-/* The reply to a message, of no bytes where memory ran out for it; or what the user has to be asked before there is one. */
-enum answer answer(agent *it, unsigned char *message, size_t len, bool confirmed, int64_t now, buffer *out) {
-    enum answer told = ANSWERED;
+/* Whether there is a reply, of no bytes where memory ran out for it; if not, what the user has to be asked before there is one. */
+bool answer(agent *it, unsigned char *message, size_t len, bool confirmed, int64_t now, buffer *out) {
+    bool asks = false;
     out->len = 0;
-    if (answered(it, message, len, confirmed, now, out, &told))
-        return told;
+    if (answered(it, message, len, confirmed, now, out, &asks))
+        return !asks;
     out->len = 0;
     (void)put(out, (const unsigned char[]){FAILURE}, 1);
-    return ANSWERED;
+    return true;
 }

@@ -19,6 +19,14 @@ static BIGNUM *read_number(picky_bytes message, uint32_t part, buffer *scratch) 
     return BN_bin2bn(scratch->at, (int)scratch->len, NULL);
 }
 
+/* The key, if it holds; else it is freed. */
+static EVP_PKEY *only_if(bool holds, EVP_PKEY *key) {
+    if (holds)
+        return key;
+    EVP_PKEY_free(key);
+    return NULL;
+}
+
 static EVP_PKEY *make_key(const char *kind, OSSL_PARAM_BLD *parts) {
     EVP_PKEY *key = NULL;
     OSSL_PARAM *params = OSSL_PARAM_BLD_to_param(parts);
@@ -58,10 +66,7 @@ static EVP_PKEY *read_rsa(picky_bytes message, buffer *scratch) {
         good = numbers[i] != NULL && OSSL_PARAM_BLD_push_BN(parts, names[i], numbers[i]) == 1;
     }
     EVP_PKEY *key = good && BN_num_bits(numbers[N]) >= FEWEST_BITS ? make_key("RSA", parts) : NULL;
-    if (key != NULL && !sign_by(key, text("rsa-sha2-256"), text("once"), scratch)) {
-        EVP_PKEY_free(key);
-        key = NULL;
-    }
+    key = only_if(sign_by(key, text("rsa-sha2-256"), text("once"), scratch), key);
     for (int i = 0; i < NUMBERS; i++)
         BN_clear_free(numbers[i]);
     OSSL_PARAM_BLD_free(parts);
@@ -79,10 +84,7 @@ static EVP_PKEY *read_ecdsa(picky_bytes message, const char *curve, buffer *scra
                 OSSL_PARAM_BLD_push_BN(parts, OSSL_PKEY_PARAM_PRIV_KEY, secret) == 1;
     EVP_PKEY *key = good ? make_key("EC", parts) : NULL;
     EVP_PKEY_CTX *context = key != NULL ? EVP_PKEY_CTX_new_from_pkey(NULL, key, NULL) : NULL;
-    if (context == NULL || EVP_PKEY_check(context) != 1) {
-        EVP_PKEY_free(key);
-        key = NULL;
-    }
+    key = only_if(context != NULL && EVP_PKEY_check(context) == 1, key);
     EVP_PKEY_CTX_free(context);
     OSSL_PARAM_BLD_free(parts);
     BN_clear_free(secret);
@@ -96,12 +98,8 @@ static EVP_PKEY *read_ed25519(picky_bytes message, buffer *scratch) {
     if (!ask(SECRET + PICKY_AGENT_SECRET_ED_SECRET, text(""), message, scratch) || scratch->len != 2 * sizeof public)
         return NULL;
     EVP_PKEY *key = EVP_PKEY_new_raw_private_key(EVP_PKEY_ED25519, NULL, scratch->at, sizeof public);
-    if (key != NULL && (EVP_PKEY_get_raw_public_key(key, public, &len) != 1 ||
-                        !same(bytes(public, len), bytes(scratch->at + sizeof public, sizeof public)))) {
-        EVP_PKEY_free(key);
-        key = NULL;
-    }
-    return key;
+    return only_if(key != NULL && EVP_PKEY_get_raw_public_key(key, public, &len) == 1 &&
+                       same(bytes(public, len), bytes(scratch->at + sizeof public, sizeof public)), key);
 }
 
 /* The key that a message adds, none of a security key; false where it adds none, or its numbers make no key. */

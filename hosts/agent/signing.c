@@ -5,15 +5,14 @@
 #include <openssl/ec.h>
 #include <openssl/err.h>
 
-/* The algorithms of the library's questions: the kind of key, the digest, and whether it is ECDSA, which has two numbers. */
+/* The algorithms of the library's questions: the kind of key, the digest and the curve of ECDSA. */
 static const struct {
-    const char *name, *kind, *digest;
-    bool has_numbers;
+    const char *name, *kind, *digest, *curve;
 } algorithms[] = {
-    {"ed25519", "ED25519", NULL, false},        {"rsa-sha2-512", "RSA", "SHA2-512", false},
-    {"rsa-sha2-256", "RSA", "SHA2-256", false}, {"rsa-sha1", "RSA", "SHA1", false},
-    {"ecdsa-sha2-256", "EC", "SHA2-256", true}, {"ecdsa-sha2-384", "EC", "SHA2-384", true},
-    {"ecdsa-sha2-512", "EC", "SHA2-512", true},
+    {"ed25519", "ED25519", NULL, NULL},         {"rsa-sha2-512", "RSA", "SHA2-512", NULL},
+    {"rsa-sha2-256", "RSA", "SHA2-256", NULL},  {"rsa-sha1", "RSA", "SHA1", NULL},
+    {"ecdsa-sha2-256", "EC", "SHA2-256", "P-256"}, {"ecdsa-sha2-384", "EC", "SHA2-384", "P-384"},
+    {"ecdsa-sha2-512", "EC", "SHA2-512", "P-521"},
 };
 enum { ALGORITHMS = sizeof algorithms / sizeof algorithms[0] };
 
@@ -56,7 +55,7 @@ bool sign_by(EVP_PKEY *key, picky_bytes algorithm, picky_bytes message, buffer *
     signature->len = 0;
     for (size_t i = 0; i < ALGORITHMS; i++)
         if (key != NULL && same(algorithm, text(algorithms[i].name)) && EVP_PKEY_is_a(key, algorithms[i].kind))
-            made = sign(key, algorithms[i].digest, message, signature) && (!algorithms[i].has_numbers || spell_numbers(signature));
+            made = sign(key, algorithms[i].digest, message, signature) && (algorithms[i].curve == NULL || spell_numbers(signature));
     if (!made) {
         signature->len = 0;
         ERR_clear_error();
@@ -64,24 +63,13 @@ bool sign_by(EVP_PKEY *key, picky_bytes algorithm, picky_bytes message, buffer *
     return made;
 }
 
-/* A new key of the algorithm's kind. */
-static EVP_PKEY *new_key(const char *algorithm) {
-    if (strncmp(algorithm, "rsa", 3) == 0)
-        return EVP_PKEY_Q_keygen(NULL, NULL, "RSA", (size_t)1024);
-    if (strncmp(algorithm, "ecdsa", 5) == 0)
-        return EVP_PKEY_Q_keygen(NULL, NULL, "EC", strstr(algorithm, "256") ? "P-256" : strstr(algorithm, "384") ? "P-384" : "P-521");
-    return EVP_PKEY_Q_keygen(NULL, NULL, "ED25519");
-}
-
-/*
- * Signs once by each algorithm, since OpenSSL loads at first use what no call can load under the filter. SHA-1 may be switched off;
- * without another there is no agent.
- */
+/* Signs once by each, since OpenSSL loads at first use what can't be loaded under the filter. SHA-1 alone may be switched off. */
 bool sign_once_by_each(void) {
     buffer signature = {0};
     bool all = true;
     for (size_t i = 0; i < ALGORITHMS && all; i++) {
-        EVP_PKEY *key = new_key(algorithms[i].name);
+        const char *kind = algorithms[i].kind, *curve = algorithms[i].curve;
+        EVP_PKEY *key = curve == NULL ? EVP_PKEY_Q_keygen(NULL, NULL, kind, (size_t)1024) : EVP_PKEY_Q_keygen(NULL, NULL, kind, curve);
         bool signs = sign_by(key, text(algorithms[i].name), text("once"), &signature);
         all = signs || strcmp(algorithms[i].name, "rsa-sha1") == 0;
         EVP_PKEY_free(key);

@@ -24,25 +24,22 @@ static bool find_place(const char *path, place *where) {
 /* A socket of mode 600 in a place where nothing was; -1 and errno where there is none, and then nothing is left. */
 int open_socket(const char *path, place *where) {
     struct sockaddr_un address = {.sun_family = AF_UNIX};
-    bool fits = find_place(path, where);
+    errno = ENAMETOOLONG;
+    bool found = find_place(path, where), bound = false;
     const char *name = path == NULL ? where->socket : path;
-    if (fits && strlen(name) >= sizeof address.sun_path) {
-        errno = ENAMETOOLONG;
-        fits = false;
-    }
-    int fd = fits ? socket(AF_UNIX, SOCK_STREAM | SOCK_CLOEXEC | SOCK_NONBLOCK, 0) : -1, why = errno;
+    int fd = found && strlen(name) < sizeof address.sun_path ? socket(AF_UNIX, SOCK_STREAM | SOCK_CLOEXEC | SOCK_NONBLOCK, 0) : -1;
     if (fd >= 0) {
         memcpy(address.sun_path, name, strlen(name));
         mode_t mask = umask(0177);
-        bool bound = bind(fd, (const struct sockaddr *)&address, sizeof address) == 0;
+        bound = bind(fd, (const struct sockaddr *)&address, sizeof address) == 0;
         umask(mask);
-        if (bound && listen(fd, BACKLOG) == 0)
-            return fd;
-        why = errno;
-        close(fd);
-        fits = bound;
     }
-    if (fd < 0 || !fits)
+    if (bound && listen(fd, BACKLOG) == 0)
+        return fd;
+    int why = errno;
+    if (fd >= 0)
+        close(fd);
+    if (!bound)
         where->socket[0] = 0;
     leave_place(where);
     errno = why;
