@@ -41,8 +41,8 @@ bool keep_to_itself(size_t *files) {
         return false;
     *files = limit.rlim_cur = limit.rlim_max;
     wipe_stack(true);
-    return setrlimit(RLIMIT_NOFILE, &limit) == 0 && mallopt(M_TRIM_THRESHOLD, INT_MAX) == 1 &&
-           (FOR_TESTS || prctl(PR_SET_DUMPABLE, 0, 0, 0, 0) == 0);
+    (void)mallopt(M_TRIM_THRESHOLD, INT_MAX);
+    return setrlimit(RLIMIT_NOFILE, &limit) == 0 && (FOR_TESTS || prctl(PR_SET_DUMPABLE, 0, 0, 0, 0) == 0);
 }
 
 /* ---- the filter, in the kernel's own words: a list of calls by number, and the process ends at any other */

@@ -7,6 +7,7 @@
  * A shared library keeps its own calls, so take the archive. Blocks are malloc's still, of all that are linked: what libc allocated,
  * as by strdup, may be freed here, and the other way round. malloc itself stays as it is.
  */
+#define _DEFAULT_SOURCE
 #include <malloc.h>
 #include <stdlib.h>
 #include <string.h>
