@@ -122,10 +122,10 @@ static bool read_constraints(picky_bytes behind, int64_t life, int64_t now, iden
     return !it.cut;
 }
 
-/* The key of a message, and what an agent without others would list of it, and keep, which has no secret. */
+/* The key of a message, and what an agent without others would list of it; in `next` what that would keep, which has no secret. */
 static bool read_identity(agent *it, picky_bytes message, identity *new) {
-    if (!ask(PUBLIC_ADD, text(""), message, &it->bare) || !ask(NEXT, text(""), held(&it->bare), &new->state) ||
-        !list_of(held(&new->state), &it->reply))
+    if (!ask(PUBLIC_ADD, text(""), message, &it->bare) || !ask(NEXT, text(""), held(&it->bare), &it->next) ||
+        !list_of(held(&it->next), &it->reply))
         return false;
     fields row = fields_of(held(&it->reply));
     take(&row, 5);
@@ -141,6 +141,7 @@ static bool read_certificate(agent *it, picky_bytes message, picky_bytes blob, i
     drop(&plain);
     drop(&subject);
     swap(&new->plain, &new->blob);
+    swap(&new->state, &it->next);
     return good && put(&new->blob, blob.at, blob.len);
 }
 
