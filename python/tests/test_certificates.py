@@ -3,6 +3,8 @@ from __future__ import annotations
 
 import base64
 import re
+import time
+from pathlib import Path
 from typing import Any, Dict, List, Tuple
 
 import pytest
@@ -206,6 +208,10 @@ def test_an_agent_signs(tools: Tools) -> None:
                 agent.signer(subject)
     finally:
         tools.done("env", f"SSH_AGENT_PID={pid[1]}", "ssh-agent", "-k")
+    # It takes the socket away at its end.
+    end = time.monotonic() + 60
+    while Path(socket).exists() and time.monotonic() < end:
+        time.sleep(0.05)
     with pytest.raises(SignerFault):
         Agent(socket)
 
