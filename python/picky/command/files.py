@@ -108,8 +108,7 @@ def put(path: str, content: Union[bytes, Iterable[bytes]], *, force: bool = Fals
     try:
         if force:
             _check_regular(target)
-        pieces = [content] if isinstance(content, (bytes, bytearray)) else content
-        temporary = _written_beside(target, pieces)
+        temporary = _written_beside(target, _pieces_of(content))
         try:
             if force:
                 os.rename(temporary, target)
@@ -159,15 +158,20 @@ def check_free(path: str, force: bool) -> None:
         )
 
 
-def deliver(path: Optional[str], content: bytes, *, force: bool) -> None:
+def deliver(path: Optional[str], content: Union[bytes, Iterable[bytes]], *, force: bool) -> None:
     """Makes a file, as `put`; without a path writes to standard output."""
     if path is None:
-        hand_out(content)
+        for piece in _pieces_of(content):
+            hand_out(piece)
         return
     try:
         put(path, content, force=force)
     except Refusal as refusal:
         raise Refusal(f"{printable(path)}: {refusal.sentence}", refusal.status) from None
+
+
+def _pieces_of(content: Union[bytes, Iterable[bytes]]) -> Iterable[bytes]:
+    return [content] if isinstance(content, (bytes, bytearray)) else content
 
 
 def _check_regular(target: str) -> None:

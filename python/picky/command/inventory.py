@@ -7,7 +7,7 @@ import sys
 import tempfile
 from functools import partial
 from itertools import islice
-from typing import Callable, Iterable, Iterator, List, Optional
+from typing import Callable, Iterator, List, Optional
 
 from ..errors import BadLine, Error
 from . import files
@@ -18,7 +18,7 @@ from .inventory_page import as_page
 from .inventory_processes import Processes, processors
 from .inventory_records import Found, checked, in_pieces, lines_of, unread_of
 from .inventory_walk import File, files_of
-from .said import Refusal, Status, hand_out, printable, refusal_of, say
+from .said import Refusal, Status, printable, refusal_of, say
 from .show import title
 
 USAGE = "[--merge] [--json | --csv] [OPTION..] PATH.."
@@ -92,12 +92,13 @@ def run_with(arguments: argparse.Namespace, found: Found) -> int:
     with Bar() as bar:
         bar.stage("writing")
         if arguments.html is not None:
-            put(arguments.html, as_page(found, since, arguments.paths), arguments.force)
+            page = in_pieces(as_page(found, since, arguments.paths))
+            files.deliver(arguments.html, page, force=arguments.force)
+        pieces = in_pieces(listed(arguments, found))
         if arguments.output is not None:
-            put(arguments.output, listed(arguments, found), arguments.force)
+            files.deliver(arguments.output, pieces, force=arguments.force)
     if arguments.output is None:
-        for piece in in_pieces(listed(arguments, found)):
-            hand_out(piece)
+        files.deliver(None, pieces, force=arguments.force)
     return status
 
 
@@ -158,11 +159,3 @@ def listed(arguments: argparse.Namespace, found: Found) -> Iterator[bytes]:
     if arguments.places or (arguments.output is None and sys.stdout.isatty()):
         return as_text(found.keys, places=arguments.places)
     return lines_of(found.keys)
-
-
-def put(path: str, lines: Iterable[bytes], force: bool) -> None:
-    """Makes a file of lines."""
-    try:
-        files.put(path, in_pieces(lines), force=force)
-    except Refusal as refusal:
-        raise Refusal(f"{printable(path)}: {refusal.sentence}", refusal.status) from None

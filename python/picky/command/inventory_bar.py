@@ -30,7 +30,14 @@ class Bar:
                 TimeRemainingColumn(),
             )
             console = Console(stderr=True)
-            self._progress = Progress(*columns, console=console, transient=True, auto_refresh=False)
+            self._progress = Progress(
+                *columns,
+                console=console,
+                transient=True,
+                auto_refresh=False,
+                redirect_stdout=False,
+                redirect_stderr=False,
+            )
 
     def stage(self, name: str, total: Optional[int] = None) -> None:
         """Begins a part of the run, with so many steps, where that is known."""
