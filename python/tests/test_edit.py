@@ -4,6 +4,7 @@ from __future__ import annotations
 import os
 import stat
 from pathlib import Path
+from typing import List, Tuple
 
 from running import Terminal, opened, opened_by_puttygen, picky, putty_key, ssh_key, tool, written
 
@@ -122,6 +123,7 @@ def test_replaces_no_file_that_is_no_one_key(tmp_path: Path) -> None:
     public = Path(f"{key}.pub").read_text()
     two = written(tmp_path / "two", public * 2)
     pem = written(tmp_path / "pem", tool("ssh-keygen", "-e", "-m", "PKCS8", "-f", rsa(tmp_path)))
+    rows: List[Tuple[List[object], str]]
     rows = [
         (["comment", two, "x"], "it has more than a key, which would be lost"),
         (["comment", "-", "x"], "standard input can't be replaced"),

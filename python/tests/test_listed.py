@@ -17,6 +17,7 @@ from picky import (
     PublicKey,
     authorized_keys,
 )
+from picky.keys import Text
 from tools import Made, Tools
 
 
@@ -32,7 +33,9 @@ def test_an_inventory_lists_each_key_once(
         shown = "" if it.name.startswith("ssh-keygen") else comment
         lines += [f"{'sealed' if encrypted else 'private'} {blob} {shown}\n"]
         lines += [f"private {blob} {comment}\n", f"public {blob} {comment}\n"]
-    texts = [text for it in made for text in (it.text, it.open_text, it.line, b" \n")]
+    texts: List[Text] = []
+    for it in made:
+        texts += [it.text, it.open_text, it.line, b" \n"]
     whole = Inventory.of(texts + texts[:9])
     assert whole.text.decode() == "".join(sorted(set(lines)))
     assert Inventory.of(texts[:100]).merge(Inventory.of(texts[50:])) == whole

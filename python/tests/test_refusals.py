@@ -37,12 +37,11 @@ INTERNAL = {1, 5, 6, 7, 10, 13, 16, 17, 18, 25, 26, 27}
 
 
 def test_each_number_of_the_header_has_a_class() -> None:
-    numbers_of = {
-        name: int(number)
-        for name, number in re.findall(r"(PICKY_\w+) = (\d+),?", HEADER.read_text())
+    # Those below 100 are the library's own, and each is tried.
+    own = {
+        int(it) for it in re.findall(r"^    PICKY_[A-Z0-9_]+ = (\d+), ", HEADER.read_text(), re.M)
     }
-    own = {number for name, number in numbers_of.items() if number < 100 and name.count("_") < 5}
-    assert {31, 33} <= own
+    assert own >= set(range(1, 34))
     for number in range(1, 34):
         fault = number in INTERNAL
         name = _library.error_name(number)
@@ -224,5 +223,5 @@ def test_what_is_written_is_read_again(
     text = key.write(target, passphrase, sealing=sealing)
     again = PrivateKey.read(text, passphrase)
     assert (numbers(again.key()), again.comment) == (numbers(loaded(made.open_text)), comment)
-    if target == Target.OPENSSH and len(passphrase.encode()) < 73:
+    if target == Target.OPENSSH:
         assert numbers(loaded(text, passphrase.encode() or None)) == numbers(again.key())

@@ -12,7 +12,15 @@ from ..keys import PrivateKey, Target
 from . import files
 from .passphrases import Passphrases, add_new_options, add_options, apart, new
 from .said import Refusal, Status, each, printable
-from .sources import PRIVATE, Source, first, foreign_text, private_key, public_key
+from .sources import (
+    PRIVATE,
+    Source,
+    check_private,
+    first,
+    foreign_text,
+    private_key,
+    public_key,
+)
 
 TARGETS = {
     "ppk3": Target.PPK3,
@@ -82,6 +90,9 @@ def run(parser: argparse.ArgumentParser, arguments: argparse.Namespace) -> int:
 
     def convert(name: str) -> None:
         nonlocal new_passphrase
+        given = first(name)
+        if arguments.to not in PUBLIC:
+            check_private(given)
         path: Optional[str] = arguments.output
         if arguments.into is not None:
             path = os.path.join(arguments.into, name_of(name, arguments.to))
@@ -89,7 +100,6 @@ def run(parser: argparse.ArgumentParser, arguments: argparse.Namespace) -> int:
                 raise Refusal(f"{printable(path)} was made of another file", Status.NOT_WRITTEN)
         if path is not None:
             files.check_free(path, arguments.force)
-        given = first(name)
         if arguments.to in PUBLIC:
             content = public_text(given, passphrases, TARGETS[arguments.to])
         else:

@@ -8,8 +8,8 @@ from ..answers import wipe
 from . import sealing
 from .edit import replace, written
 from .passphrases import Passphrases, add_new_options, add_options, new
-from .said import Refusal, each
-from .sources import PRIVATE, alone, private_key
+from .said import each
+from .sources import alone, check_private, private_key
 
 USAGE = "[OPTION..] FILE"
 
@@ -33,8 +33,7 @@ def run(arguments: argparse.Namespace) -> int:
 
     def set_passphrase(name: str) -> None:
         given = alone(name)
-        if given.form not in PRIVATE:
-            raise Refusal("it has no private key")
+        check_private(given)
         sealing.check(given, arguments)
         key, _ = private_key(given, passphrases)
         with key:

@@ -109,13 +109,18 @@ def alone(name: str) -> Source:
     return found
 
 
+def check_private(given: Source) -> None:
+    """Refuses what is no private key."""
+    if given.form not in PRIVATE:
+        raise Refusal("it has no private key")
+
+
 def private_key(given: Source, passphrases: Passphrases) -> Tuple[PrivateKey, Optional[bytearray]]:
     """The private key of a file, and the passphrase that opened it; none where it isn't encrypted.
 
     Refuses what is no private key, and as `Passphrases.open`.
     """
-    if given.form not in PRIVATE:
-        raise Refusal("it has no private key")
+    check_private(given)
 
     def read(passphrase: Optional[bytearray]) -> PrivateKey:
         if given.form in FOREIGN:
