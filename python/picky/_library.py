@@ -119,8 +119,7 @@ def _given(data: Data) -> _Bytes:
     return given
 
 
-def _handed(call: Callable[..., _Answer], *given: Any) -> Handed:
-    room = FIRST_ROOM
+def _handed(call: Callable[..., _Answer], *given: Any, room: int = FIRST_ROOM) -> Handed:
     while True:
         out = bytearray(room)
         answer = call(*given, addressof(c_char.from_buffer(out)), room)
@@ -162,11 +161,6 @@ def version() -> str:
     """The version of the library."""
     text: bytes = _library.picky_version().text
     return text.decode()
-
-
-def has(name: str) -> bool:
-    """Whether the library has the call, as "decide_by"."""
-    return hasattr(_library, f"picky_{name}")
 
 
 def convert_by(
@@ -263,7 +257,9 @@ def ledger_replies(
 def inventory_list(texts: Sequence[Data], sealed: bool) -> Handed:
     """picky_inventory_list: the inventory, or of a text that is refused its place beside the number."""
     array = _array(texts)
-    return _handed(_inventory_list, addressof(array), len(texts), int(sealed))
+    # A line is rarely longer than twice its text.
+    room = FIRST_ROOM + 2 * sum(map(len, texts))
+    return _handed(_inventory_list, addressof(array), len(texts), int(sealed), room=room)
 
 
 def inventory_merge(left: Data, right: Data) -> bytearray:
