@@ -9,6 +9,7 @@ from typing import Any, Callable, Generic, Iterator, List, Optional, Set, TypeVa
 
 from .said import Refusal, Status
 
+ENDING = (signal.SIGTERM, signal.SIGHUP)
 Given = TypeVar("Given")
 Done = TypeVar("Done")
 
@@ -28,8 +29,9 @@ class Processes(Generic[Given, Done]):
         context = get_context("fork")
         self._ends: List[Any] = []
         self._processes = []
-        # Ctrl-C reaches each process of a terminal; this one ends the others.
-        blocked = signal.pthread_sigmask(signal.SIG_BLOCK, [signal.SIGINT])
+        # What ends this process isn't heard while it forks, where Python drops what a handler raises. Ctrl-C, which reaches each
+        # process of a terminal, is heard by this one alone: it ends the others.
+        blocked = signal.pthread_sigmask(signal.SIG_BLOCK, [signal.SIGINT, *ENDING])
         try:
             for _ in range(count):
                 here, there = context.Pipe()
@@ -83,8 +85,9 @@ class Processes(Generic[Given, Done]):
 
 
 def _serve(work: Callable[[Any], Any], end: "Connection", others: "List[Connection]") -> None:
-    for number in (signal.SIGTERM, signal.SIGHUP):
+    for number in ENDING:
         signal.signal(number, signal.SIG_DFL)
+    signal.pthread_sigmask(signal.SIG_UNBLOCK, ENDING)
     for other in others:
         other.close()
     batch: Any = others
