@@ -5,6 +5,7 @@ import base64
 import json
 import os
 import select
+import shutil
 import subprocess
 import tempfile
 import time
@@ -18,7 +19,7 @@ class Browser:
     """A browser with one page. It is a context manager, which ends it."""
 
     def __init__(self) -> None:
-        self._folder = tempfile.TemporaryDirectory()
+        self._folder = tempfile.mkdtemp()
         there, self._to = os.pipe()
         self._from, back = os.pipe()
         command = [
@@ -28,7 +29,7 @@ class Browser:
             "--disable-gpu",
             "--hide-scrollbars",
             "--remote-debugging-pipe",
-            f"--user-data-dir={self._folder.name}",
+            f"--user-data-dir={self._folder}",
         ]
         # The browser reads from 3 and writes to 4.
         shell = f'exec "$@" 3<&{there} 4>&{back} 2>/dev/null'
@@ -101,4 +102,5 @@ class Browser:
         self._process.wait()
         os.close(self._to)
         os.close(self._from)
-        self._folder.cleanup()
+        # Processes of the browser may write there for a moment more.
+        shutil.rmtree(self._folder, ignore_errors=True)

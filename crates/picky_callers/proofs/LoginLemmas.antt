@@ -1,12 +1,11 @@
 -- What a decision says of who is let in.
-use Rattle.std.proofs.Common.{◌≡◌, ◌⊎◌, ℕ, Bool, true, false, List, Result, Ok, Err, ap, inl, inr, refl, sym, if◌then◌else◌}
+use Rattle.std.proofs.Common.{◌≡◌, ℕ, Bool, true, false, List, Result, Ok, Err, ap, if◌then◌else◌}
 use Rattle.picky.specs.Decided.{Accepts, Allows, IsDecision, IsDecisionBy, decided}
 use Rattle.picky.specs.Entries.{entries_in, keys_in}
 use Rattle.picky.specs.SshPublicLineRefusal.{is_short}
 use Rattle.picky.specs.Verifies.{VerifyRelation}
 use Rattle.picky.specs.declared.policy.AuthEntry.{AuthEntry}
 use Rattle.picky.specs.declared.policy.DecideError.{DecideError}
-use Rattle.picky.specs.declared.policy.DecideError.TheVariants as errors
 use Rattle.picky.specs.declared.policy.Decision.{Decision}
 use Rattle.picky.specs.declared.policy.Decision.TheVariants as decisions
 use Rattle.picky.specs.declared.policy.Denial.{Denial}

@@ -5,7 +5,8 @@ ghost use Rattle.picky.specs.AgentKept.{machine};
 ghost use Rattle.picky.specs.AgentRequest.{request_of, Sign, SignRequest};
 ghost use Rattle.picky.specs.Message.{IsMessage};
 ghost use Rattle.picky.specs.Reply.{failure as failure_reply};
-ghost use Rattle.picky.specs.Step.{Step};
+ghost use Rattle.picky.specs.Step.{AsksSigner, Step};
+ghost use Rattle.picky.specs.SuiteAsked.{IsAskedAtMost};
 ghost use Rattle.picky_callers.specs.SignedReply.{FailsOrIsSigned};
 
 use picky::agent::Agent;
@@ -31,8 +32,10 @@ pub fn reply_with_leave<G: Signer>(
     ensures signed { (asked : SignRequest) → request_of message.now ≡ Sign asked
         → IfOk result (FailsOrIsSigned (G.signs signer.old) asked) }
 
-    // Without leave the signer isn't asked.
-    ensures unasked { may_sign ≡ false → signer.new ≡ signer.old }
+    // The signer is asked once at most: not without leave, nor where a message needs no signature.
+    ensures asked { IsAskedAtMost 1 G.calls signer.old signer.new }
+    ensures without_leave { may_sign ≡ false → signer.new ≡ signer.old }
+    ensures unasked { (AsksSigner agent.old (request_of message.now) → ⊥) → signer.new ≡ signer.old }
 
     // It is the agent's reply, whose signer failed where it had no leave.
     ensures step { IfOk result (λ reply. (faults : ℕ) × (IsTrue may_sign → faults ≡ G.faults signer.new)

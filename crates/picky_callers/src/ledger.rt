@@ -2,6 +2,7 @@
 
 ghost use Rattle.std.specs.Prelude.{◌≡◌, Ok, IfErr, IfOk};
 ghost use Rattle.picky.specs.Count.{Rose};
+ghost use Rattle.picky.specs.SuiteAsked.{IsAskedAtMost};
 ghost use Rattle.picky_callers.specs.Entered.{IsEntered, IsUnentered};
 
 use picky::ledger::laws::requests_leave_a_ledger;
@@ -34,6 +35,9 @@ pub fn ledger_after<G: Signer>(
     // The entries that the ledger had stay in front; one behind them is the certificate of this request, and the signer signed it.
     ensures ok { IfOk result (λ given.
         IsEntered (G.signs signer.old) issuer.now.inner_key nonce.now ledger.now request.now given.1 (Ok given.0)) }
+
+    // It was asked once at most.
+    ensures asked { IsAskedAtMost 1 G.calls signer.old signer.new }
 
     // Else the text is no ledger's, the new one is too long, or the signer counted a fault.
     ensures refused { IfErr result (IsUnentered (G.signs signer.old) issuer.now.inner_key nonce.now ledger.now request.now

@@ -5,6 +5,7 @@ ghost use Rattle.picky.specs.Count.{Rose};
 ghost use Rattle.picky.specs.Decided.{IsDecision};
 ghost use Rattle.picky.specs.Entries.{entries_in};
 ghost use Rattle.picky.specs.Offer.{IsOffer};
+ghost use Rattle.picky.specs.SuiteAsked.{IsAskedAtMost};
 ghost use Rattle.picky.specs.declared.policy.Offer.{Offer as AnOffer};
 ghost use Rattle.picky_callers.specs.Undecided.{IsUndecided};
 
@@ -38,6 +39,9 @@ pub fn login_decision<V: Verifier>(
     // The offer gets in exactly where the authorized keys allow it, and the verifier calls the certificate's signature good.
     ensures ok { IfOk result (λ decision. (offered : AnOffer) × IsOffer offer.now offered
         × IsDecision (V.verifies verifier.old) (entries_in authorized_keys.now) offered user.now now decision) }
+
+    // It is asked once at most.
+    ensures asked { IsAskedAtMost 1 V.calls verifier.old verifier.new }
 
     // Else a text isn't read, or the verifier counted a fault.
     ensures refused { IfErr result (IsUndecided authorized_keys.now offer.now (Rose (V.faults verifier.old) (V.faults verifier.new))) }
