@@ -256,15 +256,16 @@ void remove_ended(agent *it, int64_t now) {
 
 /* ---- the lock */
 
-/* 22 and 23: in place of the passphrase the library has its salted hash. A wrong one puts off when the next is heard. */
+/* 22 and 23: the library has the passphrase's salted hash, of its digest, since HMAC drops NULs. A wrong one puts off the next. */
 static bool turn_lock(agent *it, picky_bytes message, int64_t now, buffer *out) {
-    unsigned char hashed[LOCKING], hash[LOCKING - 5], kind = *(const unsigned char *)message.at;
+    unsigned char hashed[LOCKING], hash[LOCKING - 5], once[LOCKING - 5], kind = *(const unsigned char *)message.at;
     fields fields = fields_of(message);
     take(&fields, 1);
     picky_bytes passphrase = take_string(&fields);
     if (fields.cut || it->locked == (kind == LOCK))
         return ask(REPLY, held(&it->state), bytes(message.at, 1), out);
-    if (PKCS5_PBKDF2_HMAC(passphrase.at, (int)passphrase.len, it->salt, sizeof it->salt, ROUNDS, EVP_sha512(), sizeof hash, hash) != 1)
+    if (EVP_Digest(passphrase.at, passphrase.len, once, NULL, EVP_sha512(), NULL) != 1 ||
+        PKCS5_PBKDF2_HMAC((char *)once, sizeof once, it->salt, sizeof it->salt, ROUNDS, EVP_sha512(), sizeof hash, hash) != 1)
         return false;
     picky_bytes told = locking(kind, hash, hashed);
     if (!ask(REPLY, held(&it->state), told, out) || !ask(NEXT, held(&it->state), told, &it->next))
