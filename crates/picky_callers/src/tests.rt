@@ -67,9 +67,9 @@ phnlTAVWwNi+2vsw==
 const AUTHORITY: &str =
     "cert-authority ssh-ed25519 AAAAC3NzaC1lZDI1NTE5AAAAIJhkWK4l7Bk08DMrguP1j3d6UbaliCrC/I5+Qw7/SEWs ca";
 
-// ADD_IDENTITY by draft-miller-ssh-agent-04, section 3.2.3: an Ed25519 key of letters p with a secret of letters s, and the comment c
+// ADD_IDENTITY by draft-miller-ssh-agent-04, section 3.2.3: an Ed25519 key of letters p, its secret of letters s, and the comment c
 const ADDED: &[u8] =
-    b"\x11\0\0\0\x0bssh-ed25519\0\0\0\x20pppppppppppppppppppppppppppppppp\0\0\0\x40ssssssssssssssssssssssssssssssssssssssssssssssssssssssssssssssss\0\0\0\x01c";
+    b"\x11\0\0\0\x0bssh-ed25519\0\0\0\x20pppppppppppppppppppppppppppppppp\0\0\0\x40sssssssssssssssssssssssssssssssspppppppppppppppppppppppppppppppp\0\0\0\x01c";
 
 // SIGN_REQUEST by section 3.6: hi is to be signed with it, without flags
 const TO_SIGN: &[u8] =

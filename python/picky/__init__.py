@@ -1,0 +1,77 @@
+"""SSH keys of OpenSSH and PuTTY, certificates and authorized keys, read and written by a proved library."""
+from .agent import Agent, AgentSigner
+from .authorized import Entry, LineOption, authorized_keys
+from .certificates import Certificate, Draft, Option, Signer
+from .errors import (
+    BadIssuer,
+    BadKey,
+    BadLine,
+    BadRequest,
+    BadSealing,
+    BadSignature,
+    CommentNotCarried,
+    Error,
+    LibraryFault,
+    LibraryMissing,
+    NoMemory,
+    NoPrivateKey,
+    NotUtf8,
+    PassphraseNeeded,
+    SignerFault,
+    TooCostly,
+    TooLong,
+    Unsupported,
+    WrongPassphrase,
+)
+from .inventory import Inventory, Item
+from .keys import Fingerprints, PrivateKey, PublicKey, Sealing, Shown, Target, shown
+from .ledger import Issued, Ledger, Reply
+from .policy import Denial, Grant, decide
+from .signatures import KeySigner
+
+__all__ = [
+    "Agent",
+    "AgentSigner",
+    "BadIssuer",
+    "BadKey",
+    "BadLine",
+    "BadRequest",
+    "BadSealing",
+    "BadSignature",
+    "Certificate",
+    "CommentNotCarried",
+    "Denial",
+    "Draft",
+    "Entry",
+    "Error",
+    "Fingerprints",
+    "Grant",
+    "Inventory",
+    "Issued",
+    "Item",
+    "KeySigner",
+    "Ledger",
+    "LibraryFault",
+    "LibraryMissing",
+    "LineOption",
+    "NoMemory",
+    "NoPrivateKey",
+    "NotUtf8",
+    "Option",
+    "PassphraseNeeded",
+    "PrivateKey",
+    "PublicKey",
+    "Reply",
+    "Sealing",
+    "Shown",
+    "Signer",
+    "SignerFault",
+    "Target",
+    "TooCostly",
+    "TooLong",
+    "Unsupported",
+    "WrongPassphrase",
+    "authorized_keys",
+    "decide",
+    "shown",
+]
