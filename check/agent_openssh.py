@@ -121,7 +121,7 @@ def added(state, content, rules, took, made):
             fields = with_copy(fields)
         if name in CURVES:
             judge(name, fields.content, rules)
-        blob = private_fields(fields)
+        blob, _ = private_fields(fields)
         if name == RSA and "short" in rules and is_short(Fields(blob[15 + int.from_bytes(blob[11:15], "big"):]).string()):
             raise Refused("short")
     is_made = name in ("ssh-ed25519", SK_ED25519) or fields.content[:fields.at] in made

@@ -80,7 +80,7 @@ class Agent:
         return bytes([SIGNED]) + string(string(name.encode()) + string(self.signature)), name
 
     def add(self, fields):
-        key, comment = private_fields(fields), fields.text()
+        (key, _), comment = private_fields(fields), fields.text()
         there = key in self.identities
         if not there and len(self.identities) == MOST:
             raise Refused("too many")

@@ -102,7 +102,7 @@ class Kept(Agent):
         start = fields.at
         told = super().add(fields)
         fields.at = start
-        key = private_fields(fields)
+        key, _ = private_fields(fields)
         fields.at = start
         name, parts = parts_of(fields)
         self.blobs[key] = blob_of(name, without_secrets(parts) if self.bare else parts)

@@ -5,6 +5,7 @@ as its cipher ends with status 5, since the program has no ciphers. The items an
 no cause. What the formats are: RFC 4251 and 4253, OpenSSH's PROTOCOL files, and Appendix C of PuTTY's manual.
 """
 import binascii
+import contextlib
 import hashlib
 import hmac
 import re
@@ -30,6 +31,8 @@ class Item(NamedTuple):
     kind: str
     blob: bytes
     comment: str
+    # OpenSSH's private part of a private key, in the one spelling that is written.
+    private: bytes = b""
 
     def line(self):
         return b"%b %b %b\n" % (self.kind.encode(), base64(self.blob), base64(self.comment.encode()))
@@ -67,6 +70,15 @@ def string(content):
 
 def mpint(magnitude):
     return string(b"\0" + magnitude if magnitude[:1] >= b"\x80" else magnitude)
+
+
+@contextlib.contextmanager
+def inside(part):
+    """Says of a refusal which part of a text it comes from."""
+    try:
+        yield
+    except Refused as refused:
+        raise Refused(part, *refused.args) from None
 
 
 class Fields:
@@ -214,22 +226,29 @@ def certificate(text):
         raise Refused("DSS")
     nonce = fields.string()
     key = public_fields(CERT_TYPES[name], fields)
-    serial, kind = fields.number(8), fields.number()
-    if kind not in (1, 2):
-        raise Refused("certificate's kind")
+    serial = fields.number(8)
+    with inside("certificate's kind"):
+        kind = fields.number()
+        if kind not in (1, 2):
+            raise Refused("number")
     key_id = fields.text()
     principals = all_of(fields.string(), Fields.text)
     valid_after, valid_before = fields.number(8), fields.number(8)
-    critical_options = all_of(fields.string(), lambda it: (it.name(CRITICAL, "critical option"), it.string()))
-    extensions = all_of(fields.string(), lambda it: (it.text(), it.string()))
+    with inside("critical option"):
+        critical_options = all_of(fields.string(), lambda it: (it.name(CRITICAL), it.string()))
+    with inside("extension"):
+        extensions = all_of(fields.string(), lambda it: (it.text(), it.string()))
     fields.string()
-    issuer = public_key(Fields(fields.string()))
+    issuer = fields.string()
+    with inside("issuer"):
+        issuer = public_key(Fields(issuer))
     signed = fields.content[:fields.at]
-    fields.number()
-    form = fields.name(SIGNATURES, "signature's format")
-    signature = string(fields.string())
-    if form in (SK_ECDSA, SK_ED25519):
-        signature += fields.take(5)
+    with inside("signature"):
+        fields.number()
+        form = fields.name(SIGNATURES)
+        signature = string(fields.string())
+        if form in (SK_ECDSA, SK_ED25519):
+            signature += fields.take(5)
     return Certificate(name, nonce, key, serial, kind == 2, key_id, principals, valid_after, valid_before, critical_options, extensions,
                        issuer, signed, form, signature, comment)
 
@@ -241,22 +260,22 @@ CIPHERS = ("aes128-cbc", "aes256-cbc", "aes128-ctr", "aes256-ctr")
 
 
 def private_fields(fields):
-    """The public part of the private key that comes next."""
+    """The canonical blob of the public part of the private key that comes next, and the canonical private part."""
     name = fields.name(KEY_TYPES)
     if name == RSA:
-        n, e, *_ = (fields.mpint() for _ in range(6))
-        return rsa_blob(e, n)
+        numbers = [fields.mpint() for _ in range(6)]
+        return rsa_blob(numbers[1], numbers[0]), string(RSA.encode()) + b"".join(map(mpint, numbers))
     blob = public_fields(name, fields)
     if name in CURVES:
-        fields.mpint()
-    elif name == ED25519:
-        if fields.fixed(64, "secret's length")[32:] != blob[-32:]:
+        return blob, blob + mpint(fields.mpint())
+    if name == ED25519:
+        secret = fields.fixed(64, "secret's length")
+        if secret[32:] != blob[-32:]:
             raise Refused("secret's copy")
-    else:
-        fields.number(1)
-        fields.string()
-        fields.string()
-    return blob
+        return blob, blob + string(secret)
+    flags, handle = fields.take(1), fields.string()
+    fields.string()
+    return blob, blob + flags + string(handle) + string(b"")
 
 
 def openssh_private(text, passphrase):
@@ -290,14 +309,14 @@ def openssh_private(text, passphrase):
     numbers = fields.take(8)
     if numbers[:4] != numbers[4:]:
         raise Refused("check numbers")
-    blob, comment = private_fields(fields), fields.text()
+    (blob, private), comment = private_fields(fields), fields.text()
     try:
         agrees = public_key(Fields(outer)) == blob
     except Refused:
         agrees = False
     if not agrees:
         raise Refused("outer public key")
-    return Item("private", blob, comment.rstrip(WHITE))
+    return Item("private", blob, comment.rstrip(WHITE), private)
 
 
 # ---- PuTTY's texts
@@ -321,7 +340,9 @@ def putty_public(text, _):
     if "---- END SSH2 PUBLIC KEY ----" not in lines[2:]:
         raise Refused("no footer")
     body = "".join(lines[2:lines.index("---- END SSH2 PUBLIC KEY ----", 2)])
-    blob = public_key(Fields(unbase64(body, "base64")))
+    content = unbase64(body, "base64")
+    with inside("public key"):
+        blob = public_key(Fields(content))
     return Item("public", blob, re.sub(r'\\([\\"])', r"\1", quoted))
 
 
@@ -400,17 +421,25 @@ def putty_private(text, passphrase):
     if mac != right:
         raise Refused("MAC")
     fields = Fields(public)
-    name = fields.name(KEY_TYPES)
-    blob = public_fields(name, fields)
+    with inside("public key"):
+        name = fields.name(KEY_TYPES)
+        blob = public_fields(name, fields)
     if algorithm in ("ssh-dss", "ssh-ed448"):
         raise Refused("algorithm")
     if algorithm != name:
         raise Refused("another key's algorithm")
     secret = Fields(private)
-    numbers = [secret.mpint() for _ in range(4 if name == RSA else 1)]
-    if name == ED25519 and len(numbers[0]) > 32:
+    first, *others = [secret.mpint() for _ in range(4 if name == RSA else 1)]
+    if name == ED25519 and len(first) > 32:
         raise Refused("secret's length")
-    return Item("private", blob, comment)
+    if name == RSA:
+        p, q, iqmp = others
+        fields = Fields(blob[len(string(RSA.encode())):])
+        e, n = fields.mpint(), fields.mpint()
+        private = string(RSA.encode()) + b"".join(map(mpint, (n, e, first, iqmp, p, q)))
+    else:
+        private = blob + (string(first.rjust(32, b"\0") + blob[-32:]) if name == ED25519 else mpint(first))
+    return Item("private", blob, comment, private)
 
 
 # ---- the inventory
