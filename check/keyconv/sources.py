@@ -6,7 +6,8 @@ from typing import NamedTuple, Optional
 from lib.formats import armoured, envelope, rsa_blob, rsa_private
 from keyinventory.sources import fixed_cases as inventory_cases
 from lib.random_texts import CERT_NAMES, damaged_text, some, some_text
-from lib.texts import LIMIT, MARK, MARKS, KEY_TYPES, V01, key_of
+from lib.texts import BROKEN_COMMENTS, COMMENTS, KEYS, LIMIT, MARK, MARKS, KEY_TYPES, V01, key_of
+from lib.texts import envelope_nodes, envelope_text, ppk_text
 from keyconv.reference import ALGORITHMS, TARGETS, VARIABLES
 
 COMMANDS = {"openssh": 20, "ppk2": 14, "ppk3": 20, "ssh-pub": 12, "putty-pub": 10, "fingerprint": 4, "cert": 26, "tbs": 12}
@@ -160,8 +161,20 @@ def longest_blocks():
             yield Case(f"a block of {65_535 * 48 + more} bytes", (command,), text)
 
 
+def comments():
+    """Each comment in each form that carries it, to each target, of each kind of key."""
+    for name, key in KEYS.items():
+        for comment in COMMENTS + BROKEN_COMMENTS:
+            texts = [envelope_text(envelope_nodes(key, comment))]
+            if key.secret:
+                texts += [ppk_text(version, key, comment) for version in (2, 3)]
+            for text in texts:
+                for target in TARGETS:
+                    yield Case(f"the comment {comment[:20]} of {name.decode()}", (target.encode(),), text)
+
+
 def fixed_cases():
-    """Each text that check/inventory lists, by each command in turn, odd words, and the longest blocks."""
+    """Each text that check/inventory lists, by each command in turn, comments, odd words, and the longest blocks."""
     turn = 0
     for case in inventory_cases():
         if case.words == (b"list",) and len(case.source) < 100_000:
@@ -171,4 +184,5 @@ def fixed_cases():
             yield Case(case.name, (command,), case.source, variables, case.device)
     for words in (*WORDS, (b"--help",), (b"--version",), (b"sample", b"7")):
         yield Case("words", words, b"")
+    yield from comments()
     yield from longest_blocks()
