@@ -12,7 +12,8 @@ from lib.texts import all_changes, certificate_nodes, fixed_key, number, render
 
 class Case(NamedTuple):
     name: str
-    stream: bytes
+    # The stream of messages.
+    source: bytes
     # The variable's value, and none where it isn't there.
     signature: Optional[bytes] = None
     words: tuple = ()

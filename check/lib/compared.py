@@ -1,5 +1,5 @@
-"""Compares a built program with a reference of it in Python, over fixed and random cases: what check/inventory, check/policy and
-check/ledger share.
+"""Compares a built program with a reference of it in Python, over fixed and random cases: what check/conversion, check/inventory,
+check/policy, check/ledger and check/agent share.
 
 A case is a NamedTuple with a name, words, a source, and a device: what standard input or output is where it isn't a file, or that
 memory is short. It may have more, which is up to the program's Comparison.
@@ -26,21 +26,6 @@ class Ran(NamedTuple):
     # None where it went to a device.
     out: object
     err: bytes
-
-
-class Comparison(NamedTuple):
-    fixed: Iterable
-    # The random case of a number.
-    random_case: Callable
-    # The program's environment in a case.
-    variables: Callable
-    # What the reference answers in a case: its status, its output and more.
-    wanted: Callable
-    # Whether what ran answered so: of the case, the answer and what ran.
-    agrees: Callable
-    # What the tables count of a case and its answer: pairs of a table and what is counted.
-    counted: Callable
-    tables: tuple
 
 
 class Runner:
@@ -85,7 +70,7 @@ comparison, fixed, runner = None, [], None
 
 def begin(program):
     global runner
-    runner = Runner(program, comparison.variables)
+    runner = comparison.runner(program, comparison.variables)
 
 
 def tried(cases):
@@ -108,30 +93,42 @@ def spans(kind, count, size):
     return [(kind, start, min(start + size, count)) for start in range(0, count, size)]
 
 
-def smallest(case):
-    """The case with as little of its source as still gives the same two statuses."""
+def differing(case):
+    """Tells of variants of a case whether they still differ by the same two statuses, as long as runs are left."""
     left = SHRINKING
+    statuses = comparison.wanted(case).status, runner.run(case).status
 
-    def differs(source):
+    def differs(tried):
         nonlocal left
         left -= 1
-        tried = case._replace(source=source)
+        if left <= 0:
+            return False
         answer, ran = comparison.wanted(tried), runner.run(tried)
-        return left > 0 and (answer.status, ran.status) == statuses and not comparison.agrees(tried, answer, ran)
+        return (answer.status, ran.status) == statuses and not comparison.agrees(tried, answer, ran)
 
-    statuses = comparison.wanted(case).status, runner.run(case).status
+    return differs
+
+
+def shrunk(units, differs):
+    """As few of the units as still differ."""
+    size = max(1, len(units) // 2)
+    while size and len(units) < 20_000:
+        at = 0
+        while at < len(units):
+            fewer = units[:at] + units[at + size:]
+            if differs(fewer):
+                units = fewer
+            else:
+                at += size
+        size //= 2
+    return units
+
+
+def smallest(case):
+    """The case with as little of its source as still gives the same two statuses."""
+    differs = differing(case)
     for pieces in (lambda it: it.splitlines(keepends=True), lambda it: [it[at:at + 1] for at in range(len(it))]):
-        units = pieces(case.source)
-        size = max(1, len(units) // 2)
-        while size and left > 0 and len(units) < 20_000:
-            at = 0
-            while at < len(units):
-                fewer = units[:at] + units[at + size:]
-                if differs(b"".join(fewer)):
-                    units = fewer
-                else:
-                    at += size
-            size //= 2
+        units = shrunk(pieces(case.source), lambda units: differs(case._replace(source=b"".join(units))))
         case = case._replace(source=b"".join(units))
     return case
 
@@ -146,25 +143,43 @@ def show(case):
     print(f"  came   {ran.status} {ran.out and ran.out[:1000]!r} {ran.err[:200]!r}")
 
 
+class Comparison(NamedTuple):
+    fixed: Iterable
+    # The random case of a number.
+    random_case: Callable
+    # The program's environment in a case.
+    variables: Callable
+    # What the reference answers in a case: its status, its output and more.
+    wanted: Callable
+    # Whether what ran answered so: of the case, the answer and what ran.
+    agrees: Callable
+    # What the tables count of a case and its answer: pairs of a table and what is counted.
+    counted: Callable
+    tables: tuple
+    # What runs the program, made of its file and of `variables`, and what prints a case that differs.
+    runner: Callable = Runner
+    show: Callable = show
+
+
 def compare(how, program, count):
     """Compares them on the fixed cases and on so many random ones, prints what came, and ends the script."""
     global comparison
     comparison = how
     fixed.extend(how.fixed)
-    counts, tried_count, differences, differing = Counter(), 0, [], 0
+    counts, tried_count, differences, all_differences = Counter(), 0, [], 0
     tasks = spans("fixed", len(fixed), FIXED_CHUNK) + spans("random", count, RANDOM_CHUNK)
     with Pool(initializer=begin, initargs=(program,)) as pool:
         for more, number, found, all_found in pool.imap_unordered(task, tasks):
             counts += more
             tried_count += number
             differences += found
-            differing += all_found
+            all_differences += all_found
     for table in how.tables:
         print(f"{table}:")
         for (_, what), times in sorted(item for item in counts.items() if item[0][0] == table):
             print(f"{times:10,}  {what}")
     begin(program)
     for case in sorted(differences, key=lambda it: len(it.source))[:SHOWN]:
-        show(case)
-    print(f"{tried_count:,} cases, of which {len(fixed):,} fixed and {count:,} random; {differing:,} differences")
-    sys.exit(differing > 0)
+        how.show(case)
+    print(f"{tried_count:,} cases, of which {len(fixed):,} fixed and {count:,} random; {all_differences:,} differences")
+    sys.exit(all_differences > 0)

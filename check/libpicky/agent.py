@@ -191,7 +191,7 @@ def streams():
                   agent_cases.comments, agent_cases.fields_changed, agent_cases.cut_and_more, agent_cases.types):
         for at, case in enumerate(group()):
             if at % 3 == 0:
-                yield case.name, case.stream, case.signature
+                yield case.name, case.source, case.signature
     for at, (command, stream) in enumerate(sessions()):
         yield f"{command} ({at})", stream, SIGNATURE
     for group in (keyagent_cases.kept, keyagent_cases.signatures, keyagent_cases.locks, keyagent_cases.unfit):
@@ -199,7 +199,7 @@ def streams():
             yield case.name, case.source, case.env.get("KEYCONV_SIGNATURE", "").encode()
     for number in itertools.count():
         case = random_case("c", number)
-        yield case.name, case.stream, case.signature
+        yield case.name, case.source, case.signature
 
 
 def signed_by(value):
@@ -238,7 +238,7 @@ def messages():
     """Messages that add an identity, and that don't, none twice: those of the fixed streams, and of random ones."""
     groups = (agent_cases.fields_changed, agent_cases.names_changed, agent_cases.comments, agent_cases.types, keyagent_cases.kept)
     found = [it for group in groups for case in group() for it in frames(getattr(case, "stream", None) or case.source)[0]]
-    found += [it for number in range(40) for it in frames(random_case("add", number).stream[:LONG_STREAM])[0]]
+    found += [it for number in range(40) for it in frames(random_case("add", number).source[:LONG_STREAM])[0]]
     adds = dict.fromkeys(it for it in found if it[0] == ADD and len(it) < LONG_STREAM)
     return [*itertools.islice(adds, 0, None, 2), *itertools.islice(dict.fromkeys(it for it in found if it[0] != ADD), 0, None, 25)]
 
