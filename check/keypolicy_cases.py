@@ -74,6 +74,7 @@ def keys():
     yield decided("CR LF", b"no-pty " + line(b"k", end=b"\r\n"), line(b"k", end=b"\r\n"), b"grant 1\n" + option(b"no-pty"))
     yield decided("no line's end before the offer's", LINE[:-1] + b"\n", LINE[:-1], b"grant 1\n")
     given = b'no-pty,Command="say \\"hi, you\\"",x="",FROM="10.0.0.0/8,::1" ' + LINE
+    yield decided("an option beyond ASCII", b'a="\xc3\xa9" ' + LINE, LINE, b"grant 1\n" + option(b"a", b"\xc3\xa9"))
     wanted = option(b"no-pty") + option(b"command", b'say "hi, you"') + option(b"x", b"") + option(b"from", b"10.0.0.0/8,::1")
     yield decided("options", given, LINE, b"grant 1\n" + wanted)
     for name, front in (("two commas", b"a,,b"), ("a comma at the end", b"a,"), ("an open quote", b'a="b'), ("no quotes", b"a=b"),
@@ -106,6 +107,8 @@ def certificates():
     for moment, out in ((0, b"deny NotYet\n"), (4, b"deny NotYet\n"), (5, b"grant 1\n"), (9, b"grant 1\n"), (10, b"deny Expired\n"),
                         (FOREVER, b"deny Expired\n")):
         yield judged(f"from 5 on and before 10, at {moment}", PLAIN, out, moment=str(moment))
+    twice = b"cert-authority," + AUTHORITY
+    yield judged("an authority's line that says so twice", PLAIN, b"deny NoAuthority\n", twice)
     yield judged("at no moment", signed(after=5, before=5), b"deny Expired\n")
     yield judged("for ever", signed(after=0, before=FOREVER), b"grant 1\n", moment=str(FOREVER - 1))
     yield judged("a host's", signed(HOST), b"deny NotClient\n")
@@ -132,6 +135,8 @@ def critical():
          b"command bHMgLWw=\nsource Ojox\nverify-required\n"),
     ):
         yield judged(name, signed(critical=options(*pairs)), b"grant 1\n" + out)
+    yield judged("a command of both", signed(critical=options((command, text))), b"grant 1\ncommand bHMgLWw=\n" + option(b"command", b"id"),
+                 b'command="id",' + AUTHORITY)
     for name, pairs in (
         ("a command without a string", [(command, b"")]), ("a command that is cut", [(command, text[:-1])]),
         ("bytes behind a command", [(command, text + b"\0")]), ("a command that isn't UTF-8", [(command, string(b"\xff"))]),
@@ -179,6 +184,8 @@ def usages():
         "no word": (), "an empty word": ("",), "decide alone": ("decide",), "no moment": ("decide", "me"),
         "a word more": ("decide", "me", "5", "6"), "an empty moment": ("decide", "me", ""), "a needless zero": ("decide", "me", "05"),
         "a plus": ("decide", "me", "+5"), "a minus": ("decide", "me", "-5"), "a space": ("decide", "me", "5 "),
+        "a space in front": ("decide", "me", " 5"), "two zeros": ("decide", "me", "00"), "a fraction": ("decide", "me", "5.0"),
+        "an exponent": ("decide", "me", "5e0"), "an Arabic digit": ("decide", "me", "\u0665"), "decide in upper case": ("Decide", "me", "5"),
         "hex": ("decide", "me", "0x5"), "2^64": ("decide", "me", str(2**64)), "words exchanged": ("decide", "5", "me"),
         "message with a word": ("message", "me"), "upper case": ("Message",), "an unknown word": ("allow", "me", "5"),
         "--help behind a word": ("message", "--help"), "--help with a word": ("--help", "message"), "--help twice": ("--help", "--help"),
@@ -243,7 +250,8 @@ def limits():
         yield Case(f"{words[0]}, too many bytes that aren't UTF-8", words, b"\xff" * (LIMIT + 1), b"", TOO_LONG)
         yield Case(f"{words[0]}, 16,777,216 bytes, in as many bytes of memory", words, full, b"", NO_MEMORY, memory=LIMIT)
         for name, text in (("a byte that is no UTF-8", LINE + b"\xff\n"), ("UTF-16", LINE.decode().encode("utf-16")),
-                           ("what is no UTF-8 before what is refused", b"\xc3\n" + MARK + b"x"), ("a surrogate", line(b"\xed\xa0\x80"))):
+                           ("what is no UTF-8 before what is refused", b"\xc3\n" + MARK + b"x"),
+                           ("a form that is too long", b"\xc0\x8a" + LINE), ("a surrogate", line(b"\xed\xa0\x80"))):
             yield Case(f"{words[0]}, {name}", words, text, b"", NOT_UTF8, taken=len(text))
     lines = b"".join(b"x,y=\"%d\" " % number + line(b"k", blob=CA) for number in range(100_000)) + LINE
     yield decided("100,000 lines of another key", lines, LINE, b"grant 100001\n")

@@ -4,8 +4,6 @@
 #[cfg(test)]
 mod added_parts;
 #[cfg(test)]
-mod asked;
-#[cfg(test)]
 mod calls;
 #[cfg(test)]
 mod devices;
@@ -15,8 +13,6 @@ mod frame;
 mod keyring;
 #[cfg(test)]
 mod keys;
-#[cfg(test)]
-mod locks;
 #[cfg(test)]
 mod question;
 #[cfg(test)]

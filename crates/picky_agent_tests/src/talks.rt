@@ -112,7 +112,7 @@ pub fn push_string(bytes: &mut Vec<u8>, content: &[u8]) -> Result<(), Fail> {
 }
 
 /// A message of a type and one string.
-pub fn ask_of(alloc: Global, kind: u8, content: &[u8]) -> Result<Vec<u8>, Fail> {
+fn ask_of(alloc: Global, kind: u8, content: &[u8]) -> Result<Vec<u8>, Fail> {
     let mut message = ManuallyDrop::new(Vec::from_slice(alloc, &[kind])?);
     push_string(&mut *message, content)?;
     Ok(ManuallyDrop::into_inner(message))
@@ -145,13 +145,13 @@ pub fn sign(alloc: Global, public: &[u8], message: &[u8], flags: u32) -> Result<
 }
 
 /// The list of so many identities, to which their entries are still to come.
-pub fn listing(alloc: Global, count: u32) -> Result<Vec<u8>, Fail> {
+fn listing(alloc: Global, count: u32) -> Result<Vec<u8>, Fail> {
     let mut reply = ManuallyDrop::new(Vec::from_slice(alloc, &[12])?);
     reply.extend_from_slice(&count.to_be_bytes())?;
     Ok(ManuallyDrop::into_inner(reply))
 }
 
-pub fn push_entry(reply: &mut Vec<u8>, public: &[u8], comment: &[u8]) -> Result<(), Fail> {
+fn push_entry(reply: &mut Vec<u8>, public: &[u8], comment: &[u8]) -> Result<(), Fail> {
     push_string(reply, public)?;
     push_string(reply, comment)
 }

@@ -1,7 +1,6 @@
 //! Runs that end well: the ledger that is written, and the replies behind it.
 
 use crate::runs::{FRESH, ends};
-use picky_cert_rows::{CA_SK_ED, CA_SK_P256, P521};
 use std::alloc::Global;
 use std::mem::ManuallyDrop;
 use std::test::Fail;
@@ -140,72 +139,5 @@ fn answers_requests_in_order(rt: HostRuntime) -> Result<(), Fail> {
     for talk in &TALKS {
         assert!(rt; is_answered(rt.alloc(), talk)?, "{}", talk.name);
     }
-    Ok(())
-}
-
-/// By this issuer's line the requests at a new ledger are replied so, and none is issued.
-fn replies(alloc: Global, issuer: &str, requests: &str, replies: &str) -> Result<bool, Fail> {
-    let row = ManuallyDrop::new(format!(in alloc; "next 1\n%%\n{issuer}\n%%\n{requests}")?);
-    let out = ManuallyDrop::new(format!(in alloc; "next 1\n%%\n{replies}")?);
-    ends(alloc, FRESH, row.as_str(), "Done", out.as_str())
-}
-
-// Issuers on devices sign by no algorithm, and no certificates for NIST P-521 are made. The order of refusals is docs/FORMATS.md's,
-// "Requests for certificates": the subject, the times, the issuer.
-#[test]
-fn says_why_none_is_issued(rt: HostRuntime) -> Result<(), Fail> {
-    for issuer in [CA_SK_ED, CA_SK_P256] {
-        assert!(rt;
-            replies(
-                rt.alloc(),
-                issuer,
-                "a client - 0 0 ssh-ed25519 B0\nb host - 5 0 ssh-ed25519 B0",
-                "refused a IncorrectSignatureAlgorithm\nrefused b InvalidTime\n"
-            )?,
-            "{issuer}"
-        );
-        assert!(rt; refuses_p521(rt.alloc(), issuer)?, "{issuer}");
-    }
-    assert!(rt; refuses_p521(rt.alloc(), "ssh-ed25519 B0")?);
-    Ok(())
-}
-
-fn refuses_p521(alloc: Global, issuer: &str) -> Result<bool, Fail> {
-    let requests = ManuallyDrop::new(format!(in alloc;
-        "a client - 0 0 {P521}\nb host - 5 0 {P521}\n"
-    )?);
-    replies(
-        alloc,
-        issuer,
-        requests.as_str(),
-        "refused a UnsupportedCertificateKeyType\nrefused b UnsupportedCertificateKeyType\n",
-    )
-}
-
-/// The bytes 0 to 63.
-fn two_nonces(alloc: Global) -> Result<Vec<u8>, Fail> {
-    let mut bytes = ManuallyDrop::new(Vec::new(alloc));
-    for byte in 0..64 {
-        bytes.push(byte)?;
-    }
-    Ok(ManuallyDrop::into_inner(bytes))
-}
-
-fn takes_second_nonce(alloc: Global, requests: &str, first: &str) -> Result<bool, Fail> {
-    let fresh = ManuallyDrop::new(two_nonces(alloc)?);
-    let row = ManuallyDrop::new(format!(in alloc; "next 8\n%%\nssh-ed25519 B0\n%%\n{requests}")?);
-    let out = ManuallyDrop::new(format!(in alloc;
-        "next 9\nr1 <r1> <n> <c8> host\n%%\n{first}issued r1 8\n"
-    )?);
-    ends(alloc, fresh.as_slice(), row.as_str(), "Done", out.as_str())
-}
-
-// Each request has a nonce, whether a certificate is made of it or not; an empty line has none.
-#[test]
-fn gives_each_request_its_nonce(rt: HostRuntime) -> Result<(), Fail> {
-    let bad = "\n?\n\nr1 host - 0 0 ssh-ed25519 B0 host\n";
-    assert!(rt; takes_second_nonce(rt.alloc(), bad, "bad\n")?);
-    let late = "r0 host - 5 0 ssh-ed25519 B0\nr1 host - 0 0 ssh-ed25519 B0 host\n";
-    assert!(rt; takes_second_nonce(rt.alloc(), late, "refused r0 InvalidTime\n")?);
     Ok(())
 }

@@ -18,8 +18,6 @@ mod offer;
 #[cfg(test)]
 mod openssh;
 #[cfg(test)]
-mod printed;
-#[cfg(test)]
 mod row_texts;
 #[cfg(test)]
 mod rules;

@@ -1,8 +1,7 @@
 //! Runs of a policy over streams in memory.
 
-use crate::row_texts::row_text;
-use picky_policy::{HandedVerifier, MemoryVerifier, PolicyStatus, Verifier, run_policy};
-use picky_wire::{MemorySink, MemorySource, Source, Text};
+use picky_policy::{HandedVerifier, PolicyStatus, Verifier, run_policy};
+use picky_wire::{MemorySink, Source, Text};
 use std::alloc::Global;
 use std::mem::ManuallyDrop;
 use std::test::Fail;
@@ -16,13 +15,13 @@ pub const MESSAGE: &[&str] = &["message"];
 
 /// How a run ended, and what it wrote. The sink isn't dropped.
 #[derive(Drop)]
-pub struct Ran {
-    pub status: PolicyStatus,
-    pub out: ManuallyDrop<MemorySink>,
+struct Ran {
+    status: PolicyStatus,
+    out: ManuallyDrop<MemorySink>,
 }
 
 /// The words as texts.
-pub fn texts_of(alloc: Global, words: &[&str]) -> Result<Vec<Text>, Fail> {
+fn texts_of(alloc: Global, words: &[&str]) -> Result<Vec<Text>, Fail> {
     let mut texts = ManuallyDrop::new(Vec::new(alloc));
     for word in words {
         texts.push(Text::new(alloc, word)?)?;
@@ -31,7 +30,7 @@ pub fn texts_of(alloc: Global, words: &[&str]) -> Result<Vec<Text>, Fail> {
 }
 
 /// A run over the source, where the verifier is asked, and `out` has so much room.
-pub fn run_over<V: Verifier, I: Source>(
+fn run_over<V: Verifier, I: Source>(
     alloc: Global,
     words: &[&str],
     verifier: &mut V,
@@ -45,7 +44,7 @@ pub fn run_over<V: Verifier, I: Source>(
 }
 
 /// Whether the run ended so.
-pub fn ended(ran: &Ran, status: PolicyStatus, out: &[u8]) -> bool {
+fn ended(ran: &Ran, status: PolicyStatus, out: &[u8]) -> bool {
     ran.status == status && ran.out.written() == out
 }
 
@@ -64,23 +63,4 @@ pub fn ends<I: Source>(
         status,
         out,
     ))
-}
-
-/// The words over the row's text end so by a verifier that says yes to one call, whether calls of the source give one byte or all.
-pub fn ends_over(
-    alloc: Global,
-    words: &[&str],
-    row: &str,
-    status: PolicyStatus,
-    out: &str,
-) -> Result<bool, Fail> {
-    let text = ManuallyDrop::new(row_text(alloc, row)?);
-    let (text, out) = (text.as_str().as_bytes(), out.as_bytes());
-    let mut slow = ManuallyDrop::new(MemorySource::new(alloc, text, 1, &[])?);
-    let mut fast = ManuallyDrop::new(MemorySource::new(alloc, text, ROOM, &[])?);
-    let mut one = ManuallyDrop::new(MemoryVerifier::new(alloc, true, &[1, 2, 3])?);
-    let mut two = ManuallyDrop::new(MemoryVerifier::new(alloc, true, &[1, 2, 3])?);
-    let slowly = run_over(alloc, words, &mut *one, &mut *slow, ROOM)?;
-    let at_once = run_over(alloc, words, &mut *two, &mut *fast, ROOM)?;
-    Ok(ended(&slowly, status, out) && ended(&at_once, status, out))
 }

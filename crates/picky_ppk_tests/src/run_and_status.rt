@@ -1,8 +1,8 @@
-//! Runs of puttyppk over streams in memory: how they end, and what devices that fail make of them.
+//! Runs of puttyppk over streams in memory, and what devices that fail make of them; check/puttyppk_cases.py has how others end.
 
 use crate::answers::kept;
 use crate::secret_and_for_putty::OTHER_SPELLINGS;
-use picky_key_rows::{SEALED_V3, ZERO_TEXT, secret_text_of};
+use picky_key_rows::{ZERO_TEXT, secret_text_of};
 use picky_ppk::{PpkVersion, PuttyError};
 use picky_puttyppk::{PuttyPpkStatus, run_puttyppk};
 use picky_suite::PlainSuite;
@@ -98,41 +98,5 @@ fn says_that_the_sink_failed(rt: HostRuntime) -> Result<(), Fail> {
             "{room}"
         );
     }
-    Ok(())
-}
-
-// row(s(b"")) for the comment b"x\r", with CR LF for LF
-const V3_ENDS_IN_CR: &str = "PuTTY-User-Key-File-3: ssh-ed25519\r\n\
-    Encryption: none\r\n\
-    Comment: x\r\r\n\
-    Public-Lines: 2\r\n\
-    AAAAC3NzaC1lZDI1NTE5AAAAIAAAAAAAAAAAAAAAAAAAAAAAAAAAAAAAAAAAAAAA\r\n\
-    AAAA\r\n\
-    Private-Lines: 1\r\n\
-    AAAAAA==\r\n\
-    Private-MAC: 41bacf803b449f35e0ddd2cd64bcc9251490a14555211a94e781cfd5a9ae6dbc\r\n";
-
-// What has no text for PuTTY, and why.
-const REFUSED: [(&str, PuttyPpkStatus); 4] = [
-    ("", PuttyPpkStatus::Refused(PuttyError::EndOfInput)),
-    (
-        "hello",
-        PuttyPpkStatus::Refused(PuttyError::InvalidKeyValueFormat),
-    ),
-    (SEALED_V3, PuttyPpkStatus::Refused(PuttyError::Encrypted)),
-    (V3_ENDS_IN_CR, PuttyPpkStatus::CommentNotCarried),
-];
-
-#[test]
-fn writes_nothing_where_it_refuses(rt: HostRuntime) -> Result<(), Fail> {
-    let rows = ManuallyDrop::new(REFUSED);
-    for (input, status) in rows.as_slice() {
-        assert!(rt;
-            ends(rt.alloc(), input.as_bytes(), 9, ROOM, status, b"")?,
-            "{input}"
-        );
-    }
-    let other = ManuallyDrop::new(PuttyPpkStatus::InputNotUtf8);
-    assert!(rt; ends(rt.alloc(), b"\xff", 9, ROOM, &other, b"")?);
     Ok(())
 }
