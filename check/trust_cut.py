@@ -35,7 +35,7 @@ def without_fixed(lines):
     kept, out = [], False
     for line in lines:
         field = FIELD.match(line)
-        out = field[1] in FIXED if field else out and line != "}"
+        out = field[1] in FIXED if field else out
         if not out:
             kept.append(line)
     return kept
