@@ -199,12 +199,16 @@ def inputs():
     for name, text in issuers.items():
         yield refused(f"bad issuer: {name}", source(REQUEST, ONE, text), BAD_ISSUER)
         yield refused(f"bad issuer: {name}, and no fresh bytes", source(REQUEST, ONE, text), BAD_ISSUER, {})
+    # The first word is not compared with the blob.
+    yield answered("an issuer with another type in front", REQUEST, ONE, [b"issued r1 1"], issuer=line(b"ca", b"ssh-rsa"))
     yield answered("lines behind the issuer's", REQUEST, ONE, [b"issued r1 1"], issuer=CA + b"more\nlines\n")
     for name, requests, count in (("a request", REQUEST, 31), ("two", REQUEST + request(b"r2"), 63), ("a bad one", b"x\n", 31),
                                   ("one that is kept", REQUEST, 0), ("two and an empty line", REQUEST + b"\n" + REQUEST, 63)):
         for env in ({"KEYCONV_FRESH": "00" * count}, {"KEYCONV_FRESH": "00" * count, "KEYCONV_SIGNATURE": "00" * 64}):
             yield refused(f"{count} fresh bytes for {name}", source(requests, ONE), SHORT, env)
     yield refused("no fresh bytes", source(REQUEST, ONE), SHORT, {})
+    for count in (33, 9_999):
+        yield answered(f"{count} fresh bytes for a bad one", b"x\n", EMPTY, [b"bad"], env={"KEYCONV_FRESH": "00" * count})
 
 
 def not_hex():
@@ -257,7 +261,8 @@ def limits():
     yield Case("more bytes", (), full + b"x" * 9999, b"", TOO_LONG, given(1), taken=LIMIT + 1)
     yield Case("too many bytes that aren't UTF-8", (), b"\xff" * (LIMIT + 1), b"", TOO_LONG)
     yield Case("16,777,216 bytes, in as many bytes of memory", (), full, b"", NO_MEMORY, given(1), memory=LIMIT)
-    for name, text in (("a byte that is no UTF-8", source(REQUEST) + b"\xff\n"), ("UTF-16", source(REQUEST).decode().encode("utf-16")),
+    for name, text in (("a byte that is no UTF-8", source(REQUEST) + b"\xff\n"), ("a form that is too long", source(REQUEST) + b"\xc0\x8a"),
+                       ("UTF-16", source(REQUEST).decode().encode("utf-16")),
                        ("what is no UTF-8 before what is refused", b"\xc3\n" + MARK + b"x"),
                        ("a surrogate", source(request(b"\xed\xa0\x80")))):
         yield refused(name, text, NOT_UTF8)

@@ -112,7 +112,8 @@ def certificates():
     yield judged("at no moment", signed(after=5, before=5), b"deny Expired\n")
     yield judged("for ever", signed(after=0, before=FOREVER), b"grant 1\n", moment=str(FOREVER - 1))
     yield judged("a host's", signed(HOST), b"deny NotClient\n")
-    for user, out in (("me", b"grant 1\n"), ("you", b"deny Principal\n"), ("", b"deny Principal\n"), ("Me", b"deny Principal\n")):
+    for user, out in (("me", b"grant 1\n"), ("you", b"deny Principal\n"), ("", b"deny Principal\n"), ("Me", b"deny Principal\n"),
+                      ("*", b"deny Principal\n"), ("m,e", b"deny Principal\n")):
         yield judged(f"the user {user!r}", PLAIN, out, user=user)
     yield judged("no principals", signed(principals=()), b"grant 1\n", user="anyone")
     for value, out in ((b"me", b"grant 1\n"), (b"you,me", b"grant 1\n"), (b",,me", b"grant 1\n"), (b"", b"deny Principal\n"),
