@@ -3,11 +3,11 @@ whose key texts, certificates' options and variables are now and then damaged.""
 import random
 from typing import NamedTuple, Optional
 
-from lib.formats import armoured, envelope, rsa_blob, rsa_private
+from lib.formats import ED25519, armoured, envelope, rsa_blob, rsa_private
 from keyinventory.sources import fixed_cases as inventory_cases
 from lib.random_texts import CERT_NAMES, damaged_text, some, some_text
 from lib.texts import BROKEN_COMMENTS, COMMENTS, KEYS, LIMIT, MARK, MARKS, KEY_TYPES, V01, key_of
-from lib.texts import envelope_nodes, envelope_text, ppk_text
+from lib.texts import Key, envelope_nodes, envelope_text, line_text, number, ppk_text
 from keyconv.reference import ALGORITHMS, TARGETS, VARIABLES
 
 COMMANDS = {"openssh": 20, "ppk2": 14, "ppk3": 20, "ssh-pub": 12, "putty-pub": 10, "fingerprint": 4, "cert": 26, "tbs": 12}
@@ -173,8 +173,28 @@ def comments():
                     yield Case(f"the comment {comment[:20]} of {name.decode()}", (target.encode(),), text)
 
 
+def secrets():
+    """Ed25519 secrets that begin with zeros or with a high bit, in each form, to each other."""
+    for secret in (bytes(32), b"\0" + b"\1" * 31, b"\0" + b"\x80" * 31, bytes(31) + b"\1", b"\x80" + bytes(31), b"\xff" * 32):
+        public = [[ED25519], [bytes(32)]]
+        for spelled in ([number(secret)], [[secret]], [[b"\0" + secret]], [[bytes(9) + secret]]):
+            key = Key(ED25519, public, [*public, [secret, bytes(32)]], spelled)
+            for text in (envelope_text(envelope_nodes(key, b"k")), ppk_text(2, key, b"k"), ppk_text(3, key, b"k")):
+                for target in TARGETS[:3]:
+                    yield Case(f"the secret {secret.hex()}", (target.encode(),), text)
+
+
+def marks():
+    """A line %% of each spelling between the issuer's text and the key's, in front and at the end."""
+    key = line_text(ED25519, KEYS[ED25519].public, b"k")
+    words = (b"tbs", b"--type", ED25519 + V01, b"--kind", b"host", b"--after", b"0", b"--before", b"0")
+    for mark in (*MARKS, b"%%", b"%%\r", b""):
+        for source in (key + mark + key, mark + key, key + mark, key[:-1] + mark + key, mark, mark + key + mark + key):
+            yield Case(f"the mark {mark}", words, source, {"KEYCONV_FRESH": b"00" * 32})
+
+
 def fixed_cases():
-    """Each text that check/inventory lists, by each command in turn, comments, odd words, and the longest blocks."""
+    """Each text that check/inventory lists, by each command in turn, comments, secrets, marks, odd words, and the longest blocks."""
     turn = 0
     for case in inventory_cases():
         if case.words == (b"list",) and len(case.source) < 100_000:
@@ -185,4 +205,6 @@ def fixed_cases():
     for words in (*WORDS, (b"--help",), (b"--version",), (b"sample", b"7")):
         yield Case("words", words, b"")
     yield from comments()
+    yield from secrets()
+    yield from marks()
     yield from longest_blocks()
