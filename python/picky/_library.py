@@ -57,7 +57,7 @@ _NONE = _Bytes(b"", 0)
 
 
 def _load() -> ctypes.CDLL:
-    """The library beside the package, else in the folder around it, which is PREFIX/lib; else $PICKY_LIBRARY."""
+    """The library beside the package, else in the folder around it, which is PREFIX/lib; else $PICKY_LIBRARY; else the system's."""
     here = Path(__file__).resolve().parent
     places = [here / NAME, here.parent / NAME, here.parent.parent / NAME]
     named = os.environ.get("PICKY_LIBRARY")
@@ -69,7 +69,12 @@ def _load() -> ctypes.CDLL:
                 return ctypes.CDLL(str(place))
             except OSError as fault:
                 raise LibraryMissing(f"{place} isn't loaded: {fault}") from None
-    raise LibraryMissing(f"{NAME} is none of {', '.join(map(str, places))}")
+    try:
+        return ctypes.CDLL(NAME)
+    except OSError:
+        raise LibraryMissing(
+            f"{NAME} is none of {', '.join(map(str, places))}, and not the system's"
+        ) from None
 
 
 _library = _load()
