@@ -146,7 +146,7 @@ def foreign_key(text: bytes, passphrase: Optional[Passphrase]) -> PrivateKey:
     except (ValueError, UnsupportedAlgorithm) as error:
         if password is not None:
             raise WrongPassphrase() from None
-        raise Refusal(f"it isn't read: {error}") from None
+        raise Refusal(f"it isn't read: {_cause(error)}") from None
 
 
 def public_key(given: Source) -> PublicKey:
@@ -166,7 +166,7 @@ def _foreign_public(text: bytes) -> PublicKey:
         key = serialization.load_pem_public_key(text)
         line = key.public_bytes(serialization.Encoding.OpenSSH, serialization.PublicFormat.OpenSSH)
     except (ValueError, UnsupportedAlgorithm) as error:
-        raise Refusal(f"it isn't read: {error}") from None
+        raise Refusal(f"it isn't read: {_cause(error)}") from None
     return PublicKey.read(line)
 
 
@@ -185,5 +185,10 @@ def foreign_text(
         written: Any = key.key()
         text: bytes = written.private_bytes(serialization.Encoding.PEM, layout, encryption)
     except (ValueError, UnsupportedAlgorithm) as error:
-        raise Refusal(f"it isn't written: {error}") from None
+        raise Refusal(f"it isn't written: {_cause(error)}") from None
     return bytearray(text)
+
+
+def _cause(error: Exception) -> str:
+    """What an error of cryptography says, without OpenSSL's own errors, which may stand behind it."""
+    return str(error.args[0] if error.args else error)
