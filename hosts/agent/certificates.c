@@ -21,9 +21,9 @@ static const char *const layouts[][2] = {
 
 /* How many bytes of a message that adds an identity there are up to the comment's end; 0 where it adds none. */
 size_t identity_len(picky_bytes message) {
-    fields type = fields_of(message), left = type;
-    take(&type, 1);
+    fields left = fields_of(message);
     take(&left, 1);
+    fields type = left;
     picky_bytes name = take_string(&type);
     for (size_t i = 0; i < sizeof layouts / sizeof layouts[0]; i++) {
         if (!same(name, text(layouts[i][0])))
@@ -73,10 +73,9 @@ bool key_of_certificate(picky_bytes message, buffer *plain, buffer *subject) {
     fields inside = fields_of(blob);
     if (!same(take_string(&inside), type) || !read_subject(type, blob, subject))
         return false;
-    unsigned char add = ADD;
     fields key = fields_of(held(subject));
     picky_bytes name = take_string(&key), first = take_string(&key), second = take_string(&key);
-    bool good = put(plain, &add, 1) && put_string(plain, name);
+    bool good = put(plain, (const unsigned char[]){ADD}, 1) && put_string(plain, name);
     if (same(name, text("ssh-rsa")))
         good = good && put_string(plain, second) && put_string(plain, first);
     else if (!same(name, text("ssh-ed25519")))

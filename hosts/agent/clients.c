@@ -41,7 +41,6 @@ static void close_client(server *s, client *it) {
     drop(&it->in);
     drop(&it->out);
     *it = s->clients[--s->count];
-    s->clients[s->count] = (client){0};
 }
 
 /* ---- a client's message and reply */
@@ -220,12 +219,12 @@ static bool turn(server *s) {
     return (s->polled[SIGNALS].revents | s->polled[PARENT].revents) == 0;
 }
 
-/* Serves until it is ended. False where it couldn't begin. */
-bool serve(agent *it, int listener, int helper, int parent) {
+/* Serves until it is ended, and tells at `begun` that it begins, where somebody waits for that. False where it can't. */
+bool serve(agent *it, int listener, int helper, int parent, int begun) {
     sigset_t ends;
     size_t files;
     server *s = calloc(1, sizeof *s);
-    if (s == NULL || !keep_to_itself(&files) || sigemptyset(&ends) != 0 || sigaddset(&ends, SIGTERM) != 0 ||
+    if (s == NULL || !keep_to_itself(2 * RESERVED, &files) || sigemptyset(&ends) != 0 || sigaddset(&ends, SIGTERM) != 0 ||
         sigaddset(&ends, SIGINT) != 0 || sigaddset(&ends, SIGHUP) != 0 || sigprocmask(SIG_BLOCK, &ends, NULL) != 0)
         return false;
     const int others[OTHERS] = {signalfd(-1, &ends, SFD_CLOEXEC | SFD_NONBLOCK), helper, parent, listener};
@@ -233,8 +232,8 @@ bool serve(agent *it, int listener, int helper, int parent) {
         s->polled[i] = (struct pollfd){others[i], POLLIN, 0};
     s->agent = it;
     s->now = clock_now();
-    s->most = files > MOST_CLIENTS + RESERVED ? MOST_CLIENTS : files > 2 * RESERVED ? files - RESERVED : RESERVED;
-    if (others[SIGNALS] < 0 || !filter_calls())
+    s->most = files - RESERVED < MOST_CLIENTS ? files - RESERVED : MOST_CLIENTS;
+    if (others[SIGNALS] < 0 || !filter_calls() || (begun >= 0 && send(begun, &(const int){0}, sizeof(int), MSG_NOSIGNAL) < 0))
         return false;
     while (turn(s))
         continue;

@@ -35,14 +35,15 @@ void lock_heap(uintptr_t *until) {
 }
 
 /* No core file, no reading by others, and a heap that doesn't shrink, so that it stays locked; and the files that clients need. */
-bool keep_to_itself(size_t *files) {
+bool keep_to_itself(size_t fewest, size_t *files) {
     struct rlimit limit;
     if (setrlimit(RLIMIT_CORE, &(struct rlimit){0, 0}) != 0 || getrlimit(RLIMIT_NOFILE, &limit) != 0)
         return false;
     *files = limit.rlim_cur = limit.rlim_max;
     wipe_stack(true);
     (void)mallopt(M_TRIM_THRESHOLD, INT_MAX);
-    return setrlimit(RLIMIT_NOFILE, &limit) == 0 && (FOR_TESTS || prctl(PR_SET_DUMPABLE, 0, 0, 0, 0) == 0);
+    errno = EMFILE;
+    return *files >= fewest && setrlimit(RLIMIT_NOFILE, &limit) == 0 && (FOR_TESTS || prctl(PR_SET_DUMPABLE, 0, 0, 0, 0) == 0);
 }
 
 /* ---- the filter, in the kernel's own words: a list of calls by number, and the process ends at any other */

@@ -33,9 +33,8 @@ static bool says_yes(int agent, const char *prompt) {
     close(ends[0]);
     if (child > 0 && len < 0)
         kill(child, SIGTERM);
-    while (child > 0 && waitpid(child, &status, 0) < 0 && errno == EINTR)
-        continue;
-    if (len < 0 || !WIFEXITED(status) || WEXITSTATUS(status) != 0)
+    bool ended = child > 0 && waitpid(child, &status, 0) == child;
+    if (len < 0 || !ended || !WIFEXITED(status) || WEXITSTATUS(status) != 0)
         return false;
     told[len] = 0;
     told[strcspn(told, "\r\n")] = 0;
@@ -45,6 +44,7 @@ static bool says_yes(int agent, const char *prompt) {
 static void help(int agent, const place *where) {
     char prompt[LONGEST_PROMPT + 1];
     ssize_t len;
+    signal(SIGCHLD, SIG_DFL);
     while ((len = recv(agent, prompt, LONGEST_PROMPT, 0)) > 0) {
         prompt[len] = 0;
         unsigned char yes = says_yes(agent, prompt);

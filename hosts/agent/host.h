@@ -116,10 +116,10 @@ int accept_client(int listener);
 int start_helper(const place *where, int listener);
 
 /* ---- clients.c: one loop */
-bool serve(agent *it, int listener, int helper, int parent);
+bool serve(agent *it, int listener, int helper, int parent, int begun);
 
 /* ---- confining.c */
-bool keep_to_itself(size_t *files);
+bool keep_to_itself(size_t fewest, size_t *files);
 void wipe_stack(bool locks);
 void lock_heap(uintptr_t *until);
 bool filter_calls(void);

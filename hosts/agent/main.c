@@ -48,7 +48,7 @@ static int64_t read_life(const char *it) {
         char *end;
         long number = isdigit((unsigned char)*it) ? strtol(it, &end, 10) : -1;
         const char *unit = number < 0 || number > INT_MAX ? NULL : strchr(units, tolower((unsigned char)*end));
-        if (unit == NULL)
+        if (unit == NULL || sum > INT_MAX)
             return 0;
         sum += number * seconds[unit - units];
         it = end + (*end != 0);
@@ -100,9 +100,12 @@ static bool leave(void) {
     return left;
 }
 
-/* The agent is the child; its parent prints where that is, or becomes the command. */
-static int part(const options *it, const char *path, pid_t child) {
+/* The agent is the child; its parent waits for its word, and then prints where that is, or becomes the command. */
+static int part(const options *it, const char *path, pid_t child, int told) {
     char pid[32];
+    errno = ECHILD;
+    if (recv(told, &errno, sizeof errno, 0) < 0 || errno != 0)
+        return fail("start");
     if (*it->command == NULL)
         return print_variables(it, path, child);
     snprintf(pid, sizeof pid, "%ld", (long)child);
@@ -114,29 +117,35 @@ static int part(const options *it, const char *path, pid_t child) {
 /* Begins where the socket is, and serves; with a command as long as that runs. */
 static int run(agent *it, const options *told) {
     place where = {"", ""};
-    int listener = inherited_socket(), command = -1, helper;
-    bool is_inherited = listener >= 0, stays = told->stays || is_inherited;
+    int listener = inherited_socket(), command = -1, helper, ends[] = {-1, -1};
+    bool is_inherited = listener >= 0, stays = told->stays || is_inherited, runs = !stays && *told->command != NULL;
     if (listener == -1)
         listener = open_socket(told->socket, &where);
     if (listener < 0)
         return fail(told->socket != NULL ? told->socket : "a socket");
     const char *path = told->socket != NULL ? told->socket : where.socket;
-    pid_t first = getpid(), child = stays ? 0 : fork();
-    if (child > 0)
-        return part(told, path, child);
-    if (!stays && *told->command != NULL)
-        command = (int)syscall(SYS_pidfd_open, first, 0);
-    if (child < 0 || (!stays && *told->command != NULL && (command < 0 || getppid() != first)) || (!stays && !leave()) ||
-        (stays && !is_inherited && print_variables(told, path, first) != 0) || (helper = start_helper(&where, listener)) < 0) {
-        leave_place(&where);
-        return fail("start");
-    }
-    return serve(it, listener, helper, command) ? 0 : fail("start");
+    pid_t first = getpid(), child = stays ? 0 : socketpair(AF_UNIX, SOCK_SEQPACKET | SOCK_CLOEXEC, 0, ends) == 0 ? fork() : -1;
+    if (child > 0 && close(ends[1]) == 0)
+        return part(told, path, child, ends[0]);
+    if (child == 0 && (!runs || ((command = (int)syscall(SYS_pidfd_open, first, 0)) >= 0 && getppid() == first)) && (stays || leave()) &&
+        (!stays || is_inherited || print_variables(told, path, first) == 0) && (helper = start_helper(&where, listener)) >= 0 &&
+        serve(it, listener, helper, command, ends[1]))
+        return 0;
+    leave_place(&where);
+    if (child == 0 && !stays)
+        return send(ends[1], &errno, sizeof errno, MSG_NOSIGNAL) > 0;
+    return fail("start");
 }
 
 int main(int count, char **words) {
     options told = {0};
     uintptr_t heap = (uintptr_t)sbrk(0);
+    /* Where one of the three streams is closed, a socket would take its number. */
+    int fd = -1;
+    while (fd <= STDERR_FILENO)
+        if ((fd = open("/dev/null", O_RDWR)) < 0)
+            return fail("/dev/null");
+    close(fd);
     if (count == 2 && strcmp(words[1], "--help") == 0)
         return printed(printf("%s", usage));
     if (count == 2 && strcmp(words[1], "--version") == 0)

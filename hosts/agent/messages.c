@@ -14,8 +14,7 @@ bool start_agent(agent *it, int64_t life) {
 /* ---- the list: that of the library, and behind it the certificates in their order */
 
 static bool list_of(picky_bytes state, buffer *out) {
-    static const unsigned char message[] = {LIST};
-    return ask(REPLY, state, bytes(message, 1), out) && out->len >= 5;
+    return ask(REPLY, state, bytes((const unsigned char[]){LIST}, 1), out) && out->len >= 5;
 }
 
 static size_t row_len(const identity *it) {
@@ -164,11 +163,8 @@ static bool add(agent *it, unsigned char *message, size_t len, int64_t now, buff
     ring *in = blob.len > 0 ? &it->certificates : &it->keys;
     bool good = (blob.len > 0 ? read_certificate(it, whole, blob, &new) : read_identity(it, whole, &new)) && make_list(it);
     const identity *old = find(in, held(&new.blob));
-    good = good && it->listed.len + row_len(&new) - (old == NULL ? 0 : row_len(old)) <= LONGEST;
-    if (blob.len > 0)
-        good = good && (old != NULL || in->count < MOST) && put(out, (const unsigned char[]){SUCCESS}, 1);
-    else
-        good = good && add_key(it, out);
+    good = good && (old != NULL || in->count < MOST) && it->listed.len + row_len(&new) - (old == NULL ? 0 : row_len(old)) <= LONGEST &&
+           (blob.len > 0 ? put(out, (const unsigned char[]){SUCCESS}, 1) : add_key(it, out));
     if (good && out->at[0] == SUCCESS)
         put_identity(in, &new);
     drop_identity(&new);

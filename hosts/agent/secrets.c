@@ -155,5 +155,4 @@ void remove_at(ring *in, size_t place) {
     drop_identity(&in->at[place]);
     in->count--;
     memmove(&in->at[place], &in->at[place + 1], (in->count - place) * sizeof in->at[0]);
-    in->at[in->count] = (identity){0};
 }

@@ -52,7 +52,6 @@ static bool spell_numbers(buffer *signature) {
 /* The signature of a message as a question wants it; false, and no bytes, where there is none. */
 bool sign_by(EVP_PKEY *key, picky_bytes algorithm, picky_bytes message, buffer *signature) {
     bool made = false;
-    signature->len = 0;
     for (size_t i = 0; i < ALGORITHMS; i++)
         if (key != NULL && same(algorithm, text(algorithms[i].name)) && EVP_PKEY_is_a(key, algorithms[i].kind))
             made = sign(key, algorithms[i].digest, message, signature) && (algorithms[i].curve == NULL || spell_numbers(signature));
@@ -70,8 +69,7 @@ bool sign_once_by_each(void) {
     for (size_t i = 0; i < ALGORITHMS && all; i++) {
         const char *kind = algorithms[i].kind, *curve = algorithms[i].curve;
         EVP_PKEY *key = curve == NULL ? EVP_PKEY_Q_keygen(NULL, NULL, kind, (size_t)1024) : EVP_PKEY_Q_keygen(NULL, NULL, kind, curve);
-        bool signs = sign_by(key, text(algorithms[i].name), text("once"), &signature);
-        all = signs || strcmp(algorithms[i].name, "rsa-sha1") == 0;
+        all = sign_by(key, text(algorithms[i].name), text("once"), &signature) || strcmp(algorithms[i].name, "rsa-sha1") == 0;
         EVP_PKEY_free(key);
     }
     drop(&signature);

@@ -15,7 +15,7 @@ static bool find_place(const char *path, place *where) {
         return false;
     if (path != NULL)
         return (size_t)snprintf(where->socket, PATH_MAX, "%s%s%s", here, *here == 0 ? "" : "/", path) < PATH_MAX;
-    bool fits = (size_t)snprintf(where->folder, PATH_MAX, "%s/picky-XXXXXXXXXX", base == NULL || *base != '/' ? "/tmp" : base) < PATH_MAX;
+    bool fits = (size_t)snprintf(where->folder, PATH_MAX, "%s/picky-XXXXXX", base == NULL || *base != '/' ? "/tmp" : base) < PATH_MAX;
     if (!fits || mkdtemp(where->folder) == NULL)
         where->folder[0] = 0;
     return where->folder[0] != 0 && (size_t)snprintf(where->socket, PATH_MAX, "%s/agent.%ld", where->folder, (long)getpid()) < PATH_MAX;
@@ -36,22 +36,22 @@ int open_socket(const char *path, place *where) {
     }
     if (bound && listen(fd, BACKLOG) == 0)
         return fd;
-    int why = errno;
     if (fd >= 0)
         close(fd);
     if (!bound)
         where->socket[0] = 0;
     leave_place(where);
-    errno = why;
     return -1;
 }
 
-/* Takes away the socket and the folder, where there are such. */
+/* Takes away the socket and the folder, where there are such. errno stays. */
 void leave_place(const place *where) {
+    int why = errno;
     if (where->socket[0] != 0)
         unlink(where->socket);
     if (where->folder[0] != 0)
         rmdir(where->folder);
+    errno = why;
 }
 
 /* The listening socket that systemd hands on (sd_listen_fds(3)): -1 where it hands on nothing, -2 where that isn't one. */

@@ -4,14 +4,34 @@ from __future__ import annotations
 import re
 import signal
 import subprocess
+import sys
 import time
+from itertools import count
 from pathlib import Path
 from typing import Iterator, List, Tuple
 
 import pytest
-from running import PICKY, Terminal, picky, ssh_key, tool, variables, words_of, written
+from running import PICKY, SECONDS, Terminal, picky, ssh_key, tool, variables, words_of, written
 
 SECRET = "a secret"
+# picky ledger, killed before it makes one of its calls of the system, by the number that comes first.
+KILLED = """
+import os, signal, sys
+from picky.command import files, ledger, parser
+
+left = int(sys.argv.pop(1))
+
+def before(frame, event, called):
+    global left
+    if event == "c_call" and frame.f_code.co_filename in (files.__file__, ledger.__file__):
+        if called.__module__ in ("posix", "fcntl"):
+            if left == 0:
+                os.kill(os.getpid(), signal.SIGKILL)
+            left -= 1
+
+sys.setprofile(before)
+sys.exit(parser.main(["ledger", *sys.argv[1:]]))
+"""
 
 
 @pytest.fixture
@@ -19,7 +39,9 @@ def agent(tmp_path: Path, monkeypatch: pytest.MonkeyPatch) -> Iterator[Path]:
     """An ssh-agent without keys, at SSH_AUTH_SOCK."""
     path = tmp_path / "agent"
     process = subprocess.Popen(["ssh-agent", "-D", "-a", path], stdout=subprocess.DEVNULL)
+    end = time.monotonic() + SECONDS
     while not path.exists():
+        assert process.poll() is None and time.monotonic() < end
         time.sleep(0.01)
     monkeypatch.setenv("SSH_AUTH_SOCK", str(path))
     yield path
@@ -200,20 +222,27 @@ def test_gives_no_serial_twice_to_runs_side_by_side(tmp_path: Path) -> None:
     assert ledger.read_text().startswith("next 7\n")
 
 
-def test_leaves_the_old_ledger_where_a_run_is_killed(tmp_path: Path) -> None:
-    issuer, key, ledger = ssh_key(tmp_path / "ca"), ssh_key(tmp_path / "key"), tmp_path / "ledger"
-    picky("ledger", "--new", ledger)
-    requests = written(tmp_path / "requests", "".join(request(key, f"r{it}") for it in range(50)))
-    words = words_of([*PICKY, "ledger", "--issuer", issuer, ledger, requests])
-    for wait in (0.2, 0.3, 0.4, 0.5):
-        run = subprocess.Popen(words, env=variables(), stdout=subprocess.PIPE)
-        time.sleep(wait)
-        run.send_signal(signal.SIGKILL)
-        run.communicate()
-        lines = ledger.read_bytes().count(b"\n")
-        assert lines in (1, 51), wait
-    run = subprocess.Popen(words, env=variables(), stdout=subprocess.PIPE)
-    assert run.communicate()[0].count(b"\n") == 50 and ledger.read_bytes().count(b"\n") == 51
+def test_a_killed_run_leaves_the_old_ledger_or_the_new(tmp_path: Path) -> None:
+    issuer, key = ssh_key(tmp_path / "ca"), ssh_key(tmp_path / "key")
+    requests = written(tmp_path / "requests", request(key, "r1") + request(key, "r2"))
+    ledgers: List[bytes] = []
+    for left in count():
+        ledger = tmp_path / f"{left}" / "ledger"
+        ledger.parent.mkdir()
+        ledger.write_bytes(b"next 1\n")
+        words = words_of([sys.executable, "-c", KILLED, left, "--issuer", issuer, ledger, requests])
+        run = subprocess.run(words, env=variables(), capture_output=True, timeout=SECONDS)
+        ledgers.append(ledger.read_bytes())
+        if run.returncode == 0:
+            break
+        assert (run.returncode, run.stdout) == (-signal.SIGKILL, b""), (left, run.stderr)
+        again = picky("ledger", "--issuer", issuer, ledger, requests)
+        word = b"issued" if ledgers[-1] == b"next 1\n" else b"again"
+        assert again.stdout == word + b" r1 1\n" + word + b" r2 2\n", left
+    old = ledgers.count(b"next 1\n")
+    assert ledgers[:old] == [b"next 1\n"] * old and 0 < old < len(ledgers) - 1
+    for new in ledgers[old:]:
+        assert new.startswith(b"next 3\n") and new.count(b"\n") == 3
 
 
 def test_authorizes_by_the_line_that_grants(tmp_path: Path) -> None:
