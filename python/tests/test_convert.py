@@ -1,13 +1,17 @@
 """picky convert, held against ssh-keygen and puttygen."""
 from __future__ import annotations
 
+import base64
 import os
 import stat
 from pathlib import Path
-from typing import List, Tuple
+from typing import Any, List, Tuple
 
 import pytest
+from cryptography.hazmat.primitives import serialization
+from cryptography.hazmat.primitives.asymmetric.ec import SECP256R1, derive_private_key
 from running import by_shell, opened, opened_by_puttygen, picky, ssh_key, tool, written
+from tools import armoured
 
 SECRET = "a secret"
 KINDS: List[Tuple[str, List[str]]] = [
@@ -293,3 +297,16 @@ def test_says_of_pem_that_is_refused_one_sentence(tmp_path: Path) -> None:
     said = run.stderr.decode()
     assert (run.returncode, run.stdout, said.count("\n")) == (1, b"", 1)
     assert "key.pem: it isn't read: " in said and "Error" not in said and "('" not in said
+
+
+def test_says_that_openssl_does_not_write_a_secret_beyond_its_curve(tmp_path: Path) -> None:
+    secret = b"\x80" + bytes(30) + b"\x05"
+    key: Any = derive_private_key(int.from_bytes(secret, "big"), SECP256R1())
+    module: Any = serialization
+    form = module.PrivateFormat.OpenSSH
+    text = key.private_bytes(module.Encoding.PEM, form, module.NoEncryption())
+    content = base64.b64decode(b"".join(text.split(b"\n")[1:-2]))
+    longer = armoured(content.replace(b"\0" + secret, b"\6" + secret))
+    run = picky("convert", "--to", "pkcs8", written(tmp_path / "key", longer))
+    said = f"picky: {tmp_path}/key: OpenSSL doesn't write it\n"
+    assert (run.returncode, run.stdout, run.stderr.decode()) == (1, b"", said)

@@ -7,6 +7,7 @@ from typing import Any, Callable, List, Tuple, Type
 
 import picky
 import pytest
+from cryptography.exceptions import UnsupportedAlgorithm
 from hypothesis import given
 from hypothesis import strategies as st
 from picky import (
@@ -29,6 +30,7 @@ from picky import (
     answers,
     errors,
 )
+from picky.command.sources import InternalError
 from tools import Made, loaded, numbers
 
 HEADER = Path(__file__).resolve().parents[2] / "include/picky/errors.h"
@@ -189,10 +191,11 @@ def test_a_changed_text_is_refused_or_read_as_cryptography_does(
     except (BadKey, NotUtf8, Unsupported, NoPrivateKey):
         return
     try:
-        theirs = loaded(text)
-    except ValueError:
+        theirs = numbers(loaded(text))
+    except (ValueError, UnsupportedAlgorithm, InternalError):
+        # It refuses a cipher's name other than "none", too, and OpenSSL writes no secret that is longer than its curve's order.
         return
-    assert numbers(key) == numbers(theirs)
+    assert numbers(key) == theirs
 
 
 @given(
